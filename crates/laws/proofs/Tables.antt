@@ -1,0 +1,18 @@
+-- A rule of a constant table: one test that antt computes over the whole table, and what it says of each entry.
+-- Assumes nothing.
+use mathlib.Core.Bool.{Bool, true, _&&_}
+use mathlib.Core.List.{List, [], _∷_}
+use Prim.Native.Nat.{ℕ, zero, suc}
+use lib.Dec.{T}
+use lib.Ieee.Fits.{and-l, and-r}
+use lib.ListN.{getD}
+
+abbrev pub passes : {A : Type 0} → (A → Bool) → List A → Bool
+passes p [] = true
+passes p (x ∷ xs) = p x && passes p xs
+
+-- d is what stands past the end
+pub entry : {A : Type 0} (p : A → Bool) (xs : List A) (d : A) (k : ℕ) → T (p d) → T (passes p xs) → T (p (getD xs k d))
+entry p [] d k h t = h
+entry p (x ∷ xs) d zero h t = and-l (p x) (passes p xs) t
+entry p (x ∷ xs) d (suc k) h t = entry p xs d k h (and-r (p x) (passes p xs) t)

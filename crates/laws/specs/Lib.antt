@@ -1,0 +1,4 @@
+pub mod Steps
+pub mod Span
+pub mod Bytes
+pub mod Little
