@@ -1,12 +1,12 @@
 -- Laws of `overwrite` and `part`.
 -- Assumes nothing.
-use mathlib.Core.Path.{_≡_, refl, sym, ap, ap₂, _∙_, subst}
-use mathlib.Core.List.{List, [], _∷_, _++_, append-assoc, append-nil}
-use Prim.Native.Nat.{ℕ, zero, suc, _+_, _-_, _≤_, _<_, zero-le, suc-le-suc}
+use mathlib.Core.Path.{_≡_, refl, sym, ap, ap₂, _∙_}
+use mathlib.Core.List.{List, [], _∷_, _++_}
+use Prim.Native.Nat.{ℕ, zero, suc, _+_, _-_, _≤_, _<_}
 use native.Mathlib.Nat.{add-assoc, le-of-suc-le-suc, not-suc-le-zero, le-refl, add-suc, suc-add, zero-add, add-zero, add-sub-of-le}
 use native.Mathlib.Omega.{arith}
 use native.Mathlib.Numerals.{add-one}
-use lib.ListN.{length, getD, set, take, drop, replicate, length-append, length-take, length-drop, length-replicate, replicate-append-replicate}
+use lib.ListN.{length, getD, set, take, drop, replicate, length-take, length-drop, length-replicate, replicate-append-replicate}
 use lib.Seq.{take-suc, drop-cons, getD-drop, take-length, take-add, drop-drop, drop-append-le, take-append-le}
 use Rattle.laws.specs.Bytes.{overwrite, part}
 

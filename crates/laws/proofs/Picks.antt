@@ -5,10 +5,24 @@ use mathlib.Core.Bool.{Bool, true, false, cond, _&&_, _||_, false≢true}
 use borrow.Author.Needs.{needs}
 use borrow.Author.Tests.{lt-ltb, le-ltb, le-leb, lt-leb, eq-eqb, ne-eqb}
 
+-- both ways of a choice
+pub by {ℓ κ} : {A : Type ℓ} (P : A → Type κ) (b : Bool) {x y : A} → (b ≡ true → P x) → (b ≡ false → P y) → P (cond b x y)
+by P true f g = f refl
+by P false f g = g refl
+
+-- both ways of two choices by one test
+pub by₂ {ℓ ℓ′ κ} : {A : Type ℓ} {B : Type ℓ′} (P : A → B → Type κ) (b : Bool) {x y : A} {x′ y′ : B} → (b ≡ true → P x x′) → (b ≡ false → P y y′) → P (cond b x y) (cond b x′ y′)
+by₂ P true f g = f refl
+by₂ P false f g = g refl
+
+-- by cases of a test
+pub test {κ} : {C : Type κ} (b : Bool) → (b ≡ true → C) → (b ≡ false → C) → C
+test true f g = f refl
+test false f g = g refl
+
 -- what holds of both holds of what is picked
 pub either : {A : Type 0} (P : A → Type 0) (b : Bool) (x y : A) → P x → P y → P (cond b x y)
-either P true x y p q = p
-either P false x y p q = q
+either P b x y p q = by P b (λ e. p) (λ e. q)
 
 pub cond-yes : {A : Type 0} (b : Bool) (x y z : A) → b ≡ true → z ≡ x → z ≡ cond b x y
 cond-yes b x y z t e = rw t e
