@@ -1,0 +1,57 @@
+-- Facts of the gear's numbers by `within` of `proofs/Intervals.antt`: each is its expression, and `tt`. Assumes nothing.
+use mathlib.Core.List.{List, [], _∷_}
+use mathlib.Core.Bool.{false}
+use lib.Dec.{T}
+use lib.IntN.{pos, negsuc}
+use lib.Ieee.{Float, fin, binary32, binary64, le, lt, neg, add, sub, mul, div, ofInt, ofBits}
+use Rattle.ieee.specs.Range.{In, w32, w64}
+use Rattle.float.specs.Gear.{weight}
+use Rattle.float.specs.Pick.{maxF}
+use Rattle.ranges.proofs.Intervals.{Ex, var, lit, plus, less, times, over, least, most, Range, Known, none, more, within}
+
+-- now + hold
+pub hold-end : (now hold : Float) → In (w64 0) (w64 1000000000) now → In (w64 0) (w64 1000000) hold → In (w64 0) (w64 1001000000) (add binary64 now hold)
+unfolding le lt add ofInt
+hold-end now hold i j =
+    within ((w64 0, w64 1000000000) ∷ (w64 0, w64 1000000) ∷ []) (now ∷ hold ∷ []) (plus binary64 (var 0) (var 1)) (w64 0) (w64 1001000000) (more i (more j none)) tt
+
+-- ((pre + ack + turn) / overhead - ack - turn), of clean_burst_s, before the clamp; the overhead is 0.01 at least
+abbrev hundredth : Float
+hundredth = ofBits binary64 0x3f84_7ae1_47ae_147b
+
+pub clean-in : (pre ack turn overhead : Float) → In (w64 0) (w64 71) pre → In (w64 0) (w64 60) ack → In (w64 0) (w64 120) turn → In hundredth (w64 1) overhead
+    → In (neg (w64 180)) (w64 25101) (sub binary64 (sub binary64 (div binary64 (add binary64 (add binary64 pre ack) turn) overhead) ack) turn)
+unfolding le lt neg add sub div ofInt ofBits
+clean-in pre ack turn overhead i j k l =
+    within ((w64 0, w64 71) ∷ (w64 0, w64 60) ∷ (w64 0, w64 120) ∷ (hundredth, w64 1) ∷ []) (pre ∷ ack ∷ turn ∷ overhead ∷ [])
+    (less binary64 (less binary64 (over binary64 (plus binary64 (plus binary64 (var 0) (var 1)) (var 2)) (var 3)) (var 1)) (var 2)) (neg (w64 180)) (w64 25101)
+    (more i (more j (more k (more l none)))) tt
+
+-- -(aim + air - threshold - margin + 0.5) / 0.25, in f32, for dB values of at most 400 and 100 either way
+pub room-in : (aim air th margin : Float) → In (neg (w32 400)) (w32 400) aim → In (neg (w32 100)) (w32 100) air → In (neg (w32 100)) (w32 100) th → In (neg (w32 100)) (w32 100) margin
+    → In (neg (w32 2802)) (w32 2798) (div binary32 (sub binary32 (w32 0) (add binary32 (sub binary32 (sub binary32 (add binary32 aim air) th) margin) (fin false 1 (negsuc 0)))) (fin false 1 (negsuc 1)))
+unfolding le lt neg add sub div ofInt ofBits
+room-in aim air th margin i j k l =
+    within ((neg (w32 400), w32 400) ∷ (neg (w32 100), w32 100) ∷ (neg (w32 100), w32 100) ∷ (neg (w32 100), w32 100) ∷ []) (aim ∷ air ∷ th ∷ margin ∷ [])
+    (over binary32 (less binary32 (lit (w32 0)) (plus binary32 (less binary32 (less binary32 (plus binary32 (var 0) (var 1)) (var 2)) (var 3)) (lit (fin false 1 (negsuc 0))))) (lit (fin false 1 (negsuc 1)))) (neg (w32 2802)) (w32 2798)
+    (more i (more j (more k (more l none)))) tt
+
+-- w * s + (1 - w) * prior, for all three in [0, 1]: crude, and enough to know that it is finite
+pub blend-in : (w s prior : Float) → In (w32 0) (w32 1) w → In (w32 0) (w32 1) s → In (w32 0) (w32 1) prior → In (w32 0) (w32 2) (add binary32 (mul binary32 w s) (mul binary32 (sub binary32 (w32 1) w) prior))
+unfolding le lt neg add sub mul ofInt ofBits
+blend-in w s prior i j k =
+    within ((w32 0, w32 1) ∷ (w32 0, w32 1) ∷ (w32 0, w32 1) ∷ []) (w ∷ s ∷ prior ∷ [])
+    (plus binary32 (times binary32 (var 0) (var 1)) (times binary32 (less binary32 (lit (w32 1)) (var 0)) (var 2))) (w32 0) (w32 2)
+    (more i (more j (more k none))) tt
+
+-- (max_burst - (one - frame)) / max(frame, 0.001), frame = two - one, of level_rate
+abbrev thousandth : Float
+thousandth = ofBits binary64 0x3f50_624d_d2f1_a9fc
+
+pub frames-in : (burst one two : Float) → In (w64 1) (w64 1000) burst → In (w64 0) (w64 33000) one → In (w64 0) (w64 33000) two
+    → let frame = sub binary64 two one in In (neg (w64 66000000)) (w64 34001000) (div binary64 (sub binary64 burst (sub binary64 one frame)) (maxF frame thousandth))
+unfolding le lt neg add sub mul div ofInt ofBits
+frames-in burst one two i j k =
+    within ((w64 1, w64 1000) ∷ (w64 0, w64 33000) ∷ (w64 0, w64 33000) ∷ []) (burst ∷ one ∷ two ∷ [])
+    (over binary64 (less binary64 (var 0) (less binary64 (var 1) (less binary64 (var 2) (var 1)))) (most (less binary64 (var 2) (var 1)) (lit thousandth))) (neg (w64 66000000)) (w64 34001000)
+    (more i (more j (more k none))) tt

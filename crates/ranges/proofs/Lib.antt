@@ -1,0 +1,9 @@
+pub mod MinMax
+pub mod Intervals
+pub mod GearRanges
+pub mod Shares
+pub mod ExpRest
+pub mod ExpBounds
+pub mod Durations
+pub mod Losses
+pub mod Holds
