@@ -1,0 +1,4 @@
+pub mod Durations
+pub mod Ranges
+pub mod Ranged
+pub mod Default
