@@ -1,4 +1,2 @@
 pub mod Durations
-pub mod Ranges
-pub mod Ranged
 pub mod Default

@@ -1,12 +1,10 @@
-// config.rs: the profile of a sender, which of its numbers are in range, and what stands in for the Air of station.rs.
+// config.rs: the profile of a sender, and what stands in for the Air of station.rs.
 use harq::Harq;
 ghost use mathlib.Core.Path.{_≡_};
 ghost use Prim.Native.Nat.{_*_, _<_};
 ghost use Rattle.config.specs.Durations.{slotAt, frameBits, maxBitsAt, durationAt, ackAt, dataS, frameBytes};
-ghost use Rattle.config.specs.Ranges.{inRange, inOrder};
 
 pub mod default;
-mod range;
 
 // An optional dB value: a flag beside it.
 pub struct MaybeDb {
@@ -158,19 +156,5 @@ impl Profile {
             return self.long_bytes;
         }
         self.short_bytes
-    }
-
-    // Refusal 1 where false: every number is in its range.
-    pub fn in_range(self) -> bool
-        ensures { λ r. ⌜ r ≡ inRange self ⌝ }
-    {
-        range::in_range(self)
-    }
-
-    // Refusal 2 where false: the short frame is no larger than the long.
-    pub fn in_order(self) -> bool
-        ensures { λ r. ⌜ r ≡ inOrder self ⌝ }
-    {
-        self.short_bytes <= self.long_bytes
     }
 }
