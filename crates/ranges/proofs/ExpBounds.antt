@@ -15,16 +15,16 @@ use lib.Ieee.Scale.{finite}
 use lib.Ieee.Positive.{den, den-pos, above-of-le}
 use Rattle.ieee.specs.Range.{In, w32, w64}
 use Rattle.ieee.specs.Power.{power}
-use Rattle.float.specs.Exp.{horner, shifted, reduced, E}
-use Rattle.float.specs.Exp
-use Rattle.float.specs.Narrow.{narrow}
+use Rattle.exp.specs.Exp.{horner, shifted, reduced, E}
+use Rattle.exp.specs.Exp
+use Rattle.exp.specs.Narrow.{narrow}
 use Rattle.ieee.proofs.Value.{P, N, Under, le→Le, Le→le, le-trans, le-refl, le-neg, le-lt, lt-not-le, not-lt→le, inf-most, le-no-nan, finite-no-nan}
 use Rattle.ieee.proofs.Rounds.{Rounds, plus-of, minus-of, add-rounds, mul-rounds, div-rounds, round-neg, P-pos}
 use Rattle.ieee.proofs.Representable.{rounds-le, rounds-ge, zero-exp}
 use Rattle.ieee.proofs.Mono.{null, not-negative, mul-mono, whole-mono}
 use Rattle.ieee.proofs.Bounds.{in-finite, in-wider}
 use Rattle.ranges.proofs.Intervals.{Ex, var, lit, plus, less, times, over, Known, none, more, within}
-use Rattle.float.proofs.ExpLaws.{lo, hi, log2e, half, shifted-in, cut-in, E-low, E-high, E-within}
+use Rattle.exp.proofs.ExpLaws.{lo, hi, log2e, half, shifted-in, cut-in, E-low, E-high, E-within}
 use Rattle.ranges.proofs.ExpRest.{least, greatest, y-in}
 
 abbrev minus-half : Float

@@ -15,14 +15,14 @@ use lib.Ieee.Scale.{finite}
 use lib.Ieee.Positive.{den, den-pos}
 use lib.Ieee.Back.{round-whole}
 use Rattle.ieee.specs.Range.{In, w64}
-use Rattle.float.specs.Exp.{shifted, reduced}
+use Rattle.exp.specs.Exp.{shifted, reduced}
 use Rattle.ieee.proofs.Value.{P, N, Under, le→Le}
 use Rattle.ieee.proofs.Rounds.{Rounds, plus-of, minus-of, rounds-same, sub-rounds}
 use Rattle.ieee.proofs.Representable.{units-of, rounds-le, rounds-ge, zero-exp}
 use Rattle.ieee.proofs.Bounds.{in-finite}
 use Rattle.ieee.proofs.Exact.{Is, is-of-value}
 use Rattle.ieee.proofs.Units.{rescale}
-use Rattle.float.proofs.ExpLaws.{lo, hi, t-in, log2e, half, shifted-in, cut-in}
+use Rattle.exp.proofs.ExpLaws.{lo, hi, t-in, log2e, half, shifted-in, cut-in}
 use Rattle.ieee.proofs.RoundingError.{tick, near}
 use Rattle.ieee.proofs.Sizes.{near-size, mul-size, sum-size, cut-size, round-size}
 

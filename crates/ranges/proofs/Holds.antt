@@ -13,7 +13,7 @@ use lib.Ieee.Scale.{finite}
 use lib.Ieee.Positive.{den, den-pos}
 use Rattle.ieee.specs.Range.{In, w64}
 use Rattle.ieee.specs.Power.{power}
-use Rattle.float.specs.Hold.{holdOf}
+use Rattle.exp.specs.Hold.{holdOf}
 use Rattle.ieee.proofs.Value.{P, N, Under, le→Le, le-lt, lt-le, le-trans, le-no-nan, finite-no-nan}
 use Rattle.ieee.proofs.Rounds.{mul-rounds}
 use Rattle.ieee.proofs.Representable.{rounds-ge}
