@@ -1,4 +1,4 @@
--- Facts of the gear's numbers by `within` of `proofs/Intervals.antt`: each is its expression, and `tt`. Assumes nothing.
+-- Where the gear's numbers lie, by `within` of `proofs/Intervals.antt`: each is its expression, and `tt`. Assumes nothing.
 use mathlib.Core.List.{List, [], _∷_}
 use mathlib.Core.Bool.{false}
 use lib.Dec.{T}
@@ -6,7 +6,7 @@ use lib.IntN.{pos, negsuc}
 use lib.Ieee.{Float, fin, binary32, binary64, le, lt, neg, add, sub, mul, div, ofInt, ofBits}
 use Rattle.ieee.specs.Range.{In, w32, w64}
 use Rattle.float.specs.Gear.{weight}
-use Rattle.float.specs.Pick.{maxF}
+use Rattle.float.specs.Pick.{minF, maxF}
 use Rattle.ranges.proofs.Intervals.{Ex, var, lit, plus, less, times, over, least, most, Range, Known, none, more, within}
 
 -- now + hold
@@ -14,6 +14,25 @@ pub hold-end : (now hold : Float) → In (w64 0) (w64 1000000000) now → In (w6
 unfolding le lt add ofInt
 hold-end now hold i j =
     within ((w64 0, w64 1000000000) ∷ (w64 0, w64 1000000) ∷ []) (now ∷ hold ∷ []) (plus binary64 (var 0) (var 1)) (w64 0) (w64 1001000000) (more i (more j none)) tt
+
+-- a report from -100 to 300 dB, less a level's mean power, which the tables of level.rs have from -8 to 0 dB: the dB that the record keeps
+pub kept-in : (snr air : Float) → In (neg (w32 100)) (w32 300) snr → In (neg (w32 8)) (w32 0) air → In (neg (w32 100)) (w32 308) (sub binary32 snr air)
+unfolding le lt neg sub ofInt
+kept-in snr air i j =
+    within ((neg (w32 100), w32 300) ∷ (neg (w32 8), w32 0) ∷ []) (snr ∷ air ∷ []) (less binary32 (var 0) (var 1)) (neg (w32 100)) (w32 308) (more i (more j none)) tt
+
+-- (burst_s * 2.0).min(long.max(usual)), of adapt_burst
+pub doubled-in : (burst long usual : Float) → In (w64 1) (w64 1000) burst → In (w64 1) (w64 1000) long → In (w64 1) (w64 1000) usual
+    → In (w64 1) (w64 1000) (minF (mul binary64 burst (w64 2)) (maxF long usual))
+unfolding le lt mul ofInt
+doubled-in burst long usual i j k =
+    within ((w64 1, w64 1000) ∷ (w64 1, w64 1000) ∷ (w64 1, w64 1000) ∷ []) (burst ∷ long ∷ usual ∷ [])
+    (least (times binary64 (var 0) (lit (w64 2))) (most (var 1) (var 2))) (w64 1) (w64 1000) (more i (more j (more k none))) tt
+
+-- a share times 1 - 0.3, of channel_failed
+pub faded-in : (p : Float) → In (w32 0) (w32 1) p → In (w32 0) (w32 1) (mul binary32 p (sub binary32 (w32 1) weight))
+unfolding le lt sub mul ofInt ofBits
+faded-in p i = within ((w32 0, w32 1) ∷ []) (p ∷ []) (times binary32 (var 0) (less binary32 (lit (w32 1)) (lit weight))) (w32 0) (w32 1) (more i none) tt
 
 -- ((pre + ack + turn) / overhead - ack - turn), of clean_burst_s, before the clamp; the overhead is 0.01 at least
 abbrev hundredth : Float

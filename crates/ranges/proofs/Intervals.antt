@@ -3,74 +3,21 @@
 use mathlib.Core.Path.{_≡_, refl, sym, ap, _∙_, subst}
 use mathlib.Core.Logic.{_⊎_, inl, inr}
 use mathlib.Core.List.{List, [], _∷_}
-use Prim.Native.Nat.{ℕ, zero, suc, _+_, _*_, _≤_, _<_}
-use native.Mathlib.Nat.{mul-le-mul-right, mul-pos}
-use native.Mathlib.Omega.{arith}
+use Prim.Native.Nat.{ℕ, zero, suc}
 use mathlib.Core.Bool.{Bool, true, false, not, _&&_, cond}
 use lib.Dec.{T}
 use lib.IntN.{pos}
 use lib.Ieee.{Float, nan, inf, fin, Format, le, lt, neg, add, sub, mul, div, isNan}
 use lib.Ieee.Fits.{and-l, and-r}
 use lib.Ieee.Scale.{finite}
-use lib.Ieee.Positive.{den, den-pos, positive, between}
+use lib.Ieee.Positive.{positive, between}
 use Rattle.ieee.specs.Range.{In}
 use Rattle.float.specs.Pick.{minF, maxF}
-use Rattle.ieee.proofs.Value.{P, N, Under, le→Le, le-refl, le-trans, le-no-nan, finite-no-nan}
-use Rattle.ieee.proofs.Rounds.{rounds-mono, mul-rounds, div-rounds, P-pos}
-use Rattle.ieee.proofs.Mono.{null, mul-comm, div-mono}
+use Rattle.ieee.proofs.Value.{P, N, le-refl, le-trans, le-no-nan, finite-no-nan}
+use Rattle.ieee.proofs.Mono.{null, one-sign, mul-up, mul-down, mul-comm, div-mono, div-up, div-down}
 use Rattle.ieee.proofs.Bounds.{in-finite, add-in, sub-in}
 use Rattle.laws.proofs.Picks.{either}
 use Rattle.ranges.proofs.MinMax.{lower, upper, lower-le, upper-ge, min-is, max-is}
-
--- ---- one factor fixed: up where it is not negative, down where it is not positive
-one-sign : (x : Float) → (N x ≡ 0) ⊎ (P x ≡ 0)
-one-sign nan = inl refl
-one-sign (inf s) = inl refl
-one-sign (fin true m e) = inr refl
-one-sign (fin false m e) = inl refl
-
-module _ (f : Format) (c x x' : Float) (C : T (finite c)) (X : T (finite x)) (X' : T (finite x')) (h : T (le x x')) where
-  mul-up : N c ≡ 0 → T (le (mul f c x) (mul f c x'))
-  mul-up e =
-      rounds-mono f (mul f c x) (mul f c x') _ _ _ _ _ _ (mul-pos (den-pos c) (den-pos x)) (mul-pos (den-pos c) (den-pos x')) (mul-rounds f c x C X) (mul-rounds f c x' C X')
-      (go (P c) (N c) (den c) (P x) (N x) (den x) (P x') (N x') (den x') e (le→Le x x' X X' h))
-    where
-      go : (w z b p n d q m k : ℕ) → z ≡ 0 → Under p n d q m k → Under (w * p + z * n) (w * n + z * p) (b * d) (w * q + z * m) (w * m + z * q) (b * k)
-      go w z b p n d q m k e h = rw e (omega (arith, mul-le-mul-right (w * b) h))
-
-  mul-down : P c ≡ 0 → T (le (mul f c x') (mul f c x))
-  mul-down e =
-      rounds-mono f (mul f c x') (mul f c x) _ _ _ _ _ _ (mul-pos (den-pos c) (den-pos x')) (mul-pos (den-pos c) (den-pos x)) (mul-rounds f c x' C X') (mul-rounds f c x C X)
-      (go (P c) (N c) (den c) (P x) (N x) (den x) (P x') (N x') (den x') e (le→Le x x' X X' h))
-    where
-      go : (w z b p n d q m k : ℕ) → w ≡ 0 → Under p n d q m k → Under (w * q + z * m) (w * m + z * q) (b * k) (w * p + z * n) (w * n + z * p) (b * d)
-      go w z b p n d q m k e h = rw e (omega (arith, mul-le-mul-right (z * b) h))
-
-module _ (f : Format) (x y y' : Float) (X : T (finite x)) (Y : T (positive y)) (Y' : T (positive y')) (h : T (le y y')) where
-  cross : P y * den y' ≤ P y' * den y
-  cross =
-      let k = P-pos y Y in
-      let k' = P-pos y' Y' in
-      go (P y) (N y) (den y) (P y') (N y') (den y') (k .1) (k' .1) (le→Le y y' (k .2) (k' .2) h)
-    where
-      go : (p n d q m c : ℕ) → n ≡ 0 → m ≡ 0 → Under p n d q m c → p * c ≤ q * d
-      go p n d q m c a b h = omega (arith, h, ap (λ (z : ℕ). z * c) a, ap (λ (z : ℕ). z * d) b)
-
-  div-down : N x ≡ 0 → T (le (div f x y') (div f x y))
-  div-down e =
-      rounds-mono f (div f x y') (div f x y) _ _ _ _ _ _ (mul-pos (den-pos x) (P-pos y' Y' .0)) (mul-pos (den-pos x) (P-pos y Y .0)) (div-rounds f x y' X Y') (div-rounds f x y X Y)
-      (go (P x) (N x) (den x) (P y) (den y) (P y') (den y') e cross)
-    where
-      go : (w z b p d q c : ℕ) → z ≡ 0 → p * c ≤ q * d → Under (w * c) (z * c) (b * q) (w * d) (z * d) (b * p)
-      go w z b p d q c e h = rw e (omega (arith, mul-le-mul-right (w * b) h))
-
-  div-up : P x ≡ 0 → T (le (div f x y) (div f x y'))
-  div-up e =
-      rounds-mono f (div f x y) (div f x y') _ _ _ _ _ _ (mul-pos (den-pos x) (P-pos y Y .0)) (mul-pos (den-pos x) (P-pos y' Y' .0)) (div-rounds f x y X Y) (div-rounds f x y' X Y')
-      (go (P x) (N x) (den x) (P y) (den y) (P y') (den y') e cross)
-    where
-      go : (w z b p d q c : ℕ) → w ≡ 0 → p * c ≤ q * d → Under (w * d) (z * d) (b * p) (w * c) (z * c) (b * q)
-      go w z b p d q c e h = rw e (omega (arith, mul-le-mul-right (z * b) h))
 
 -- ---- between two values, whichever is the smaller
 module _ (p q z : Float) (A : T (not (isNan p))) (B : T (not (isNan q))) where

@@ -1,4 +1,5 @@
 pub mod MinMax
+pub mod TotalOrder
 pub mod Intervals
 pub mod GearRanges
 pub mod Shares
