@@ -1,20 +1,19 @@
 -- The exponent that `E` takes out of x: from -1022 to 1023. Assumes nothing.
 use mathlib.Core.Path.{_≡_, refl, sym, ap, _∙_, subst}
-use Prim.Native.Nat.{ℕ, zero, suc, _+_, _-_, _*_, _/_, _^_, _≤_, _<_, min}
+use Prim.Native.Nat.{ℕ, zero, suc, _-_, _*_, _/_, _^_, _≤_, _<_, min}
 use native.Mathlib.Nat.{le-of-mul-le-mul-right, div-mul-le-self}
 use native.Mathlib.Omega.{arith}
 use mathlib.Core.Bool.{Bool, true, false, not, cond}
-use lib.Dec.{T, leb, le→leb}
-use lib.IntN.{ℤ, pos, negsuc, negℤ}
+use lib.Dec.{T, le→leb}
+use lib.IntN.{pos, negsuc, negℤ}
 use lib.Signed.{leZ}
 use lib.Ieee.{Float, nan, inf, fin, binary64, up, down, le, lt, neg, add, sub, mul, div, ofBits, ofInt, toSigned}
 use lib.Ieee.Fits.{down-pos}
 use lib.Ieee.Bits.{is-true, is-false}
-use lib.Ieee.Scale.{finite}
 use Rattle.ieee.specs.Range.{In, w64}
 use Rattle.exp.specs.Exp.{shifted, within, horner, E}
-use Rattle.ieee.proofs.Value.{P, N, Under, le→Le, le-trans}
-use Rattle.ieee.proofs.Mono.{null, mul-mono-left}
+use Rattle.ieee.proofs.Value.{le→Le}
+use Rattle.ieee.proofs.Mono.{mul-mono-left}
 use Rattle.ieee.proofs.Bounds.{in-finite, add-in, sub-in, in-wider}
 
 -- -1022 and 1023.5

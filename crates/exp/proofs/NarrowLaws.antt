@@ -1,15 +1,15 @@
 -- An f64 rounded to the digits of an f32 by one addition and one subtraction: for a power of two M that is 2 ^ 29 times the place of a's leading digit (and not below 2 ^ -97),
 -- (a + M) - M is `narrow a`, where that does not overflow. Assumes nothing.
 use mathlib.Core.Path.{_≡_, refl, sym, ap, _∙_, subst}
-use Prim.Native.Nat.{ℕ, zero, suc, _+_, _-_, _*_, _/_, _%_, _^_, _≤_, _<_, compare}
+use Prim.Native.Nat.{ℕ, suc, _+_, _-_, _*_, _/_, _%_, _^_, _≤_, _<_, compare}
 use native.Mathlib.Nat
-use native.Mathlib.Nat.{le-trans, le-of-eq, lt-of-lt-of-le, lt-of-le-of-lt, mul-pos, mul-comm, mul-assoc, mul-right-comm, mul-div-mul-right, mul-le-mul-right, div-lt-iff-lt-mul, mul-lt-mul-of-pos-right, lt-of-mul-lt-mul-right, zero-lt-suc, le-of-mul-le-mul-right}
+use native.Mathlib.Nat.{le-trans, lt-of-le-of-lt, mul-pos, mul-div-mul-right, mul-le-mul-right, div-lt-iff-lt-mul, mul-lt-mul-of-pos-right, lt-of-mul-lt-mul-right, le-of-mul-le-mul-right}
 use native.Mathlib.Omega.{arith}
 use mathlib.Core.Bool.{Bool, true, false, not, cond, true≢false}
-use lib.Dec.{T, ltb, ltb→lt, nltb→le, lt→ltb, lit<, lit≤, not-T}
+use lib.Dec.{T, ltb, ltb→lt, nltb→le, lt→ltb, lit<}
 use lib.Arith.{le→nltb}
-use lib.Pow.{pow-add, pow-pos, pow-mono, pow-lt, shr-lt}
-use lib.IntN.{ℤ, pos}
+use lib.Pow.{pow-add, pow-pos, pow-lt}
+use lib.IntN.{pos}
 use lib.Ieee.{Float, nan, inf, fin, binary32, binary64, minus, up, down, size, odd, round, units, add, sub, lt, fits}
 use lib.Ieee.Digits.{minus-val}
 use lib.Ieee.Bits.{is-true, is-false}

@@ -1,17 +1,16 @@
 -- The power of two that `rounded` adds, and the cases of `narrow`. Assumes nothing.
 use mathlib.Core.Path.{_≡_, refl, sym, ap, _∙_, subst}
-use Prim.Native.Nat.{ℕ, zero, suc, _+_, _-_, _*_, _/_, _%_, _^_, _≤_, _<_, max}
+use Prim.Native.Nat.{ℕ, zero, suc, _+_, _-_, _*_, _/_, _^_, _≤_, _<_, max}
 use native.Mathlib.Nat
-use native.Mathlib.Nat.{le-trans, lt-of-lt-of-le, mul-div-cancel, mul-pos, zero-lt-suc, mul-lt-mul-of-pos-right, lt-of-mul-lt-mul-right, mul-le-mul-right, le-of-mul-le-mul-right, le-div-iff-mul-le}
+use native.Mathlib.Nat.{lt-of-lt-of-le, mul-div-cancel, mul-pos, zero-lt-suc, mul-lt-mul-of-pos-right, lt-of-mul-lt-mul-right, mul-le-mul-right, le-of-mul-le-mul-right, le-div-iff-mul-le}
 use native.Mathlib.Omega.{arith}
-use mathlib.Core.Bool.{Bool, true, false, not, _&&_, cond, true≢false}
-use lib.Dec.{T, ltb, ltb→lt, nltb→le}
+use mathlib.Core.Bool.{Bool, true, false, not, _&&_, cond}
+use lib.Dec.{T, ltb→lt, nltb→le}
 use lib.Pow.{pow-add, pow-pos, pow-mono}
 use lib.IntN.{ℤ, pos, negsuc}
 use lib.Ieee.{Float, nan, inf, fin, binary32, binary64, up, down, size, round, lt, le, neg, fits, toBits, ofInt, isNan, add, sub, minus}
 use lib.Ieee.Digits.{size-lt, size-le, size-reaches}
 use lib.Ieee.Fits.{up-pos, down-pos, kept-lt, nan-fits, inf-fits, round-fits}
-use lib.Ieee.Exact.{HasValue}
 use lib.Ieee.Order.{round-mono}
 use Rattle.ieee.specs.Range.{w64}
 use Rattle.exp.specs.Narrow.{narrow}

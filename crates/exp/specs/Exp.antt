@@ -1,5 +1,5 @@
 -- Document 01, "exp.": E, for f64 and for f32. Definitions only.
-use mathlib.Core.Bool.{Bool, true, false, cond}
+use mathlib.Core.Bool.{false, cond}
 use Prim.Native.Nat.{ℕ}
 use lib.Ieee.{Float, inf, binary64, neg, add, sub, mul, div, lt, ofBits, ofInt, toSigned}
 use Rattle.ieee.specs.Range.{w64}

@@ -1,7 +1,7 @@
 -- The operations grow and shrink with their arguments, over all finite values and in both formats. Assumes nothing.
-use mathlib.Core.Path.{_≡_, refl, sym, ap, _∙_, subst}
+use mathlib.Core.Path.{_≡_, refl, sym, ap, _∙_}
 use mathlib.Core.Logic.{_⊎_, inl, inr}
-use Prim.Native.Nat.{ℕ, _+_, _*_, _≤_, _<_}
+use Prim.Native.Nat.{ℕ, _+_, _*_, _≤_}
 use native.Mathlib.Nat
 use native.Mathlib.Nat.{mul-le-mul-right, mul-pos}
 use native.Mathlib.Omega.{arith}
@@ -11,8 +11,8 @@ use lib.IntN.{pos}
 use lib.Ieee.{Float, nan, inf, fin, Format, up, down, unlike, round, le, neg, add, sub, mul, div, ofInt, isNan}
 use lib.Ieee.Scale.{finite}
 use lib.Ieee.Positive.{den, den-pos, positive}
-use Rattle.ieee.proofs.Value.{le-trans, le-neg, le-refl, le-no-nan, inf-least, inf-most, finite-no-nan, P, N, Under, Le, le→Le}
-use Rattle.ieee.proofs.Rounds.{round-neg, neg-finite, Rounds, rounds-mono, add-rounds, sub-rounds, mul-rounds, div-rounds, whole-rounds, P-pos}
+use Rattle.ieee.proofs.Value.{le-trans, le-neg, le-refl, le-no-nan, inf-least, inf-most, finite-no-nan, P, N, Under, le→Le}
+use Rattle.ieee.proofs.Rounds.{round-neg, neg-finite, rounds-mono, add-rounds, mul-rounds, div-rounds, whole-rounds, P-pos}
 
 -- ---- x + y in both, x - y up in x and down in y
 left-under : (p n d p' n' d' q m c : ℕ) → Under p n d p' n' d' → Under (p * c + q * d) (n * c + m * d) (d * c) (p' * c + q * d') (n' * c + m * d') (d' * c)

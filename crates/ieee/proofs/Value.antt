@@ -1,13 +1,13 @@
 -- A finite value as the signed fraction (`P` - `N`) / `den`, and the order of two finite values as one inequality of natural numbers. Assumes nothing.
-use mathlib.Core.Path.{_≡_, refl, sym, ap, _∙_, subst}
+use mathlib.Core.Path.{_≡_, refl, sym, ap, subst}
 use mathlib.Core.Logic.{_⊎_, inl, inr}
 use Prim.Native.Nat.{ℕ, _+_, _*_, _≤_, _<_}
-use native.Mathlib.Nat.{eq-or-lt-of-le, le-of-mul-le-mul-right, mul-le-mul-right, mul-pos}
+use native.Mathlib.Nat.{eq-or-lt-of-le, le-of-mul-le-mul-right, mul-le-mul-right}
 use native.Mathlib.Omega.{arith}
 use mathlib.Core.Bool.{Bool, true, false, not, _&&_, _||_, Bool·beq}
 use lib.Dec.{T, ltb, eqb, eqb→eq, eqb-refl, ltb→lt, lt→ltb, nltb→le}
-use lib.IntN.{ℤ, pos}
-use lib.Ieee.{Float, nan, inf, fin, up, down, lt, eq, le, ne, neg, below, level, isNan}
+use lib.IntN.{pos}
+use lib.Ieee.{Float, nan, inf, fin, up, down, lt, eq, le, ne, neg, level, isNan}
 use lib.Ieee.Bits.{is-true}
 use lib.Ieee.Fits.{and-l, and-r}
 use lib.Ieee.Scale.{finite}

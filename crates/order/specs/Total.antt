@@ -1,7 +1,6 @@
 -- IEEE 754-2019, 5.10, totalOrder (Rust's `total_cmp`), and the median of three by it. Definitions only.
-use mathlib.Core.Bool.{Bool, true, false, not, _&&_, _||_, cond}
+use mathlib.Core.Bool.{Bool, true, not, _&&_, _||_, cond}
 use mathlib.Core.List.{List, [], _∷_}
-use Prim.Native.Nat.{ℕ}
 use lib.ListN.{getD}
 use lib.Ieee.{Float, nan, inf, fin, lt, eq, isNan}
 

@@ -5,15 +5,15 @@ ghost use lib.ListN.{getD};
 ghost use lib.Ieee.{nan};
 ghost use Rattle.order.specs.Total.{totalLe, insert, medianF};
 
-// Whether x.total_cmp(&y) is no Greater. Of two that are equal the bits tell the zeros apart; a NaN comes first.
-pub fn total_le32(x: f32, y: f32) -> bool
-    ensures { λ r. ⌜ r ≡ totalLe x y ⌝ }
+// Whether a.total_cmp(&b) is no Greater. Of two that are equal the bits tell the zeros apart; a NaN comes first.
+pub fn total_le32(a: f32, b: f32) -> bool
+    ensures { λ r. ⌜ r ≡ totalLe a b ⌝ }
 {
-    if (x != x) | (x < y) {
+    if (a != a) | (a < b) {
         return true;
     }
-    if x == y {
-        return f32::to_bits(y) <= f32::to_bits(x);
+    if a == b {
+        return f32::to_bits(b) <= f32::to_bits(a);
     }
     false
 }

@@ -1,30 +1,30 @@
 -- `E` is never negative and never a NaN, unless x is; and for x ≤ 0 it is at most 2. Assumes nothing.
-use mathlib.Core.Path.{_≡_, refl, sym, ap, _∙_, subst}
-use mathlib.Core.List.{List, [], _∷_}
+use mathlib.Core.Path.{_≡_, refl, sym, subst}
+use mathlib.Core.List.{[], _∷_}
 use Prim.Native.Nat.{ℕ, zero, suc, _+_, _-_, _*_, _/_, _^_, _≤_, _<_, min}
-use native.Mathlib.Nat.{mul-pos, zero-lt-suc, div-eq-of-lt}
+use native.Mathlib.Nat.{mul-pos, div-eq-of-lt}
 use native.Mathlib.Omega.{arith}
 use mathlib.Core.Bool.{Bool, true, false, not, cond}
 use lib.Dec.{T, leb→le}
 use lib.Pow.{pow-pos}
 use lib.IntN.{ℤ, pos, negsuc, negℤ}
 use lib.Signed.{leZ}
-use lib.Ieee.{Float, nan, inf, fin, Format, binary32, binary64, up, down, round, le, lt, neg, add, sub, mul, div, fits, ofInt, ofBits, toSigned, isNan}
+use lib.Ieee.{Float, nan, inf, fin, binary32, binary64, up, down, round, le, lt, neg, add, sub, mul, div, fits, ofInt, ofBits, toSigned, isNan}
 use lib.Ieee.Fits.{down-pos, fits-widens}
 use lib.Ieee.Scale.{finite}
 use lib.Ieee.Positive.{den, den-pos, above-of-le}
-use Rattle.ieee.specs.Range.{In, w32, w64}
+use Rattle.ieee.specs.Range.{In, w64}
 use Rattle.ieee.specs.Power.{power}
 use Rattle.exp.specs.Exp.{horner, shifted, reduced, E}
-use Rattle.exp.specs.Exp
 use Rattle.exp.specs.Narrow.{narrow}
-use Rattle.ieee.proofs.Value.{P, N, Under, le→Le, Le→le, le-trans, le-refl, le-neg, le-lt, lt-not-le, not-lt→le, inf-most, le-no-nan, finite-no-nan}
-use Rattle.ieee.proofs.Rounds.{Rounds, plus-of, minus-of, add-rounds, mul-rounds, div-rounds, round-neg, P-pos}
+use Rattle.ieee.proofs.Value.{P, N, Under, le→Le, Le→le, le-trans, le-neg, lt-not-le, not-lt→le, le-no-nan}
+use Rattle.ieee.proofs.Rounds.{add-rounds, mul-rounds, div-rounds, round-neg, P-pos}
 use Rattle.ieee.proofs.Representable.{rounds-le, rounds-ge, zero-exp}
 use Rattle.ieee.proofs.Mono.{null, not-negative, mul-mono, whole-mono}
-use Rattle.ieee.proofs.Bounds.{in-finite, in-wider}
-use Rattle.ranges.proofs.Intervals.{Ex, var, lit, plus, less, times, over, Known, none, more, within}
+use Rattle.ieee.proofs.Bounds.{in-finite}
+use Rattle.ranges.proofs.Intervals.{Ex, var, lit, plus, less, times, none, more, within}
 use Rattle.exp.proofs.ExpLaws.{lo, hi, log2e, half, shifted-in, cut-in, E-low, E-high, E-within}
+use Rattle.ranges.proofs.NarrowBounds.{narrow-in, narrow-ge}
 use Rattle.ranges.proofs.ExpRest.{least, greatest, y-in}
 
 abbrev minus-half : Float
@@ -183,23 +183,7 @@ E-le x F h =
     let u = in-finite {lo = lo} {hi = hi} {x = shifted x} tt tt (shifted-in x i) in
     subst (λ (z : Float). T (le z (w64 2))) (E-within x a b) (below-two (horner (reduced x (K x))) (toSigned 63 (shifted x)) (horner-in (reduced x (K x)) (rest-in x F i)) (low-cut (shifted x) u (shifted-le x j)))))
 
--- ---- narrowed: the rounding of the same value to binary32
-pub narrow-rounds : (x : Float) → T (finite x) → Rounds binary32 (narrow x) (P x) (N x) (den x)
-unfolding narrow
-narrow-rounds nan f = absurd f
-narrow-rounds (inf s) f = absurd f
-narrow-rounds (fin true m e) f = minus-of binary32 _ _ _ _ (m * up e) (omega arith) refl
-narrow-rounds (fin false m e) f = plus-of binary32 _ _ _ _ (m * up e) (omega arith) refl
-
--- so it keeps a range whose ends an f32 holds
-pub narrow-in : (lo hi x : Float) → T (finite lo) → T (finite hi) → T (fits binary32 lo) → T (fits binary32 hi) → In lo hi x → In lo hi (narrow x)
-narrow-in lo hi x A B F G i =
-    let X = in-finite A B i in
-    record {
-      low = rounds-ge binary32 (narrow x) lo (P x) (N x) (den x) (den-pos x) A F (narrow-rounds x X) (le→Le lo x A X (i .low));
-      high = rounds-le binary32 (narrow x) hi (P x) (N x) (den x) (den-pos x) B G (narrow-rounds x X) (le→Le x hi X B (i .high));
-    }
-
+-- ---- as an f32
 -- the weight of an old success: exp of what is not above zero, as an f32
 abbrev two : Float
 two = fin false 1 (pos 1)
@@ -257,13 +241,5 @@ pub prior-in : (e : Float) → T (le null e) → In null one (div binary32 one (
 prior-in e h = one-over-in (add binary32 one e) (more-than-one e h)
 
 -- exp of an f32 is not negative
-pub narrow-ge : (y : Float) → T (le null y) → T (le null (narrow y))
-unfolding le narrow
-narrow-ge nan h = absurd h
-narrow-ge (inf true) h = absurd h
-narrow-ge (inf false) h = tt
-narrow-ge (fin s m e) h =
-    rounds-ge binary32 (narrow (fin s m e)) null (P (fin s m e)) (N (fin s m e)) (down e) (down-pos e) tt (unfold fits in tt) (narrow-rounds (fin s m e) tt) (le→Le null (fin s m e) tt tt h)
-
 pub E32-ge : (x : Float) → T (fits binary32 x) → T (not (isNan x)) → T (le null (narrow (E x)))
 E32-ge x F n = narrow-ge (E x) (subst (λ (z : Float). T (le z (E x))) zero-is (E-ge x (fits-widens x F) n))

@@ -1,13 +1,13 @@
 -- The hold: from n = 20 on it is the cap, and it never passes the cap. Assumes nothing.
-use mathlib.Core.Path.{_≡_, refl, sym, ap, _∙_, subst}
-use Prim.Native.Nat.{ℕ, _+_, _-_, _*_, _^_, _≤_, _<_}
+use mathlib.Core.Path.{_≡_, refl, ap, _∙_}
+use Prim.Native.Nat.{ℕ, _+_, _*_, _^_, _≤_}
 use native.Mathlib.Nat.{mul-pos, mul-le-mul}
 use native.Mathlib.Omega.{arith}
-use mathlib.Core.Bool.{Bool, true, false, not, cond}
+use mathlib.Core.Bool.{Bool, cond}
 use lib.Dec.{T}
-use lib.Pow.{pow-mono, pow-pos}
+use lib.Pow.{pow-mono}
 use lib.IntN.{pos}
-use lib.Ieee.{Float, fin, binary64, minus, le, lt, mul, fits, ofInt, isNan}
+use lib.Ieee.{Float, binary64, le, lt, mul, fits, ofInt, isNan}
 use lib.Ieee.Bits.{is-true}
 use lib.Ieee.Scale.{finite}
 use lib.Ieee.Positive.{den, den-pos}

@@ -1,13 +1,12 @@
 -- Ranges by computation. An expression over values in known ranges, of +, -, *, /, min and max, lies in the range that `span` computes from the ends, of any signs, where `ok` computes to true:
 -- every end on the way is finite, and every divisor's range is above zero. A fact on an expression is then `sound` at its tree, and `tt`. Assumes nothing.
-use mathlib.Core.Path.{_≡_, refl, sym, ap, _∙_, subst}
+use mathlib.Core.Path.{_≡_, sym, subst}
 use mathlib.Core.Logic.{_⊎_, inl, inr}
 use mathlib.Core.List.{List, [], _∷_}
 use Prim.Native.Nat.{ℕ, zero, suc}
-use mathlib.Core.Bool.{Bool, true, false, not, _&&_, cond}
+use mathlib.Core.Bool.{Bool, not, _&&_}
 use lib.Dec.{T}
-use lib.IntN.{pos}
-use lib.Ieee.{Float, nan, inf, fin, Format, le, lt, neg, add, sub, mul, div, isNan}
+use lib.Ieee.{Float, Format, le, lt, add, sub, mul, div, isNan}
 use lib.Ieee.Fits.{and-l, and-r}
 use lib.Ieee.Scale.{finite}
 use lib.Ieee.Positive.{positive, between}

@@ -4,6 +4,7 @@ pub mod Intervals
 pub mod GearRanges
 pub mod Shares
 pub mod ExpRest
+pub mod NarrowBounds
 pub mod ExpBounds
 pub mod Durations
 pub mod Losses

@@ -1,11 +1,11 @@
 -- What `minF`, `maxF` and `clampF` pick, of values that are no NaN. Assumes nothing.
-use mathlib.Core.Path.{_≡_, refl, sym, ap, subst}
+use mathlib.Core.Path.{_≡_, refl, sym, subst}
 use mathlib.Core.Bool.{Bool, true, false, not, cond}
 use lib.Dec.{T}
 use lib.Ieee.{Float, lt, le, isNan}
 use Rattle.laws.proofs.Picks.{either}
 use Rattle.ieee.specs.Range.{In}
-use Rattle.ieee.proofs.Value.{le-refl, le-trans, lt→le, not-lt→le, le-no-nan}
+use Rattle.ieee.proofs.Value.{le-refl, lt→le, not-lt→le, le-no-nan}
 use Rattle.float.specs.Pick.{minF, maxF, clampF}
 
 -- the smaller and the larger by one test: what `minF` and `maxF` are where the first is no NaN

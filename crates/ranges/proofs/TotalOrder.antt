@@ -2,12 +2,12 @@
 use mathlib.Core.Path.{_≡_, refl, sym, ap, _∙_, subst}
 use mathlib.Core.Logic.{_⊎_, inl, inr}
 use mathlib.Core.List.{List, [], _∷_}
-use Prim.Native.Nat.{ℕ, _*_}
+use Prim.Native.Nat.{_*_}
 use mathlib.Core.Bool.{Bool, true, false, not, _&&_, _||_, cond}
-use lib.Dec.{T, eqb, eqb→eq, not-T}
+use lib.Dec.{T, eqb, eqb→eq}
 use lib.ListN.{getD}
 use lib.Ieee.{Float, nan, inf, fin, Format, up, down, lt, eq, le, fits, isNan}
-use lib.Ieee.Fits.{and-l, and-r, and-i}
+use lib.Ieee.Fits.{and-l, and-i}
 use Rattle.laws.proofs.Picks.{either}
 use Rattle.ieee.proofs.Value.{or-l, or-r, le-trans, lt→le, eq→le, lt-not-le, not-lt→le, le-antisym, le-lt, lt-le, le-no-nan, eq-sym}
 use Rattle.ieee.proofs.Representable.{unique}

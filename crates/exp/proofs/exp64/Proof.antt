@@ -4,10 +4,10 @@ use mir.Syntax.{w64 as W64}
 use mir.Val.{toZ, ofZ}
 use mir.ValLaws.{toZ-ofZ}
 use Rattle.ieee.specs.Range.{w64}
-use Rattle.exp.specs.Exp.{horner, reduced, shifted, E}
+use Rattle.exp.specs.Exp.{horner, reduced, shifted}
 use Rattle.ieee.specs.Power.{power}
 use Rattle.ieee.proofs.Value.{same-no-nan, not-lt→le}
-use mathlib.Core.Path.{_≡_, sym, ap, _∙_, subst}
+use mathlib.Core.Path.{_≡_, ap, _∙_}
 use lib.Ieee.{ofInt, ofBits, neg, div}
 use lib.Ieee.Compare.{differs-from-itself}
 use Rattle.ieee.proofs.Tests.{yes, nope}

@@ -1,10 +1,10 @@
 -- `exp::whole_shift` meets its contract (`proofs/ExpLaws.antt`). Assumes nothing.
-use mathlib.Core.Path.{_≡_, sym, ap, _∙_, subst}
+use mathlib.Core.Path.{sym, ap, _∙_, subst}
 use mathlib.Core.Bool.{true, false}
 use lib.Dec.{T}
 use lib.IntN.{ℤ, pos, negsuc}
 use lib.Signed.{leZ}
-use lib.Ieee.{Float, fin, le, lt, toSigned}
+use lib.Ieee.{fin, le, lt, toSigned}
 use mir.Syntax.{w64}
 use mir.ValLaws.{toZ-ofZ}
 use borrow.Author.Needs.{needs}

@@ -1,10 +1,10 @@
 -- `whole::ceil_to_u64` meets its contract, by the laws of `proofs/FloorLaws.antt`, one for each way out. Assumes nothing.
-use mathlib.Core.Path.{_≡_, sym, ap, _∙_, subst}
-use Prim.Native.Nat.{ℕ, _+_, _<_}
+use mathlib.Core.Path.{ap, _∙_, subst}
+use Prim.Native.Nat.{ℕ, _+_}
 use native.Mathlib.Omega.{arith}
 use mathlib.Core.Bool.{not}
 use lib.Dec.{T}
-use lib.Ieee.{Float, binary64, ofInt, ofBits, lt, toUnsigned}
+use lib.Ieee.{binary64, ofInt, ofBits, lt}
 use borrow.Author.Needs.{needs}
 use Rattle.ieee.specs.Range.{w64}
 use Rattle.ieee.proofs.Tests.{yes, nope, in-float}

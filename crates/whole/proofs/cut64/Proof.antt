@@ -2,7 +2,6 @@
 use mathlib.Core.Bool.{true}
 use lib.IntN.{pos}
 use lib.Ieee.{fin, binary64, ofInt, ofBits, le}
-use borrow.Author.Needs.{needs}
 use Rattle.ieee.proofs.Tests.{yes, nope}
 use Rattle.ieee.proofs.Value.{le-lt}
 use Rattle.ieee.proofs.Cut.{cut-huge, cut-zero}

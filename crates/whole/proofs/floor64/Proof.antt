@@ -1,5 +1,5 @@
 -- `whole::floor64` meets its contract, by the laws of `proofs/FloorLaws.antt`, one for each way out. Assumes nothing.
-use mathlib.Core.Path.{_≡_, sym, ap, _∙_, subst}
+use mathlib.Core.Path.{ap, _∙_, subst}
 use Prim.Native.Nat.{ℕ, _+_}
 use native.Mathlib.Omega.{arith}
 use mathlib.Core.Bool.{not}

@@ -1,5 +1,5 @@
 -- `exp::narrow::narrowed` meets its contract: by the sign (`proofs/NarrowPlace.antt`). Assumes nothing.
-use mathlib.Core.Path.{_≡_, refl, sym, ap, _∙_, subst}
+use mathlib.Core.Path.{_≡_, sym, ap, _∙_}
 use lib.Ieee.{Float, nan, neg, ofBits, ofInt, div}
 use lib.Ieee.Compare.{differs-from-itself}
 use Rattle.exp.specs.Narrow.{narrow}

@@ -1,5 +1,5 @@
 -- `exp::narrow::rounded` meets its contract (`rounds-to` of `proofs/NarrowPlace.antt`). Assumes nothing.
-use mathlib.Core.Path.{_≡_, refl, sym, ap, _∙_, subst}
+use mathlib.Core.Path.{_≡_, sym, ap, _∙_, subst}
 use mathlib.Core.Bool.{false, cond}
 use Prim.Native.Nat.{ℕ, _<_, _+_, _/_}
 use native.Mathlib.Nat.{lt-trans}

@@ -1,6 +1,5 @@
 -- `exp::power::field_of` meets its contract: the sum is `biased k`, which is no negative number. Assumes nothing.
 use mathlib.Core.Path.{_≡_, sym, ap, _∙_, subst}
-use Prim.Native.Nat.{_<_, _^_}
 use native.Mathlib.Nat.{lt-trans}
 use lib.Dec.{T, lit<}
 use lib.IntN.{ℤ, pos, _+ℤ_, natAbs}

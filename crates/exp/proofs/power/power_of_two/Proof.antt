@@ -1,7 +1,6 @@
 -- `exp::power::power_of_two` meets its contract. A signed argument is handed on as the machine reads it back from its bits, `toZ w64 (ofZ w64 k)`. Assumes nothing.
 use mathlib.Core.Path.{_≡_, sym, ap, _∙_, subst}
 use Prim.Native.Nat.{ℕ, _<_}
-use lib.IntN.{ℤ}
 use lib.Ieee.{minus}
 use mir.Syntax.{w64}
 use mir.Val.{toZ, ofZ}
