@@ -54,12 +54,12 @@ room-in aim air th margin i j k l =
     (over binary32 (less binary32 (lit (w32 0)) (plus binary32 (less binary32 (less binary32 (plus binary32 (var 0) (var 1)) (var 2)) (var 3)) (lit (fin false 1 (negsuc 0))))) (lit (fin false 1 (negsuc 1)))) (neg (w32 2802)) (w32 2798)
     (more i (more j (more k (more l none)))) tt
 
--- w * s + (1 - w) * prior, of score, for a weight from 0 to 2 (`weight-in`): crude, and enough to know that it is finite
-pub blend-in : (w s prior : Float) → In (w32 0) (w32 2) w → In (w32 0) (w32 1) s → In (w32 0) (w32 1) prior → In (neg (w32 1)) (w32 3) (add binary32 (mul binary32 w s) (mul binary32 (sub binary32 (w32 1) w) prior))
-unfolding le lt neg add sub mul ofInt ofBits
+-- w * s + (1 - w) * prior, of score, for a weight as `weight-in` has it: crude, and enough to know that it is finite
+pub blend-in : (w s prior : Float) → In (w32 0) (w32 1) w → In (w32 0) (w32 1) s → In (w32 0) (w32 1) prior → In (w32 0) (w32 2) (add binary32 (mul binary32 w s) (mul binary32 (sub binary32 (w32 1) w) prior))
+unfolding le lt add sub mul ofInt
 blend-in w s prior i j k =
-    within ((w32 0, w32 2) ∷ (w32 0, w32 1) ∷ (w32 0, w32 1) ∷ []) (w ∷ s ∷ prior ∷ [])
-    (plus binary32 (times binary32 (var 0) (var 1)) (times binary32 (less binary32 (lit (w32 1)) (var 0)) (var 2))) (neg (w32 1)) (w32 3)
+    within ((w32 0, w32 1) ∷ (w32 0, w32 1) ∷ (w32 0, w32 1) ∷ []) (w ∷ s ∷ prior ∷ [])
+    (plus binary32 (times binary32 (var 0) (var 1)) (times binary32 (less binary32 (lit (w32 1)) (var 0)) (var 2))) (w32 0) (w32 2)
     (more i (more j (more k none))) tt
 
 -- (max_burst - (one - frame)) / max(frame, 0.001), frame = two - one, of level_rate
