@@ -1,11 +1,11 @@
 -- What the tests of the code pick: `minF` and `maxF` by one law, `absF` by the sign. Assumes nothing.
 use mathlib.Core.Path.{_≡_, refl, sym, ap, _∙_}
-use mathlib.Core.Bool.{Bool, true, false, not, _||_, cond, true≢false, false≢true}
+use mathlib.Core.Bool.{Bool, true, false, _||_, cond, true≢false, false≢true}
 use Prim.Native.Nat.{ℕ, zero, suc, _*_, _<_}
 use native.Mathlib.Nat.{mul-pos, zero-lt-suc}
 use native.Mathlib.Omega.{arith}
 use lib.Dec.{T, ltb→lt, eqb, eqb→eq}
-use lib.IntN.{ℤ, pos}
+use lib.IntN.{ℤ}
 use lib.Ieee.{Float, nan, inf, fin, Format, up, down, lt, eq, ne, neg, fits, isNan}
 use lib.Ieee.Bits.{is-true}
 use lib.Ieee.Fits.{up-pos, and-l}

@@ -1,5 +1,5 @@
 -- Rust's `min`, `max`, `clamp` and `abs` of floats. Definitions only.
-use mathlib.Core.Bool.{Bool, true, false, cond}
+use mathlib.Core.Bool.{false, cond}
 use lib.Ieee.{Float, nan, inf, fin, lt, isNan}
 
 -- the smaller; where one is not a number, the other (IEEE 754-2019, 9.6, minimumNumber). Of two zeros the first: Rust leaves that open

@@ -1,6 +1,6 @@
 // The gear's own numbers: a burst's duration, a burst's loss, a level's share.
 ghost use mathlib.Core.Path.{_≡_};
-ghost use Prim.Native.Nat.{_<_, _≤_};
+ghost use Prim.Native.Nat.{_≤_};
 ghost use Rattle.float.specs.Gear.{duration as durationOf, lossOf, share as shareOf};
 
 // pre + bits / rate, each operation rounded once.

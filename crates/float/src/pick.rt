@@ -20,22 +20,22 @@ pub fn max64(x: f64, y: f64) -> f64
     x
 }
 
-pub fn min32(x: f32, y: f32) -> f32
-    ensures { λ r. ⌜ r ≡ minF x y ⌝ }
+pub fn min32(a: f32, b: f32) -> f32
+    ensures { λ r. ⌜ r ≡ minF a b ⌝ }
 {
-    if (x != x) | (y < x) {
-        return y;
+    if (a != a) | (b < a) {
+        return b;
     }
-    x
+    a
 }
 
-pub fn max32(x: f32, y: f32) -> f32
-    ensures { λ r. ⌜ r ≡ maxF x y ⌝ }
+pub fn max32(a: f32, b: f32) -> f32
+    ensures { λ r. ⌜ r ≡ maxF a b ⌝ }
 {
-    if (x != x) | (x < y) {
-        return y;
+    if (a != a) | (a < b) {
+        return b;
     }
-    x
+    a
 }
 
 pub fn clamp64(x: f64, lo: f64, hi: f64) -> f64

@@ -1,5 +1,4 @@
 -- What lies in a range, added, subtracted, multiplied and divided, lies in the range that the ends give. Assumes nothing.
-use mathlib.Core.Path.{_≡_, refl, sym, ap, _∙_, subst}
 use lib.Dec.{T}
 use mathlib.Core.Bool.{not}
 use lib.Ieee.{Float, Format, le, add, sub, mul, div, isNan}

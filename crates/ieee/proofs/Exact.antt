@@ -1,9 +1,8 @@
 -- `Is z p n d`: z is finite, and its value is exactly (p - n) / d, a zero's sign apart. Where the format holds the fraction, its rounding is it; and so x - y is exact for y ≤ x ≤ 2 y. Assumes nothing.
-use mathlib.Core.Path.{_≡_, refl, sym, ap, _∙_, subst}
-use mathlib.Core.Logic.{_⊎_, inl, inr}
-use Prim.Native.Nat.{ℕ, zero, suc, _+_, _-_, _*_, _/_, _%_, _^_, _≤_, _<_}
+use mathlib.Core.Path.{_≡_, refl, sym, ap, _∙_}
+use Prim.Native.Nat.{ℕ, zero, suc, _+_, _-_, _*_, _^_, _≤_, _<_}
 use native.Mathlib.Nat
-use native.Mathlib.Nat.{le-trans, le-of-eq, le-of-lt, add-mul, mul-assoc, le-antisymm, le-of-mul-le-mul-right, mul-le-mul-right, mul-pos, eq-of-mul-eq-mul-right, lt-of-le-of-lt, lt-of-lt-of-le}
+use native.Mathlib.Nat.{le-trans, le-of-eq, le-of-lt, add-mul, mul-assoc, le-antisymm, le-of-mul-le-mul-right, mul-le-mul-right, mul-pos, eq-of-mul-eq-mul-right, lt-of-le-of-lt}
 use native.Mathlib.Omega.{arith}
 use mathlib.Core.Bool.{Bool, true, false, not}
 use lib.Dec.{T, leb, leb→le, nleb→lt}
@@ -14,9 +13,9 @@ use lib.Ieee.Fits.{down-pos}
 use lib.Ieee.Exact.{HasValue, round-exact}
 use lib.Ieee.Scale.{finite}
 use lib.Ieee.Positive.{den, den-pos, positive}
-use Rattle.ieee.proofs.Value.{P, N, Under, le→Le, finite-between}
+use Rattle.ieee.proofs.Value.{P, N, le→Le, finite-between}
 use Rattle.ieee.proofs.Rounds.{Rounds, plus-of, rounds-mono, rounds-same, sub-rounds}
-use Rattle.ieee.proofs.Representable.{own-rounds, fits-parts, units-of}
+use Rattle.ieee.proofs.Representable.{fits-parts, units-of}
 
 abbrev pub Is : Float → ℕ → ℕ → ℕ → Type 0
 Is z p n d = T (finite z) × (P z * d + n * den z ≡ p * den z + N z * d)

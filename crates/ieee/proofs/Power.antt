@@ -1,14 +1,14 @@
 -- The pattern of 2 ^ k: the exponent's field k + 1023, and no digits. Assumes nothing.
 use mathlib.Core.Path.{_≡_, refl, sym, ap, _∙_, subst}
-use Prim.Native.Nat.{ℕ, zero, suc, _+_, _-_, _*_, _/_, _%_, _^_, _≤_, _<_}
+use Prim.Native.Nat.{ℕ, zero, suc, _+_, _-_, _*_, _/_, _%_, _≤_, _<_}
 use native.Mathlib.Nat.{mod-eq-of-lt, mul-div-cancel, mul-mod-left, zero-lt-suc, lt-irrefl}
 use native.Mathlib.Omega.{arith}
 use mathlib.Core.Bool.{Bool, true, false, not, cond}
 use lib.Dec.{T, leb, ltb, eqb, leb→le, nleb→lt, le→leb, eqb→eq, not-T}
 use lib.Arith.{lt→nleb, le→nltb}
-use lib.IntN.{ℤ, pos, negsuc, _+ℤ_, natAbs}
-use lib.Signed.{leZ, nonNeg, mag}
-use lib.Ieee.{Float, nan, inf, fin, binary64, minus, odd, ofFields, ofBits, nanBits, isNan}
+use lib.IntN.{ℤ, pos, negsuc, _+ℤ_}
+use lib.Signed.{leZ}
+use lib.Ieee.{inf, fin, binary64, minus, odd, ofFields, ofBits, nanBits, isNan}
 use lib.Ieee.Bits.{is-true, is-false, cond-no, nanBits-is}
 use Rattle.ieee.specs.Power.{power, biased}
 

@@ -1,9 +1,9 @@
 -- Two values that a format holds, of one sign and one size, are the same value. So a value that the format holds is its own rounding. Assumes nothing.
 use mathlib.Core.Path.{_≡_, refl, sym, ap, _∙_, subst}
-use Prim.Native.Nat.{ℕ, zero, suc, _+_, _-_, _*_, _/_, _%_, _^_, _≤_, _<_}
+use Prim.Native.Nat.{ℕ, zero, suc, _+_, _-_, _*_, _%_, _^_, _≤_, _<_}
 use native.Mathlib.Nat.{le-of-suc-le-suc, lt-of-not-le, mul-lt-mul-of-pos-right, lt-of-mul-lt-mul-right, mul-one, mul-assoc, mul-left-comm, mul-right-comm, mul-comm, pow-suc, pow-succ', eq-of-mul-eq-mul-right, zero-lt-suc, lt-of-lt-of-le, lt-irrefl, mul-pos, zero-mul, one-mul}
 use native.Mathlib.Omega.{arith}
-use mathlib.Core.Bool.{Bool, true, false, not, _&&_}
+use mathlib.Core.Bool.{Bool, true, false, _&&_}
 use lib.Dec.{T, ltb, leb, eqb, eqb→eq, ltb→lt, leb→le}
 use lib.IntN.{ℤ, pos, negsuc}
 use lib.Pow.{pow-add, pow-pos, pow-lt}

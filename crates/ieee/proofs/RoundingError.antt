@@ -1,18 +1,18 @@
 -- How far a rounding to binary64 can be from its fraction: for a fraction of at most 2047 either way, at most 2 ^ -42. The multiples of 2 ^ -42 up to there are values of the format,
 -- so the rounding lies between the two that the fraction lies between. Assumes nothing.
 use mathlib.Core.Path.{_≡_, refl, sym, ap, _∙_, subst}
-use Prim.Native.Nat.{ℕ, zero, suc, _+_, _-_, _*_, _/_, _^_, _≤_, _<_}
-use native.Mathlib.Nat.{mul-assoc, lt-of-lt-of-le, le-of-mul-le-mul-right, mul-le-mul-right, mul-pos, div-mul-le-self, lt-div-mul-add, lt-of-le-of-lt, mul-lt-mul-of-pos-right, add-sub-of-le}
+use Prim.Native.Nat.{ℕ, _+_, _-_, _*_, _/_, _^_, _≤_, _<_}
+use native.Mathlib.Nat.{mul-assoc, lt-of-lt-of-le, le-of-mul-le-mul-right, mul-le-mul-right, div-mul-le-self, lt-div-mul-add, mul-lt-mul-of-pos-right, add-sub-of-le}
 use native.Mathlib.Omega.{arith}
-use mathlib.Core.Bool.{Bool, true, false, not}
-use lib.Dec.{T, lit<, lit≤}
-use lib.Pow.{pow-pos, pow-add}
+use mathlib.Core.Bool.{true, false}
+use lib.Dec.{T, lit≤}
+use lib.Pow.{pow-pos}
 use lib.Ieee.{Float, nan, inf, fin, binary64, round, le, neg}
 use lib.Ieee.Fits.{round-fits}
-use lib.Ieee.Exact.{HasValue, round-exact}
+use lib.Ieee.Exact.{round-exact}
 use lib.Ieee.Scale.{finite}
 use lib.Ieee.Positive.{den, den-pos}
-use Rattle.ieee.proofs.Value.{P, N, Under, le→Le, finite-between}
+use Rattle.ieee.proofs.Value.{P, N, le→Le, finite-between}
 use Rattle.ieee.proofs.Rounds.{Rounds, plus, minus, plus-of, round-neg, neg-finite, neg-parts}
 use Rattle.ieee.proofs.Representable.{rounds-le, rounds-ge}
 use Rattle.ieee.proofs.Exact.{Is, is-of-value}

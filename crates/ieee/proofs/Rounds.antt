@@ -1,19 +1,18 @@
 -- `Rounds f z p n d`: z is the signed fraction (p - n) / d, rounded once to the format f. Each operation on finite values is such a rounding of its exact result,
 -- and a larger fraction rounds to a value that is no smaller, whatever the signs. Assumes nothing.
-use mathlib.Core.Path.{_≡_, refl, sym, ap, _∙_, subst}
-use mathlib.Core.Logic.{_⊎_, inl, inr}
+use mathlib.Core.Path.{_≡_, refl, ap, _∙_, subst}
 use Prim.Native.Nat.{ℕ, zero, suc, _+_, _-_, _*_, _/_, _%_, _^_, _≤_, _<_, compare}
-use native.Mathlib.Nat.{mul-comm, le-antisymm, add-sub-of-le, eq-or-lt-of-le, le-of-mul-le-mul-right, mul-le-mul-right, mul-pos}
+use native.Mathlib.Nat.{mul-comm, le-antisymm, add-sub-of-le, le-of-mul-le-mul-right, mul-le-mul-right, mul-pos}
 use native.Mathlib.Omega.{arith}
-use mathlib.Core.Bool.{Bool, true, false, not, _&&_, _||_, Bool·beq, cond}
-use lib.Dec.{T, ltb, eqb, eqb→eq, eqb-refl, ltb→lt, lt→ltb, nltb→le}
-use lib.IntN.{ℤ, pos, negsuc}
-use lib.Ieee.{binary32, binary64, Float, nan, inf, fin, Format, prec, emax, low, up, down, size, nearest, lt, eq, le, neg, unlike, odd, units, round, sum, add, sub, mul, div, ofInt, isNan}
-use lib.Ieee.Fits.{up-pos, down-pos, round-is}
+use mathlib.Core.Bool.{Bool, true, false, not, cond}
+use lib.Dec.{T, ltb, eqb, eqb→eq, ltb→lt, nltb→le}
+use lib.IntN.{pos}
+use lib.Ieee.{binary32, binary64, Float, nan, inf, fin, Format, prec, emax, low, up, down, size, nearest, le, neg, odd, units, round, sum, add, sub, mul, div, ofInt}
+use lib.Ieee.Fits.{up-pos}
 use lib.Ieee.Order.{round-mono}
 use lib.Ieee.Scale.{finite, round-same}
-use lib.Ieee.Positive.{positive, den, den-pos}
-use Rattle.ieee.proofs.Value.{part, P, N, Under, Le, le-neg, le-trans}
+use lib.Ieee.Positive.{positive, den}
+use Rattle.ieee.proofs.Value.{P, N, Under, le-neg, le-trans}
 
 pub data Rounds (f : Format) (z : Float) (p n d : ℕ) : Type 0 where
   plus : n ≤ p → z ≡ round f false (p - n) d → Rounds f z p n d

@@ -1,20 +1,19 @@
 -- A value of binary64 as a sign and a size, a whole number of 2 ^ -1074: what the operations of `reduced` do to sizes. Assumes nothing.
-use mathlib.Core.Path.{_≡_, refl, sym, ap, _∙_, subst}
-use Prim.Native.Nat.{ℕ, zero, suc, _+_, _-_, _*_, _/_, _^_, _≤_, _<_, min}
-use native.Mathlib.Nat.{le-of-mul-le-mul-right, mul-le-mul-right, mul-pos, eq-of-mul-eq-mul-right, div-mul-le-self, lt-div-mul-add, zero-lt-suc}
+use mathlib.Core.Path.{_≡_, refl, sym, ap, subst}
+use Prim.Native.Nat.{ℕ, suc, _+_, _*_, _/_, _^_, _≤_, _<_}
+use native.Mathlib.Nat.{le-of-mul-le-mul-right, mul-le-mul-right, mul-pos, div-mul-le-self, lt-div-mul-add}
 use native.Mathlib.Omega.{arith}
 use mathlib.Core.Bool.{Bool, true, false, not, cond, true≢false, false≢true}
 use lib.Dec.{T}
 use lib.Pow.{pow-pos}
-use lib.IntN.{ℤ, pos, negsuc}
-use lib.Ieee.{Float, nan, inf, fin, binary64, up, down, round, sum, add, sub, mul, neg, unlike, fits}
+use lib.IntN.{ℤ, negsuc}
+use lib.Ieee.{Float, nan, inf, fin, binary64, up, down, round, sum, add, mul, neg}
 use lib.Ieee.Fits.{down-pos}
 use lib.Ieee.Exact.{HasValue}
 use lib.Ieee.Scale.{finite, round-same, round-val, round-under, grid}
 use lib.Ieee.Positive.{den, den-pos}
 use Rattle.ieee.proofs.Value.{P, N}
-use Rattle.ieee.proofs.Rounds.{Rounds, plus-of, minus-of, round-neg, neg-finite}
-use Rattle.ieee.proofs.Representable.{units-of}
+use Rattle.ieee.proofs.Rounds.{plus-of, minus-of, round-neg}
 use Rattle.ieee.proofs.RoundingError.{tick, near}
 
 abbrev pub K : ℕ

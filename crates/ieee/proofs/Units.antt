@@ -1,17 +1,16 @@
 -- Values above zero as whole numbers of the format's smallest value, 2 ^ -low: sums, differences and roundings. Assumes nothing.
 use mathlib.Core.Path.{_≡_, refl, sym, ap, _∙_, subst}
-use Prim.Native.Nat.{ℕ, zero, suc, _+_, _-_, _*_, _/_, _%_, _^_, _≤_, _<_, compare, Ordering, Ordering·lt, Ordering·eq, Ordering·gt}
+use Prim.Native.Nat.{ℕ, suc, _+_, _-_, _*_, _/_, _%_, _^_, _≤_, _<_, compare, Ordering, Ordering·lt, Ordering·eq, Ordering·gt}
 use native.Mathlib.Nat
-use native.Mathlib.Nat.{le-trans, le-antisymm, lt-of-lt-of-le, mul-div-cancel, mul-pos, mul-comm, mul-assoc, add-mul-div-right, add-mul-mod-self-right, div-lt-iff-lt-mul, lt-irrefl, not-le-of-lt, le-of-eq, le-of-mul-le-mul-right, mul-le-mul-right, eq-of-mul-eq-mul-right}
+use native.Mathlib.Nat.{le-antisymm, lt-of-lt-of-le, mul-div-cancel, mul-pos, mul-assoc, add-mul-div-right, add-mul-mod-self-right, div-lt-iff-lt-mul, not-le-of-lt, le-of-mul-le-mul-right, mul-le-mul-right, eq-of-mul-eq-mul-right}
 use native.Mathlib.Omega.{arith}
-use mathlib.Core.Bool.{Bool, true, false, not, cond, true≢false}
+use mathlib.Core.Bool.{Bool, true, false, cond, true≢false}
 use lib.Dec.{T, ltb, ltb→lt}
 use lib.Pow.{pow-add, pow-pos, pow-mono, shr-lt}
-use lib.IntN.{ℤ}
-use lib.Ieee.{Float, nan, inf, fin, Format, prec, emax, low, up, down, size, nearest, round, units, sum, add, sub, neg, fits}
-use lib.Ieee.Digits.{size-lt, size-le, size-reaches}
+use lib.Ieee.{Float, nan, inf, fin, Format, prec, low, up, down, size, nearest, round, units, sum, add, sub, fits}
+use lib.Ieee.Digits.{size-lt, size-le}
 use lib.Ieee.Fits.{round-is, down-pos}
-use lib.Ieee.Exact.{HasValue, units-val}
+use lib.Ieee.Exact.{HasValue}
 use lib.Ieee.Nearest.{closest, closest-same}
 use lib.Ieee.Scale.{round-same}
 use Rattle.ieee.proofs.Representable.{unique}

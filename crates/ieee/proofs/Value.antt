@@ -1,14 +1,15 @@
 -- A finite value as the signed fraction (`P` - `N`) / `den`, and the order of two finite values as one inequality of natural numbers. Assumes nothing.
-use mathlib.Core.Path.{_≡_, refl, sym, ap, _∙_, subst}
+use mathlib.Core.Path.{_≡_, refl, sym, ap, subst}
 use mathlib.Core.Logic.{_⊎_, inl, inr}
 use Prim.Native.Nat.{ℕ, _+_, _*_, _≤_, _<_}
-use native.Mathlib.Nat.{eq-or-lt-of-le, le-of-mul-le-mul-right, mul-le-mul-right, mul-pos}
+use native.Mathlib.Nat.{eq-or-lt-of-le, le-of-mul-le-mul-right, mul-le-mul-right}
 use native.Mathlib.Omega.{arith}
-use mathlib.Core.Bool.{Bool, true, false, not, _&&_, _||_}
+use mathlib.Core.Bool.{Bool, true, false, not, _&&_, _||_, Bool·beq}
 use lib.Dec.{T, ltb, eqb, eqb→eq, eqb-refl, ltb→lt, lt→ltb, nltb→le}
-use lib.IntN.{ℤ, pos}
-use lib.Ieee.{Float, nan, inf, fin, up, down, lt, eq, le, ne, neg, below, level, isNan}
+use lib.IntN.{pos}
+use lib.Ieee.{Float, nan, inf, fin, up, down, lt, eq, le, ne, neg, level, isNan}
 use lib.Ieee.Bits.{is-true}
+use lib.Ieee.Fits.{and-l, and-r}
 use lib.Ieee.Scale.{finite}
 use lib.Ieee.Positive.{den, den-pos}
 
@@ -304,3 +305,24 @@ le-antisym x y h k = go (lt x y) (eq x y) h (λ t. lt-not-le x y t k)
 pub eq→le : (x y : Float) → T (eq x y) → T (le x y)
 unfolding le
 eq→le x y h = or-r (lt x y) (eq x y) h
+
+beq-comm : (s t : Bool) → Bool·beq s t ≡ Bool·beq t s
+beq-comm true true = refl
+beq-comm true false = refl
+beq-comm false true = refl
+beq-comm false false = refl
+
+pub eq-sym : (x y : Float) → T (eq x y) → T (eq y x)
+unfolding eq
+eq-sym nan y h = absurd h
+eq-sym (inf s) nan h = absurd h
+eq-sym (inf s) (inf t) h = subst T (beq-comm s t) h
+eq-sym (inf s) (fin t n d) h = absurd h
+eq-sym (fin s m e) nan h = absurd h
+eq-sym (fin s m e) (inf t) h = absurd h
+eq-sym (fin s m e) (fin t n d) h = go (m * up e * down d) (n * up d * down e) h
+  where
+    go : (a b : ℕ) → T (level s a t b) → T (level t b s a)
+    go a b h =
+        subst (λ (z : ℕ). T (level t z s a)) (eqb→eq a b (and-l (eqb a b) (Bool·beq s t || eqb a 0) h))
+        (and-yes (eqb a a) (Bool·beq t s || eqb a 0) (eqb-refl a) (subst (λ (c : Bool). T (c || eqb a 0)) (beq-comm s t) (and-r (eqb a b) (Bool·beq s t || eqb a 0) h)))

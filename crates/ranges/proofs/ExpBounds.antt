@@ -1,31 +1,34 @@
--- `E` is never negative and never a NaN, unless x is; and for x ≤ 0 it is at most 2. Assumes nothing.
-use mathlib.Core.Path.{_≡_, refl, sym, ap, _∙_, subst}
-use mathlib.Core.List.{List, [], _∷_}
+-- `E` is never negative and never a NaN, unless x is; and for x ≤ 0 it is at most 1. Assumes nothing.
+use mathlib.Core.Path.{_≡_, refl, sym, subst}
+use mathlib.Core.List.{[], _∷_}
 use Prim.Native.Nat.{ℕ, zero, suc, _+_, _-_, _*_, _/_, _^_, _≤_, _<_, min}
-use native.Mathlib.Nat.{mul-pos, zero-lt-suc, div-eq-of-lt}
+use native.Mathlib.Nat.{mul-pos, div-eq-of-lt}
 use native.Mathlib.Omega.{arith}
 use mathlib.Core.Bool.{Bool, true, false, not, cond}
 use lib.Dec.{T, leb→le}
-use lib.Pow.{pow-pos}
+use lib.Pow.{pow-mono}
 use lib.IntN.{ℤ, pos, negsuc, negℤ}
 use lib.Signed.{leZ}
-use lib.Ieee.{Float, nan, inf, fin, Format, binary32, binary64, up, down, round, le, lt, neg, add, sub, mul, div, fits, ofInt, ofBits, toSigned, isNan}
+use lib.Ieee.{Float, nan, inf, fin, binary32, binary64, up, down, round, le, lt, neg, add, sub, mul, div, fits, ofInt, ofBits, toSigned, isNan}
 use lib.Ieee.Fits.{down-pos, fits-widens}
 use lib.Ieee.Scale.{finite}
 use lib.Ieee.Positive.{den, den-pos, above-of-le}
-use Rattle.ieee.specs.Range.{In, w32, w64}
+use Rattle.ieee.specs.Range.{In, w64}
 use Rattle.ieee.specs.Power.{power}
-use Rattle.float.specs.Exp.{horner, shifted, reduced, E}
-use Rattle.float.specs.Exp
-use Rattle.float.specs.Narrow.{narrow}
-use Rattle.ieee.proofs.Value.{P, N, Under, le→Le, Le→le, le-trans, le-refl, le-neg, le-lt, lt-not-le, not-lt→le, inf-most, le-no-nan, finite-no-nan}
-use Rattle.ieee.proofs.Rounds.{Rounds, plus-of, minus-of, add-rounds, mul-rounds, div-rounds, round-neg, P-pos}
+use Rattle.exp.specs.Exp.{horner, shifted, reduced, E}
+use Rattle.exp.specs.Narrow.{narrow}
+use Rattle.ieee.proofs.Value.{P, N, Under, le→Le, Le→le, le-trans, le-neg, lt-not-le, not-lt→le, le-no-nan}
+use Rattle.ieee.proofs.Rounds.{add-rounds, mul-rounds, div-rounds, round-neg, P-pos}
 use Rattle.ieee.proofs.Representable.{rounds-le, rounds-ge, zero-exp}
 use Rattle.ieee.proofs.Mono.{null, not-negative, mul-mono, whole-mono}
-use Rattle.ieee.proofs.Bounds.{in-finite, in-wider}
-use Rattle.ranges.proofs.Intervals.{Ex, var, lit, plus, less, times, over, Known, none, more, within}
-use Rattle.float.proofs.ExpLaws.{lo, hi, log2e, half, shifted-in, cut-in, E-low, E-high, E-within}
+use Rattle.ieee.proofs.Bounds.{in-finite}
+use Rattle.ranges.proofs.Intervals.{Ex, var, lit, plus, less, times, none, more, within}
+use Rattle.exp.proofs.ExpLaws.{lo, hi, log2e, half, shifted-in, cut-in, E-low, E-high, E-within}
+use Rattle.ranges.proofs.NarrowBounds.{narrow-in, narrow-ge}
 use Rattle.ranges.proofs.ExpRest.{least, greatest, y-in}
+
+abbrev one : Float
+one = fin false 1 (pos 0)
 
 abbrev minus-half : Float
 minus-half = fin true 1 (negsuc 0)
@@ -128,7 +131,7 @@ E-ge x F n =
 pub E-no-nan : (x : Float) → T (fits binary64 x) → T (not (isNan x)) → T (not (isNan (E x)))
 E-no-nan x F n = le-no-nan (w64 0) (E x) (E-ge x F n) .1
 
--- ---- for x ≤ 0 it is at most 2
+-- ---- for x ≤ 0 it is at most 1
 -- u ≤ 1/2: its whole part is not above zero
 low-cut : (u : Float) → T (finite u) → T (le u plus-half) → T (leZ (toSigned 63 u) (pos 0))
 unfolding toSigned
@@ -144,25 +147,47 @@ low-cut (fin false m e) f h = subst (λ (q : ℕ). T (leZ (pos (min q (2 ^ 63 - 
     go : (a d : ℕ) → 0 < d → a * 2 + 0 * d ≤ 1 * d + 0 * 2 → a < d
     go a d D h = omega arith
 
-power-le : (k : ℤ) → T (leZ k (pos 0)) → T (le (power k) (w64 1))
+zero-is : w64 0 ≡ null
 unfolding ofInt
-power-le (pos zero) h = unfold le in tt
-power-le (pos (suc n)) h = absurd (no n (leb→le (suc n) 0 h))
+zero-is = refl
+
+-- k below zero: 2 ^ k is a half at most
+power-half : (n : ℕ) → T (le (power (negsuc n)) plus-half)
+power-half n = Le→le (power (negsuc n)) plus-half tt tt (go (2 ^ suc n) (pow-mono {i = 1} {j = suc n} (omega arith)))
+  where
+    go : (p : ℕ) → 2 ≤ p → 1 * 2 + 0 * p ≤ 1 * p + 0 * 2
+    go p h = omega arith
+
+half-product : (h : Float) (n : ℕ) → In quarter seven-quarters h → T (le (mul binary64 h (power (negsuc n))) (w64 1))
+unfolding ofInt
+half-product h n i =
+    let H = in-finite {lo = quarter} {hi = seven-quarters} {x = h} tt tt i in
+    le-trans (mul binary64 h (power (negsuc n))) (mul binary64 h plus-half) (w64 1)
+    (mul-mono binary64 h (power (negsuc n)) plus-half H tt tt (le-trans null quarter h (unfold le in tt) (i .low)) (power-half n))
+    (within ((quarter, seven-quarters) ∷ []) (h ∷ []) (times binary64 (var 0) (lit plus-half)) (w64 0) (w64 1) (more i none) (unfold le lt mul in tt) .high)
+
+-- k = 0: what is left of x is x, so not above zero, and the last step of the sum adds nothing to 1
+zero-in : (x : Float) → In (neg (w64 708)) (w64 0) x → In (neg (w64 708)) (w64 0) (reduced x (w64 0))
+unfolding le lt neg sub mul ofInt ofBits
+zero-in x i =
+    within ((neg (w64 708), w64 0) ∷ []) (x ∷ [])
+    (less binary64 (less binary64 (var 0) (times binary64 (lit (w64 0)) (lit (ofBits binary64 0x3fe6_2e42_fee0_0000)))) (times binary64 (lit (w64 0)) (lit (ofBits binary64 0x3dea_39ef_3579_3c76)))) (neg (w64 708)) (w64 0) (more i none) tt
+
+horner-low : (r : Float) → In minus-half null r → In quarter (w64 1) (horner r)
+unfolding horner tree next one-over
+horner-low r i = within ((minus-half, null) ∷ []) (r ∷ []) tree quarter (w64 1) (more i none) (unfold le lt add mul div ofInt in tt)
+
+whole-product : (h : Float) → In quarter (w64 1) h → T (le (mul binary64 h (power (pos 0))) (w64 1))
+unfolding ofInt
+whole-product h i = within ((quarter, w64 1) ∷ []) (h ∷ []) (times binary64 (var 0) (lit (power (pos 0)))) (w64 0) (w64 1) (more i none) (unfold le lt mul in tt) .high
+
+below-one : (x : Float) (k : ℤ) → In (neg (w64 708)) (w64 0) x → T (leZ k (pos 0)) → In minus-half plus-half (reduced x (ofInt binary64 k)) → T (le (mul binary64 (horner (reduced x (ofInt binary64 k))) (power k)) (w64 1))
+below-one x (pos zero) j l i = whole-product (horner (reduced x (w64 0))) (horner-low (reduced x (w64 0)) (record { low = i .low; high = subst (λ (z : Float). T (le (reduced x (w64 0)) z)) zero-is (zero-in x j .high) }))
+below-one x (pos (suc n)) j l i = absurd (no n (leb→le (suc n) 0 l))
   where
     no : (n : ℕ) → suc n ≤ 0 → ⊥
     no n h = omega arith
-power-le (negsuc n) h = Le→le (fin false 1 (negsuc n)) (w64 1) tt tt (go (2 ^ suc n) (pow-pos (suc n)))
-  where
-    go : (p : ℕ) → 0 < p → 1 * 1 + 0 * p ≤ 1 * p + 0 * 1
-    go p h = omega arith
-
-below-two : (h : Float) (k : ℤ) → In quarter seven-quarters h → T (leZ k (pos 0)) → T (le (mul binary64 h (power k)) (w64 2))
-unfolding ofInt
-below-two h k i l =
-    let H = in-finite {lo = quarter} {hi = seven-quarters} {x = h} tt tt i in
-    le-trans (mul binary64 h (power k)) (mul binary64 h (w64 1)) (w64 2)
-    (mul-mono binary64 h (power k) (w64 1) H tt tt (le-trans null quarter h (unfold le in tt) (i .low)) (power-le k l))
-    (within ((quarter, seven-quarters) ∷ []) (h ∷ []) (times binary64 (var 0) (lit (w64 1))) (w64 0) (w64 2) (more i none) (unfold le lt mul in tt) .high)
+below-one x (negsuc n) j l i = half-product (horner (reduced x (ofInt binary64 (negsuc n)))) n (horner-in (reduced x (ofInt binary64 (negsuc n))) i)
 
 shifted-le : (x : Float) → In (neg (w64 708)) (w64 0) x → T (le (shifted x) plus-half)
 unfolding le lt neg add sub mul ofInt ofBits
@@ -172,55 +197,29 @@ shifted-le x i = go (lt x (w64 0))
     go true = within ((neg (w64 708), w64 0) ∷ []) (x ∷ []) (less binary64 (times binary64 (var 0) (lit log2e)) (lit half)) lo plus-half (more i none) tt .high
     go false = within ((neg (w64 708), w64 0) ∷ []) (x ∷ []) (plus binary64 (times binary64 (var 0) (lit log2e)) (lit half)) lo plus-half (more i none) tt .high
 
-pub E-le : (x : Float) → T (fits binary64 x) → T (le x (w64 0)) → T (le (E x) (w64 2))
+pub E-le : (x : Float) → T (fits binary64 x) → T (le x (w64 0)) → T (le (E x) (w64 1))
 E-le x F h =
     let n = le-no-nan x (w64 0) h .0 in
-    split (lt x (neg (w64 708))) (λ a. subst (λ (z : Float). T (le z (w64 2))) (E-low x a) (unfold le ofInt in tt))
+    split (lt x (neg (w64 708))) (λ a. subst (λ (z : Float). T (le z (w64 1))) (E-low x a) (unfold le ofInt in tt))
     (λ a. split (lt (w64 709) x) (λ b. absurd (lt-not-le (w64 709) x b (le-trans x (w64 0) (w64 709) h (unfold le ofInt in tt))))
     (λ b.
     let i = in-of-tests x n a b in
     let j : In (neg (w64 708)) (w64 0) x = record { low = i .low; high = h } in
     let u = in-finite {lo = lo} {hi = hi} {x = shifted x} tt tt (shifted-in x i) in
-    subst (λ (z : Float). T (le z (w64 2))) (E-within x a b) (below-two (horner (reduced x (K x))) (toSigned 63 (shifted x)) (horner-in (reduced x (K x)) (rest-in x F i)) (low-cut (shifted x) u (shifted-le x j)))))
+    subst (λ (z : Float). T (le z (w64 1))) (E-within x a b) (below-one x (toSigned 63 (shifted x)) j (low-cut (shifted x) u (shifted-le x j)) (rest-in x F i))))
 
--- ---- narrowed: the rounding of the same value to binary32
-pub narrow-rounds : (x : Float) → T (finite x) → Rounds binary32 (narrow x) (P x) (N x) (den x)
-unfolding narrow
-narrow-rounds nan f = absurd f
-narrow-rounds (inf s) f = absurd f
-narrow-rounds (fin true m e) f = minus-of binary32 _ _ _ _ (m * up e) (omega arith) refl
-narrow-rounds (fin false m e) f = plus-of binary32 _ _ _ _ (m * up e) (omega arith) refl
-
--- so it keeps a range whose ends an f32 holds
-pub narrow-in : (lo hi x : Float) → T (finite lo) → T (finite hi) → T (fits binary32 lo) → T (fits binary32 hi) → In lo hi x → In lo hi (narrow x)
-narrow-in lo hi x A B F G i =
-    let X = in-finite A B i in
-    record {
-      low = rounds-ge binary32 (narrow x) lo (P x) (N x) (den x) (den-pos x) A F (narrow-rounds x X) (le→Le lo x A X (i .low));
-      high = rounds-le binary32 (narrow x) hi (P x) (N x) (den x) (den-pos x) B G (narrow-rounds x X) (le→Le x hi X B (i .high));
-    }
-
--- the weight of an old success: exp of what is not above zero, as an f32
-abbrev two : Float
-two = fin false 1 (pos 1)
-
-zero-is : w64 0 ≡ null
+-- ---- as an f32
+one-is : w64 1 ≡ one
 unfolding ofInt
-zero-is = refl
+one-is = refl
 
-two-is : w64 2 ≡ two
-unfolding ofInt
-two-is = refl
-
-pub weight-in : (x : Float) → T (fits binary64 x) → T (le x (w64 0)) → In null two (narrow (E x))
+-- the weight of an old success: exp of what is not above zero
+pub weight-in : (x : Float) → T (fits binary64 x) → T (le x (w64 0)) → In null one (narrow (E x))
 weight-in x F h =
-    narrow-in null two (E x) tt tt (unfold fits in tt) (unfold fits in tt)
-    (record { low = subst (λ (z : Float). T (le z (E x))) zero-is (E-ge x F (le-no-nan x (w64 0) h .0)); high = subst (λ (z : Float). T (le (E x) z)) two-is (E-le x F h) })
+    narrow-in null one (E x) tt tt (unfold fits in tt) (unfold fits in tt)
+    (record { low = subst (λ (z : Float). T (le z (E x))) zero-is (E-ge x F (le-no-nan x (w64 0) h .0)); high = subst (λ (z : Float). T (le (E x) z)) one-is (E-le x F h) })
 
 -- 1 / (1 + e), for an e of `E32`, which may be an infinity
-abbrev one : Float
-one = fin false 1 (pos 0)
-
 more-than-one : (e : Float) → T (le null e) → T (le one (add binary32 one e))
 unfolding le add
 more-than-one nan h = absurd h
@@ -257,13 +256,5 @@ pub prior-in : (e : Float) → T (le null e) → In null one (div binary32 one (
 prior-in e h = one-over-in (add binary32 one e) (more-than-one e h)
 
 -- exp of an f32 is not negative
-pub narrow-ge : (y : Float) → T (le null y) → T (le null (narrow y))
-unfolding le narrow
-narrow-ge nan h = absurd h
-narrow-ge (inf true) h = absurd h
-narrow-ge (inf false) h = tt
-narrow-ge (fin s m e) h =
-    rounds-ge binary32 (narrow (fin s m e)) null (P (fin s m e)) (N (fin s m e)) (down e) (down-pos e) tt (unfold fits in tt) (narrow-rounds (fin s m e) tt) (le→Le null (fin s m e) tt tt h)
-
 pub E32-ge : (x : Float) → T (fits binary32 x) → T (not (isNan x)) → T (le null (narrow (E x)))
 E32-ge x F n = narrow-ge (E x) (subst (λ (z : Float). T (le z (E x))) zero-is (E-ge x (fits-widens x F) n))

@@ -1,28 +1,28 @@
 -- What is left of x after k ln 2 is taken off is at most a half either way. Sizes are whole numbers of 2 ^ -1074, which is written 1 / (2 * J). Assumes nothing.
 use mathlib.Core.Path.{_≡_, refl, sym, ap, _∙_, subst}
 use Prim.Native.Nat.{ℕ, zero, suc, _+_, _-_, _*_, _/_, _^_, _≤_, _<_, min}
-use native.Mathlib.Nat.{le-of-mul-le-mul-right, mul-le-mul-right, mul-pos, div-mul-le-self, lt-div-mul-add, lt-of-mul-lt-mul-right, mul-lt-mul-of-pos-right, zero-lt-suc, le-of-suc-le-suc, lt-of-le-of-lt}
+use native.Mathlib.Nat.{le-of-mul-le-mul-right, mul-le-mul-right, mul-pos, lt-of-mul-lt-mul-right, zero-lt-suc, le-of-suc-le-suc, lt-of-le-of-lt}
 use native.Mathlib.Omega.{arith}
-use mathlib.Core.Bool.{Bool, true, false, not, cond, true≢false, false≢true}
+use mathlib.Core.Bool.{Bool, true, false, cond, true≢false, false≢true}
 use lib.Dec.{T, lit<, lit≤}
 use lib.Pow.{pow-pos}
 use lib.IntN.{ℤ, pos, negsuc, negℤ}
 use borrow.Author.Tests.{lt-ltb, le-ltb}
-use lib.Ieee.{Float, nan, inf, fin, binary64, up, down, round, le, lt, neg, add, sub, mul, fits, ofInt, ofBits, toSigned}
-use lib.Ieee.Fits.{down-pos, up-pos, mul-fits}
+use lib.Ieee.{Float, nan, inf, fin, binary64, up, down, round, lt, neg, add, sub, mul, fits, ofInt, ofBits, toSigned}
+use lib.Ieee.Fits.{down-pos, up-pos}
 use lib.Ieee.Exact.{HasValue}
 use lib.Ieee.Scale.{finite}
 use lib.Ieee.Positive.{den, den-pos}
 use lib.Ieee.Back.{round-whole}
 use Rattle.ieee.specs.Range.{In, w64}
-use Rattle.float.specs.Exp.{shifted, reduced}
-use Rattle.ieee.proofs.Value.{P, N, Under, le→Le}
+use Rattle.exp.specs.Exp.{shifted}
+use Rattle.ieee.proofs.Value.{P, N, le→Le}
 use Rattle.ieee.proofs.Rounds.{Rounds, plus-of, minus-of, rounds-same, sub-rounds}
-use Rattle.ieee.proofs.Representable.{units-of, rounds-le, rounds-ge, zero-exp}
+use Rattle.ieee.proofs.Representable.{units-of, rounds-le, rounds-ge}
 use Rattle.ieee.proofs.Bounds.{in-finite}
-use Rattle.ieee.proofs.Exact.{Is, is-of-value}
+use Rattle.ieee.proofs.Exact.{Is}
 use Rattle.ieee.proofs.Units.{rescale}
-use Rattle.float.proofs.ExpLaws.{lo, hi, t-in, log2e, half, shifted-in, cut-in}
+use Rattle.exp.proofs.ExpLaws.{lo, hi, t-in, log2e, half, shifted-in}
 use Rattle.ieee.proofs.RoundingError.{tick, near}
 use Rattle.ieee.proofs.Sizes.{near-size, mul-size, sum-size, cut-size, round-size}
 

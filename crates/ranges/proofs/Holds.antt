@@ -1,26 +1,26 @@
 -- The hold: from n = 20 on it is the cap, and it never passes the cap. Assumes nothing.
-use mathlib.Core.Path.{_≡_, refl, sym, ap, _∙_, subst}
-use Prim.Native.Nat.{ℕ, _+_, _-_, _*_, _^_, _≤_, _<_}
+use mathlib.Core.Path.{_≡_, refl, ap, _∙_}
+use Prim.Native.Nat.{ℕ, _+_, _*_, _^_, _≤_}
 use native.Mathlib.Nat.{mul-pos, mul-le-mul}
 use native.Mathlib.Omega.{arith}
-use mathlib.Core.Bool.{Bool, true, false, not, cond}
+use mathlib.Core.Bool.{Bool, cond}
 use lib.Dec.{T}
-use lib.Pow.{pow-mono, pow-pos}
+use lib.Pow.{pow-mono}
 use lib.IntN.{pos}
-use lib.Ieee.{Float, fin, binary64, minus, le, lt, mul, fits, ofInt, isNan}
+use lib.Ieee.{Float, binary64, le, lt, mul, fits, ofInt, isNan}
 use lib.Ieee.Bits.{is-true}
 use lib.Ieee.Scale.{finite}
 use lib.Ieee.Positive.{den, den-pos}
 use Rattle.ieee.specs.Range.{In, w64}
 use Rattle.ieee.specs.Power.{power}
-use Rattle.float.specs.Hold.{holdOf}
+use Rattle.float.specs.Pick.{minF}
+use Rattle.exp.specs.Hold.{holdOf}
 use Rattle.ieee.proofs.Value.{P, N, Under, le→Le, le-lt, lt-le, le-trans, le-no-nan, finite-no-nan}
 use Rattle.ieee.proofs.Rounds.{mul-rounds}
 use Rattle.ieee.proofs.Representable.{rounds-ge}
 use Rattle.ieee.proofs.Mono.{null, not-negative}
 use Rattle.ieee.proofs.Bounds.{in-finite}
-use Rattle.ranges.proofs.MinMax.{min-le, either}
-use Rattle.ieee.proofs.Power.{minus-ge}
+use Rattle.ranges.proofs.MinMax.{min-le, min-is, min-keeps}
 
 module _ (first cap : Float) (i : In (w64 1) (w64 100000) first) (j : In (w64 0) (w64 1000000) cap) where
   F : T (finite first)
@@ -48,7 +48,8 @@ module _ (first cap : Float) (i : In (w64 1) (w64 100000) first) (j : In (w64 0)
   unfolding ofInt
   hold-capped n h =
       let y = mul binary64 first (power (pos n)) in
-      ap (λ (b : Bool). cond b cap y)
+      min-is y cap (le-no-nan (power (pos 20)) y (grown 20 n h tt (unfold fits in tt)) .1)
+      ∙ ap (λ (b : Bool). cond b cap y)
       (is-true (lt cap y) (le-lt cap (w64 1000000) y (j .high) (lt-le (w64 1000000) (power (pos 20)) y (unfold lt in tt) (grown 20 n h tt (unfold fits in tt)))))
 
   -- and the hold is in the cap's range
@@ -59,15 +60,15 @@ module _ (first cap : Float) (i : In (w64 1) (w64 100000) first) (j : In (w64 0)
       let g = grown 0 n (omega arith) tt (unfold fits in tt) in
       let y-ge = le-trans (w64 0) (power (pos 0)) y (unfold le in tt) g in
       record {
-        low = either (λ (z : Float). T (le (w64 0) z)) (lt cap y) cap y (j .low) y-ge;
+        low = min-keeps (λ (z : Float). T (le (w64 0) z)) y cap y-ge (j .low);
         high = min-le y cap (le-no-nan (w64 0) y y-ge .1) (finite-no-nan cap C) .1;
       }
 
 -- 30 s, the third failure
 third : holdOf (w64 30) 2 (w64 1000000) ≡ w64 120
-unfolding ofInt mul lt
+unfolding minF isNan ofInt mul lt
 third = refl
 
 third-capped : holdOf (w64 30) 2 (w64 100) ≡ w64 100
-unfolding ofInt mul lt
+unfolding minF isNan ofInt mul lt
 third-capped = refl

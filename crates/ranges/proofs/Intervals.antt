@@ -1,106 +1,53 @@
 -- Ranges by computation. An expression over values in known ranges, of +, -, *, /, min and max, lies in the range that `span` computes from the ends, of any signs, where `ok` computes to true:
 -- every end on the way is finite, and every divisor's range is above zero. A fact on an expression is then `sound` at its tree, and `tt`. Assumes nothing.
-use mathlib.Core.Path.{_≡_, refl, sym, ap, _∙_, subst}
+use mathlib.Core.Path.{_≡_, sym, subst}
 use mathlib.Core.Logic.{_⊎_, inl, inr}
 use mathlib.Core.List.{List, [], _∷_}
-use Prim.Native.Nat.{ℕ, zero, suc, _+_, _*_, _≤_, _<_}
-use native.Mathlib.Nat.{mul-le-mul-right, mul-pos}
-use native.Mathlib.Omega.{arith}
-use mathlib.Core.Bool.{Bool, true, false, not, _&&_, cond}
+use Prim.Native.Nat.{ℕ, zero, suc}
+use mathlib.Core.Bool.{Bool, not, _&&_}
 use lib.Dec.{T}
-use lib.IntN.{pos}
-use lib.Ieee.{Float, nan, inf, fin, Format, le, lt, neg, add, sub, mul, div, isNan}
+use lib.Ieee.{Float, Format, le, lt, add, sub, mul, div, isNan}
 use lib.Ieee.Fits.{and-l, and-r}
 use lib.Ieee.Scale.{finite}
-use lib.Ieee.Positive.{den, den-pos, positive, between}
+use lib.Ieee.Positive.{positive, between}
 use Rattle.ieee.specs.Range.{In}
 use Rattle.float.specs.Pick.{minF, maxF}
-use Rattle.ieee.proofs.Value.{P, N, Under, le→Le, le-refl, le-trans, le-no-nan, finite-no-nan}
-use Rattle.ieee.proofs.Rounds.{rounds-mono, mul-rounds, div-rounds, P-pos}
-use Rattle.ieee.proofs.Mono.{null, mul-comm, div-mono}
+use Rattle.ieee.proofs.Value.{P, N, le-refl, le-trans, le-no-nan, finite-no-nan}
+use Rattle.ieee.proofs.Mono.{null, one-sign, mul-up, mul-down, mul-comm, div-mono, div-up, div-down}
 use Rattle.ieee.proofs.Bounds.{in-finite, add-in, sub-in}
-use Rattle.ranges.proofs.MinMax.{either, min-le, max-ge}
-
--- ---- one factor fixed: up where it is not negative, down where it is not positive
-one-sign : (x : Float) → (N x ≡ 0) ⊎ (P x ≡ 0)
-one-sign nan = inl refl
-one-sign (inf s) = inl refl
-one-sign (fin true m e) = inr refl
-one-sign (fin false m e) = inl refl
-
-module _ (f : Format) (c x x' : Float) (C : T (finite c)) (X : T (finite x)) (X' : T (finite x')) (h : T (le x x')) where
-  mul-up : N c ≡ 0 → T (le (mul f c x) (mul f c x'))
-  mul-up e =
-      rounds-mono f (mul f c x) (mul f c x') _ _ _ _ _ _ (mul-pos (den-pos c) (den-pos x)) (mul-pos (den-pos c) (den-pos x')) (mul-rounds f c x C X) (mul-rounds f c x' C X')
-      (go (P c) (N c) (den c) (P x) (N x) (den x) (P x') (N x') (den x') e (le→Le x x' X X' h))
-    where
-      go : (w z b p n d q m k : ℕ) → z ≡ 0 → Under p n d q m k → Under (w * p + z * n) (w * n + z * p) (b * d) (w * q + z * m) (w * m + z * q) (b * k)
-      go w z b p n d q m k e h = rw e (omega (arith, mul-le-mul-right (w * b) h))
-
-  mul-down : P c ≡ 0 → T (le (mul f c x') (mul f c x))
-  mul-down e =
-      rounds-mono f (mul f c x') (mul f c x) _ _ _ _ _ _ (mul-pos (den-pos c) (den-pos x')) (mul-pos (den-pos c) (den-pos x)) (mul-rounds f c x' C X') (mul-rounds f c x C X)
-      (go (P c) (N c) (den c) (P x) (N x) (den x) (P x') (N x') (den x') e (le→Le x x' X X' h))
-    where
-      go : (w z b p n d q m k : ℕ) → w ≡ 0 → Under p n d q m k → Under (w * q + z * m) (w * m + z * q) (b * k) (w * p + z * n) (w * n + z * p) (b * d)
-      go w z b p n d q m k e h = rw e (omega (arith, mul-le-mul-right (z * b) h))
-
-module _ (f : Format) (x y y' : Float) (X : T (finite x)) (Y : T (positive y)) (Y' : T (positive y')) (h : T (le y y')) where
-  cross : P y * den y' ≤ P y' * den y
-  cross =
-      let k = P-pos y Y in
-      let k' = P-pos y' Y' in
-      go (P y) (N y) (den y) (P y') (N y') (den y') (k .1) (k' .1) (le→Le y y' (k .2) (k' .2) h)
-    where
-      go : (p n d q m c : ℕ) → n ≡ 0 → m ≡ 0 → Under p n d q m c → p * c ≤ q * d
-      go p n d q m c a b h = omega (arith, h, ap (λ (z : ℕ). z * c) a, ap (λ (z : ℕ). z * d) b)
-
-  div-down : N x ≡ 0 → T (le (div f x y') (div f x y))
-  div-down e =
-      rounds-mono f (div f x y') (div f x y) _ _ _ _ _ _ (mul-pos (den-pos x) (P-pos y' Y' .0)) (mul-pos (den-pos x) (P-pos y Y .0)) (div-rounds f x y' X Y') (div-rounds f x y X Y)
-      (go (P x) (N x) (den x) (P y) (den y) (P y') (den y') e cross)
-    where
-      go : (w z b p d q c : ℕ) → z ≡ 0 → p * c ≤ q * d → Under (w * c) (z * c) (b * q) (w * d) (z * d) (b * p)
-      go w z b p d q c e h = rw e (omega (arith, mul-le-mul-right (w * b) h))
-
-  div-up : P x ≡ 0 → T (le (div f x y) (div f x y'))
-  div-up e =
-      rounds-mono f (div f x y) (div f x y') _ _ _ _ _ _ (mul-pos (den-pos x) (P-pos y Y .0)) (mul-pos (den-pos x) (P-pos y' Y' .0)) (div-rounds f x y X Y) (div-rounds f x y' X Y')
-      (go (P x) (N x) (den x) (P y) (den y) (P y') (den y') e cross)
-    where
-      go : (w z b p d q c : ℕ) → w ≡ 0 → p * c ≤ q * d → Under (w * d) (z * d) (b * p) (w * c) (z * c) (b * q)
-      go w z b p d q c e h = rw e (omega (arith, mul-le-mul-right (z * b) h))
+use Rattle.laws.proofs.Picks.{either}
+use Rattle.ranges.proofs.MinMax.{lower, upper, lower-le, upper-ge, min-is, max-is}
 
 -- ---- between two values, whichever is the smaller
 module _ (p q z : Float) (A : T (not (isNan p))) (B : T (not (isNan q))) where
-  up-in : T (le p z) → T (le z q) → In (minF p q) (maxF p q) z
-  up-in h k = record { low = le-trans (minF p q) p z (min-le p q A B .0) h; high = le-trans z q (maxF p q) k (max-ge p q A B .1) }
+  up-in : T (le p z) → T (le z q) → In (lower p q) (upper p q) z
+  up-in h k = record { low = le-trans (lower p q) p z (lower-le p q A B .0) h; high = le-trans z q (upper p q) k (upper-ge p q A B .1) }
 
-  down-in : T (le q z) → T (le z p) → In (minF p q) (maxF p q) z
-  down-in h k = record { low = le-trans (minF p q) q z (min-le p q A B .1) h; high = le-trans z p (maxF p q) k (max-ge p q A B .0) }
+  down-in : T (le q z) → T (le z p) → In (lower p q) (upper p q) z
+  down-in h k = record { low = le-trans (lower p q) q z (lower-le p q A B .1) h; high = le-trans z p (upper p q) k (upper-ge p q A B .0) }
 
-min-mono : (p q p' q' : Float) → T (not (isNan p)) → T (not (isNan q)) → T (le p p') → T (le q q') → T (le (minF p q) (minF p' q'))
-min-mono p q p' q' A B h k = either (λ (z : Float). T (le (minF p q) z)) (lt q' p') q' p' (le-trans (minF p q) q q' (min-le p q A B .1) k) (le-trans (minF p q) p p' (min-le p q A B .0) h)
+min-mono : (p q p' q' : Float) → T (not (isNan p)) → T (not (isNan q)) → T (le p p') → T (le q q') → T (le (lower p q) (lower p' q'))
+min-mono p q p' q' A B h k = either (λ (z : Float). T (le (lower p q) z)) (lt q' p') q' p' (le-trans (lower p q) q q' (lower-le p q A B .1) k) (le-trans (lower p q) p p' (lower-le p q A B .0) h)
 
-max-mono : (p q p' q' : Float) → T (not (isNan p')) → T (not (isNan q')) → T (le p p') → T (le q q') → T (le (maxF p q) (maxF p' q'))
-max-mono p q p' q' A B h k = either (λ (z : Float). T (le z (maxF p' q'))) (lt p q) q p (le-trans q q' (maxF p' q') k (max-ge p' q' A B .1)) (le-trans p p' (maxF p' q') h (max-ge p' q' A B .0))
+max-mono : (p q p' q' : Float) → T (not (isNan p')) → T (not (isNan q')) → T (le p p') → T (le q q') → T (le (upper p q) (upper p' q'))
+max-mono p q p' q' A B h k = either (λ (z : Float). T (le z (upper p' q'))) (lt p q) q p (le-trans q q' (upper p' q') k (upper-ge p' q' A B .1)) (le-trans p p' (upper p' q') h (upper-ge p' q' A B .0))
 
 module _ (f : Format) (c lo hi y : Float) (C : T (finite c)) (A : T (finite lo)) (B : T (finite hi)) (i : In lo hi y) (p : T (not (isNan (mul f c lo)))) (q : T (not (isNan (mul f c hi)))) where
-  scaled-in : In (minF (mul f c lo) (mul f c hi)) (maxF (mul f c lo) (mul f c hi)) (mul f c y)
+  scaled-in : In (lower (mul f c lo) (mul f c hi)) (upper (mul f c lo) (mul f c hi)) (mul f c y)
   scaled-in = go (one-sign c)
     where
       Y : T (finite y)
       Y = in-finite A B i
 
-      go : (N c ≡ 0) ⊎ (P c ≡ 0) → In (minF (mul f c lo) (mul f c hi)) (maxF (mul f c lo) (mul f c hi)) (mul f c y)
+      go : (N c ≡ 0) ⊎ (P c ≡ 0) → In (lower (mul f c lo) (mul f c hi)) (upper (mul f c lo) (mul f c hi)) (mul f c y)
       go (inl e) = up-in (mul f c lo) (mul f c hi) (mul f c y) p q (mul-up f c lo y C A Y (i .low) e) (mul-up f c y hi C Y B (i .high) e)
       go (inr e) = down-in (mul f c lo) (mul f c hi) (mul f c y) p q (mul-down f c y hi C Y B (i .high) e) (mul-down f c lo y C A Y (i .low) e)
 
 abbrev pub low4 : Float → Float → Float → Float → Float
-low4 p q r s = minF (minF p q) (minF r s)
+low4 p q r s = lower (lower p q) (lower r s)
 
 abbrev pub high4 : Float → Float → Float → Float → Float
-high4 p q r s = maxF (maxF p q) (maxF r s)
+high4 p q r s = upper (upper p q) (upper r s)
 
 -- ---- a product, by its four corners
 module _ (f : Format) (a b c d x y : Float) (A : T (finite a)) (B : T (finite b)) (C : T (finite c)) (D : T (finite d)) (i : In a b x) (j : In c d y)
@@ -112,41 +59,41 @@ module _ (f : Format) (a b c d x y : Float) (A : T (finite a)) (B : T (finite b)
       let R' = finite-no-nan (mul f b c) r in
       let S' = finite-no-nan (mul f b d) s in
       let Y = in-finite C D j in
-      let ay : In (minF (mul f a c) (mul f a d)) (maxF (mul f a c) (mul f a d)) (mul f y a) = subst (In (minF (mul f a c) (mul f a d)) (maxF (mul f a c) (mul f a d))) (mul-comm f a y) (scaled-in f a c d y A C D j P' Q') in
-      let by : In (minF (mul f b c) (mul f b d)) (maxF (mul f b c) (mul f b d)) (mul f y b) = subst (In (minF (mul f b c) (mul f b d)) (maxF (mul f b c) (mul f b d))) (mul-comm f b y) (scaled-in f b c d y B C D j R' S') in
-      let n-ay = le-no-nan (minF (mul f a c) (mul f a d)) (mul f y a) (ay .low) in
-      let n-by = le-no-nan (minF (mul f b c) (mul f b d)) (mul f y b) (by .low) in
-      let xy = subst (In (minF (mul f y a) (mul f y b)) (maxF (mul f y a) (mul f y b))) (mul-comm f y x) (scaled-in f y a b x Y A B i (n-ay .1) (n-by .1)) in
+      let ay : In (lower (mul f a c) (mul f a d)) (upper (mul f a c) (mul f a d)) (mul f y a) = subst (In (lower (mul f a c) (mul f a d)) (upper (mul f a c) (mul f a d))) (mul-comm f a y) (scaled-in f a c d y A C D j P' Q') in
+      let by : In (lower (mul f b c) (mul f b d)) (upper (mul f b c) (mul f b d)) (mul f y b) = subst (In (lower (mul f b c) (mul f b d)) (upper (mul f b c) (mul f b d))) (mul-comm f b y) (scaled-in f b c d y B C D j R' S') in
+      let n-ay = le-no-nan (lower (mul f a c) (mul f a d)) (mul f y a) (ay .low) in
+      let n-by = le-no-nan (lower (mul f b c) (mul f b d)) (mul f y b) (by .low) in
+      let xy = subst (In (lower (mul f y a) (mul f y b)) (upper (mul f y a) (mul f y b))) (mul-comm f y x) (scaled-in f y a b x Y A B i (n-ay .1) (n-by .1)) in
       record {
-        low = le-trans (low4 (mul f a c) (mul f a d) (mul f b c) (mul f b d)) (minF (mul f y a) (mul f y b)) (mul f x y)
-            (min-mono (minF (mul f a c) (mul f a d)) (minF (mul f b c) (mul f b d)) (mul f y a) (mul f y b) (n-ay .0) (n-by .0) (ay .low) (by .low)) (xy .low);
-        high = le-trans (mul f x y) (maxF (mul f y a) (mul f y b)) (high4 (mul f a c) (mul f a d) (mul f b c) (mul f b d)) (xy .high)
-            (max-mono (mul f y a) (mul f y b) (maxF (mul f a c) (mul f a d)) (maxF (mul f b c) (mul f b d)) (le-no-nan (mul f y a) (maxF (mul f a c) (mul f a d)) (ay .high) .1) (le-no-nan (mul f y b) (maxF (mul f b c) (mul f b d)) (by .high) .1) (ay .high) (by .high));
+        low = le-trans (low4 (mul f a c) (mul f a d) (mul f b c) (mul f b d)) (lower (mul f y a) (mul f y b)) (mul f x y)
+            (min-mono (lower (mul f a c) (mul f a d)) (lower (mul f b c) (mul f b d)) (mul f y a) (mul f y b) (n-ay .0) (n-by .0) (ay .low) (by .low)) (xy .low);
+        high = le-trans (mul f x y) (upper (mul f y a) (mul f y b)) (high4 (mul f a c) (mul f a d) (mul f b c) (mul f b d)) (xy .high)
+            (max-mono (mul f y a) (mul f y b) (upper (mul f a c) (mul f a d)) (upper (mul f b c) (mul f b d)) (le-no-nan (mul f y a) (upper (mul f a c) (mul f a d)) (ay .high) .1) (le-no-nan (mul f y b) (upper (mul f b c) (mul f b d)) (by .high) .1) (ay .high) (by .high));
       }
 
 -- ---- a quotient by a divisor above zero
 module _ (f : Format) (n c d y : Float) (X : T (finite n)) (C : T (positive c)) (D : T (positive d)) (j : In c d y) (p : T (not (isNan (div f n c)))) (q : T (not (isNan (div f n d)))) where
-  parted-in : In (minF (div f n c) (div f n d)) (maxF (div f n c) (div f n d)) (div f n y)
+  parted-in : In (lower (div f n c) (div f n d)) (upper (div f n c) (div f n d)) (div f n y)
   parted-in = go (one-sign n)
     where
       Y : T (positive y)
       Y = between c y d C D (j .low) (j .high)
 
-      go : (N n ≡ 0) ⊎ (P n ≡ 0) → In (minF (div f n c) (div f n d)) (maxF (div f n c) (div f n d)) (div f n y)
+      go : (N n ≡ 0) ⊎ (P n ≡ 0) → In (lower (div f n c) (div f n d)) (upper (div f n c) (div f n d)) (div f n y)
       go (inl e) = down-in (div f n c) (div f n d) (div f n y) p q (div-down f n y d X Y D (j .high) e) (div-down f n c y X C Y (j .low) e)
       go (inr e) = up-in (div f n c) (div f n d) (div f n y) p q (div-up f n c y X C Y (j .low) e) (div-up f n y d X Y D (j .high) e)
 
 module _ (f : Format) (a b c d x y : Float) (A : T (finite a)) (B : T (finite b)) (C : T (positive c)) (D : T (positive d)) (i : In a b x) (j : In c d y)
     (p : T (finite (div f a c))) (q : T (finite (div f a d))) (r : T (finite (div f b c))) (s : T (finite (div f b d))) where
-  pub quotient-in : In (minF (div f a c) (div f a d)) (maxF (div f b c) (div f b d)) (div f x y)
+  pub quotient-in : In (lower (div f a c) (div f a d)) (upper (div f b c) (div f b d)) (div f x y)
   quotient-in =
       let X = in-finite A B i in
       let Y = between c y d C D (j .low) (j .high) in
       let ay = parted-in f a c d y A C D j (finite-no-nan (div f a c) p) (finite-no-nan (div f a d) q) in
       let by = parted-in f b c d y B C D j (finite-no-nan (div f b c) r) (finite-no-nan (div f b d) s) in
       record {
-        low = le-trans (minF (div f a c) (div f a d)) (div f a y) (div f x y) (ay .low) (div-mono f a x y A X Y (i .low));
-        high = le-trans (div f x y) (div f b y) (maxF (div f b c) (div f b d)) (div-mono f x b y X B Y (i .high)) (by .high);
+        low = le-trans (lower (div f a c) (div f a d)) (div f a y) (div f x y) (ay .low) (div-mono f a x y A X Y (i .low));
+        high = le-trans (div f x y) (div f b y) (upper (div f b c) (div f b d)) (div-mono f x b y X B Y (i .high)) (by .high);
       }
 
 -- ---- expressions
@@ -175,7 +122,7 @@ eval ρ (least a b) = minF (eval ρ a) (eval ρ b)
 eval ρ (most a b) = maxF (eval ρ a) (eval ρ b)
 
 abbrev spanOver : Format → Range → Range → Range
-spanOver f a b = (minF (div f (a .0) (b .0)) (div f (a .0) (b .1)), maxF (div f (a .1) (b .0)) (div f (a .1) (b .1)))
+spanOver f a b = (lower (div f (a .0) (b .0)) (div f (a .0) (b .1)), upper (div f (a .1) (b .0)) (div f (a .1) (b .1)))
 
 abbrev spanTimes : Format → Range → Range → Range
 spanTimes f a b = (low4 (mul f (a .0) (b .0)) (mul f (a .0) (b .1)) (mul f (a .1) (b .0)) (mul f (a .1) (b .1)), high4 (mul f (a .0) (b .0)) (mul f (a .0) (b .1)) (mul f (a .1) (b .0)) (mul f (a .1) (b .1)))
@@ -187,8 +134,8 @@ span R (plus f a b) = (add f (span R a .0) (span R b .0), add f (span R a .1) (s
 span R (less f a b) = (sub f (span R a .0) (span R b .1), sub f (span R a .1) (span R b .0))
 span R (times f a b) = spanTimes f (span R a) (span R b)
 span R (over f a b) = spanOver f (span R a) (span R b)
-span R (least a b) = (minF (span R a .0) (span R b .0), minF (span R a .1) (span R b .1))
-span R (most a b) = (maxF (span R a .0) (span R b .0), maxF (span R a .1) (span R b .1))
+span R (least a b) = (lower (span R a .0) (span R b .0), lower (span R a .1) (span R b .1))
+span R (most a b) = (upper (span R a .0) (span R b .0), upper (span R a .1) (span R b .1))
 
 abbrev ends : Range → Bool
 ends r = finite (r .0) && finite (r .1)
@@ -296,10 +243,11 @@ sound R ρ (least a b) k t =
     let j = sound R ρ b k q in
     let l = le-no-nan (span R a .0) (eval ρ a) (i .low) in
     let m = le-no-nan (span R b .0) (eval ρ b) (j .low) in
-    record {
+    subst (In (span R (least a b) .0) (span R (least a b) .1)) (sym (min-is (eval ρ a) (eval ρ b) (l .1)))
+    (record {
       low = min-mono (span R a .0) (span R b .0) (eval ρ a) (eval ρ b) (l .0) (m .0) (i .low) (j .low);
       high = min-mono (eval ρ a) (eval ρ b) (span R a .1) (span R b .1) (l .1) (m .1) (i .high) (j .high);
-    }
+    })
 sound R ρ (most a b) k t =
     let u = and-l (ok R a && ok R b) (ends (span R (most a b))) t in
     let p = and-l (ok R a) (ok R b) u in
@@ -308,10 +256,11 @@ sound R ρ (most a b) k t =
     let j = sound R ρ b k q in
     let l = le-no-nan (span R a .0) (eval ρ a) (i .low) in
     let m = le-no-nan (span R b .0) (eval ρ b) (j .low) in
-    record {
+    subst (In (span R (most a b) .0) (span R (most a b) .1)) (sym (max-is (eval ρ a) (eval ρ b) (l .1)))
+    (record {
       low = max-mono (span R a .0) (span R b .0) (eval ρ a) (eval ρ b) (l .1) (m .1) (i .low) (j .low);
       high = max-mono (eval ρ a) (eval ρ b) (span R a .1) (span R b .1) (le-no-nan (eval ρ a) (span R a .1) (i .high) .1) (le-no-nan (eval ρ b) (span R b .1) (j .high) .1) (i .high) (j .high);
-    }
+    })
 
 -- in a range that is stated: the ends are compared by computation too
 pub within : (R : List Range) (ρ : List Float) (e : Ex) (lo hi : Float) → Known R ρ → T (ok R e && (le lo (span R e .0) && le (span R e .1) hi)) → In lo hi (eval ρ e)

@@ -1,25 +1,22 @@
 -- The loss 1 - got / sent in f32, for at most 64 frames: its three tests are tests on the whole numbers. Assumes nothing.
-use mathlib.Core.Path.{_≡_, refl, sym, ap, _∙_, subst}
-use Prim.Native.Nat.{ℕ, zero, suc, _+_, _-_, _*_, _^_, _≤_, _<_, zero-le}
-use native.Mathlib.Nat.{mul-pos, lt-of-lt-of-le, zero-lt-suc, mul-le-mul-right}
+use mathlib.Core.Path.{_≡_, refl}
+use Prim.Native.Nat.{ℕ, _+_, _*_, _^_, _≤_, _<_}
+use native.Mathlib.Nat.{mul-pos}
 use native.Mathlib.Omega.{arith}
 use mathlib.Core.Bool.{Bool, true, false, not}
-use lib.Dec.{T, ltb, eqb, lit≤, not-T}
+use lib.Dec.{T, not-T}
 use lib.IntN.{pos, negsuc}
-use lib.Ieee.{Float, nan, inf, fin, Format, binary32, prec, up, down, le, lt, eq, sub, div, fits, round, ofInt, ofBits, isNan}
+use lib.Ieee.{Float, nan, inf, fin, Format, binary32, prec, le, lt, eq, sub, div, fits, ofInt, ofBits, isNan}
 use lib.Ieee.Back.{round-whole}
-use lib.Ieee.Bits.{is-true, is-false}
 use lib.Ieee.Exact.{HasValue}
 use lib.Ieee.Scale.{finite}
-use lib.Ieee.Positive.{den, den-pos, positive, positive-of-value}
-use borrow.Author.Tests.{lt-ltb, le-ltb, eq-eqb, ne-eqb}
+use lib.Ieee.Positive.{den, den-pos, positive-of-value}
 use Rattle.ieee.specs.Range.{In, w32}
 use Rattle.float.specs.Gear.{weight, lossOf, most}
-use Rattle.ieee.proofs.Value.{le-antisym, eq→le, P, N, Under, le-trans, le-refl, lt-not-le, le-lt, lt-le, finite-between, finite-no-nan}
+use Rattle.ieee.proofs.Value.{le-antisym, eq→le, P, N, le-trans, le-refl, lt-not-le, lt-le, finite-between}
 use Rattle.ieee.proofs.Rounds.{Rounds, rounds-same, div-rounds, P-pos}
 use Rattle.ieee.proofs.Representable.{rounds-le, rounds-ge}
 use Rattle.ieee.proofs.Mono.{null, sub-mono}
-use Rattle.ieee.proofs.Exact.{Is, is-of-value}
 
 -- ---- a quotient of two whole numbers is their fraction, rounded once
 value : (f : Format) (n : ℕ) → n ≤ 2 ^ prec f → HasValue (ofInt f (pos n)) false n 1

@@ -1,23 +1,22 @@
 -- A share p + 0.3 * (ok - p) stays in [0, 1] for p and ok in [0, 1], at every f32. Assumes nothing.
-use mathlib.Core.Path.{_≡_, refl, sym, ap, _∙_, subst}
-use mathlib.Core.Logic.{_⊎_, inl, inr}
-use Prim.Native.Nat.{ℕ, _+_, _*_, _≤_, _<_}
-use native.Mathlib.Nat.{mul-le-mul-right, mul-pos, le-of-mul-le-mul-right}
+use mathlib.Core.Path.{_≡_, _∙_}
+use Prim.Native.Nat.{ℕ, _+_, _*_, _≤_}
+use native.Mathlib.Nat.{mul-le-mul-right, mul-pos}
 use native.Mathlib.Omega.{arith}
 use mathlib.Core.Bool.{Bool, true, false, not}
 use lib.Dec.{T}
 use lib.IntN.{pos, negsuc}
-use lib.Ieee.{Float, nan, inf, fin, Format, binary32, up, down, le, lt, neg, add, sub, mul, fits, ofInt, ofBits, isNan}
+use lib.Ieee.{Float, fin, Format, binary32, le, lt, neg, add, sub, mul, fits, ofInt, ofBits, isNan}
 use lib.Ieee.Fits.{sub-fits, neg-fits}
 use lib.Ieee.Scale.{finite}
-use lib.Ieee.Positive.{den, den-pos, positive, between}
+use lib.Ieee.Positive.{den, den-pos, between}
 use Rattle.ieee.specs.Range.{In, w32}
 use Rattle.float.specs.Gear.{weight, share}
-use Rattle.ieee.proofs.Value.{P, N, Under, le→Le, Le→le, le-trans, le-refl, not-lt→le, lt→le, finite-no-nan, finite-between}
+use Rattle.ieee.proofs.Value.{P, N, Under, le→Le, le-trans, le-refl, not-lt→le, lt→le, finite-no-nan, finite-between}
 use Rattle.ieee.proofs.Rounds.{add-rounds, sub-rounds, mul-rounds, neg-finite, neg-parts}
 use Rattle.ieee.proofs.Representable.{rounds-le, rounds-ge}
 use Rattle.ieee.proofs.Mono.{null, not-negative, add-mono, sub-mono, mul-mono}
-use Rattle.ieee.proofs.Bounds.{in-finite, add-in, mul-in, sub-in, in-wider}
+use Rattle.ieee.proofs.Bounds.{in-finite, sub-in}
 use Rattle.ieee.proofs.Exact.{Is, sub-exact}
 
 abbrev pub one : Float

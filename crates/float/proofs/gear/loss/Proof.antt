@@ -7,10 +7,10 @@ use Rattle.float.proofs.gear.loss.Statement.{statement}
 use Rattle.float.proofs.gear.loss.Tie as tie
 
 int-to-float-result : tie.Need-int-to-float-result
-int-to-float-result c = in-float binary32 (c .before .args .got) (omega arith)
+int-to-float-result c = in-float binary32 _ (omega arith)
 
 int-to-float-result-2 : tie.Need-int-to-float-result-2
-int-to-float-result-2 c = in-float binary32 (c .before .before .args .sent) (omega arith)
+int-to-float-result-2 c = in-float binary32 _ (omega arith)
 
 returns : tie.Need-returns
 unfolding ofInt ofBits
