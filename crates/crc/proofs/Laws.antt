@@ -78,7 +78,7 @@ shift-xor a b =
     ap₂ bitXor (xor-half a b) (ap (λ (x : ℕ). x * poly) (xor-odd a b) ∙ times (a % 2) (b % 2) (bit a) (bit b))
     ∙ xor-swap (a / 2) (b / 2) (a % 2 * poly) (b % 2 * poly)
 
-shifts-xor : (n a b : ℕ) → shifts n (bitXor a b) ≡ bitXor (shifts n a) (shifts n b)
+pub shifts-xor : (n a b : ℕ) → shifts n (bitXor a b) ≡ bitXor (shifts n a) (shifts n b)
 unfolding shifts
 shifts-xor zero a b = refl
 shifts-xor (suc n) a b = ap (shifts n) (shift-xor a b) ∙ shifts-xor n (shift a) (shift b)
