@@ -61,14 +61,10 @@ fn head(off: u32, n: usize) -> [u8; 6]
     requires { ⌜ n < 256 ⌝ }
     ensures { λ r. ⌜ r ≡ headOf off n ⌝ }
 {
-    [
-        3,
-        0,
-        (off % 256) as u8,
-        (off / 256 % 256) as u8,
-        (off / 256 / 256 % 256) as u8,
-        n as u8,
-    ]
+    let low = (off % 256) as u8;
+    let middle = (off / 256 % 256) as u8;
+    let high = (off / 256 / 256 % 256) as u8;
+    [3, 0, low, middle, high, n as u8]
 }
 
 // Writes the data frame of `payload` into `out` at `at`. `t` are crc's tables.

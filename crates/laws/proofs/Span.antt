@@ -4,9 +4,10 @@ use mathlib.Core.Path.{_≡_, refl, sym, subst, _∙_}
 use mathlib.Core.Bool.{Bool, true, false}
 use mathlib.Core.List.{List, [], _∷_}
 use Prim.Native.Nat.{ℕ, zero, suc, _+_, _-_, _<_, _≤_}
+use native.Mathlib.Nat.{add-zero, zero-add, sub-zero, not-suc-le-zero, le-of-suc-le-suc}
 use native.Mathlib.Omega.{arith}
 use Rattle.laws.specs.Span.{from, upto, fold, every, first, count, lastOf}
-use Rattle.laws.proofs.Picks.{either}
+use Rattle.laws.proofs.Picks.{either, and-first, and-second}
 
 pub upto-more : (a b : ℕ) → a < b → upto a b ≡ a ∷ upto (a + 1) b
 unfolding upto from
@@ -137,3 +138,14 @@ last-from p (suc j) d a (suc m) n h k = either (λ (x : ℕ). x < n) (p a) (last
 pub last-lt : (p : ℕ → Bool) (j d a n : ℕ) → a ≤ n → d < n → lastOf p j d (upto a n) < n
 unfolding upto
 last-lt p j d a n h k = last-from p j d a (n - a) n (omega arith) k
+
+-- what every one passes, each passes: a rule of all bytes is one computed test
+every-from : (p : ℕ → Bool) (a m k : ℕ) → every p (from a m) ≡ true → k < m → p (a + k) ≡ true
+unfolding every from
+every-from p a zero k t h = absurd (not-suc-le-zero h)
+every-from p a (suc m) zero t h = rw add-zero (and-first (p a) (every p (from (a + 1) m)) t)
+every-from p a (suc m) (suc k) t h = let e : a + suc k ≡ a + 1 + k = omega arith in rw e (every-from p (a + 1) m k (and-second (p a) (every p (from (a + 1) m)) t) (le-of-suc-le-suc h))
+
+pub every-at : (p : ℕ → Bool) (n k : ℕ) → every p (upto 0 n) ≡ true → k < n → p k ≡ true
+unfolding upto
+every-at p n k t h = rw zero-add at (every-from p 0 (n - 0) k t (rw sub-zero h))

@@ -1,8 +1,8 @@
 -- `encode` meets its contract: head, payload, fill and check sum are one run of bytes.
-use Rattle.laws.specs.Bytes.{overwrite}
-use Rattle.frame.proofs.Laws.{room, body-made, frame-made}
 use mathlib.Core.Path.{ap, _∙_}
 use borrow.Author.Needs.{needs}
+use Rattle.laws.specs.Bytes.{overwrite}
+use Rattle.frame.proofs.Laws.{room, body-made, frame-made}
 use Rattle.frame.proofs.encode.Statement.{statement}
 use Rattle.frame.proofs.encode.Tie as tie
 

@@ -1,8 +1,8 @@
 -- `snr_from_q` meets its contract.
-use lib.Ieee.{ofBits, ofInt}
-use Rattle.frame.specs.Report.{snrFromQ}
 use mathlib.Core.Path.{refl}
+use lib.Ieee.{ofBits, ofInt}
 use borrow.Author.Needs.{needs}
+use Rattle.frame.specs.Report.{snrFromQ}
 use Rattle.frame.proofs.snr_from_q.Statement.{statement}
 use Rattle.frame.proofs.snr_from_q.Tie as tie
 

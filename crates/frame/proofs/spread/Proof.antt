@@ -1,10 +1,10 @@
 -- `spread` meets its contract.
-use lib.Ieee.{nan, ofBits, ofInt, div}
-use Rattle.laws.proofs.Picks.{cond-yes, cond-no}
-use borrow.Author.Tests.{eq-eqb, ne-eqb}
-use Rattle.frame.specs.Report.{spreadOf}
 use mathlib.Core.Path.{refl}
+use lib.Ieee.{nan, ofBits, ofInt, div}
+use borrow.Author.Tests.{eq-eqb, ne-eqb}
 use borrow.Author.Needs.{needs}
+use Rattle.laws.proofs.Picks.{cond-yes, cond-no}
+use Rattle.frame.specs.Report.{spreadOf}
 use Rattle.frame.proofs.spread.Statement.{statement}
 use Rattle.frame.proofs.spread.Tie as tie
 

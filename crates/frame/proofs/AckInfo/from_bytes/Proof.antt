@@ -1,18 +1,18 @@
 -- `AckInfo::from_bytes` meets its contract.
 use mathlib.Core.Bool.{Bool, true, false, cond}
+use mathlib.Core.Path.{_≡_, refl, sym, ap, _∙_}
+use mathlib.Core.List.{List}
+use Prim.Native.Nat.{ℕ}
 use denote.Ref.{now}
 use lib.Dec.{leb}
+use lib.ListN.{length}
+use borrow.Author.Tests.{lt-ltb, le-ltb, le-leb, lt-leb}
+use borrow.Author.Needs.{needs}
+use Rattle.laws.proofs.Picks.{cond-yes, cond-no}
 use Rattle.frame.specs.Report.{reportAt}
 use Rattle.frame.specs.Ack.{noReport, ackWith, ackOf}
 use Rattle.frame.specs.declared.AckInfo.{AckInfo}
 use Rattle.frame.specs.declared.AckRead.the-variants.{TooShort, Info}
-use Rattle.laws.proofs.Picks.{cond-yes, cond-no}
-use borrow.Author.Tests.{lt-ltb, le-ltb, le-leb, lt-leb}
-use Prim.Native.Nat.{ℕ}
-use mathlib.Core.Path.{_≡_, refl, sym, ap, _∙_}
-use mathlib.Core.List.{List}
-use lib.ListN.{length}
-use borrow.Author.Needs.{needs}
 use Rattle.frame.proofs.AckInfo.from_bytes.Statement.{statement}
 use Rattle.frame.proofs.AckInfo.from_bytes.Tie as tie
 

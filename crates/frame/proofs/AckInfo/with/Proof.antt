@@ -1,11 +1,10 @@
 -- `AckInfo::with` meets its contract: field by field.
-use denote.Ref.{now}
-use Prim.Native.Nat.{_/_, _%_}
-use Rattle.frame.proofs.Laws.{upper}
-use Prim.Native.Nat.{ℕ}
 use mathlib.Core.Path.{ap, _∙_}
+use Prim.Native.Nat.{_/_, _%_, ℕ}
+use denote.Ref.{now}
 use lib.ListN.{getD}
 use borrow.Author.Needs.{needs}
+use Rattle.frame.proofs.Laws.{upper}
 use Rattle.frame.proofs.AckInfo.with.Statement.{statement}
 use Rattle.frame.proofs.AckInfo.with.Tie as tie
 

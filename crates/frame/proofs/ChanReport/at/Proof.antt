@@ -1,6 +1,6 @@
 -- `ChanReport::at` meets its contract: field by field.
-use Rattle.frame.specs.Report.{reportAt}
 use borrow.Author.Needs.{needs}
+use Rattle.frame.specs.Report.{reportAt}
 use Rattle.frame.proofs.ChanReport.at.Statement.{statement}
 use Rattle.frame.proofs.ChanReport.at.Tie as tie
 

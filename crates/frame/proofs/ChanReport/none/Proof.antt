@@ -1,6 +1,6 @@
 -- `ChanReport::none` meets its contract.
-use lib.Ieee.{ofBits, div}
 use mathlib.Core.Path.{refl}
+use lib.Ieee.{ofBits, div}
 use Rattle.frame.proofs.ChanReport.none.Statement.{statement}
 use Rattle.frame.proofs.ChanReport.none.Tie as tie
 
