@@ -9,3 +9,4 @@ pub mod ExpBounds
 pub mod Durations
 pub mod Losses
 pub mod Holds
+pub mod Reports
