@@ -2,3 +2,4 @@ pub mod Steps
 pub mod Span
 pub mod Bytes
 pub mod Little
+pub mod Lists

@@ -1,0 +1,143 @@
+-- Held pieces stay as they are in a burst; which pieces go, and how many fly when new bytes are taken.
+-- Assumes nothing.
+use Prim.Native.Nat.{ℕ, suc, _+_, _≤_}
+use mathlib.Core.Path.{_≡_, refl, sym, ap, _∙_}
+use mathlib.Core.Bool.{true, false, not, _&&_}
+use mathlib.Core.List.{List, [], _∷_, _++_}
+use native.Mathlib.Omega.{arith}
+use lib.Dec.{eqb, leb}
+use lib.ListN.{length}
+use borrow.Author.Tests.{eqb-false, ne-eqb, not-true}
+use Rattle.laws.specs.Lists.{listed, occurs, one}
+use Rattle.laws.proofs.Picks.{and-first, and-second, by, test}
+use Rattle.laws.proofs.Lists.{unlisted-occurs, listed-occurs, one-other}
+use Rattle.ledger.specs.Ledger.{joins, Piece, end, len, find, mergeFrom, joined, offs, mergeInflight, unheld, sentOffs, Sent, heldOffs, Held, increments, Plan, wholes}
+use Rattle.ledger.specs.Cover.{Ascend}
+use Rattle.ledger.proofs.Offsets.{occurs-once}
+
+module _ (h : List ℕ) where
+  joins-left : (m : ℕ) (p q : Piece) → joins h m p q ≡ true → listed (p .off) h ≡ false
+  joins-left m p q e = not-true (listed (p .off) h) (and-first _ (not (listed (q .off) h)) (and-first _ (eqb (end p) (q .off) && leb (len p + len q) m) e))
+
+  joins-right : (m : ℕ) (p q : Piece) → joins h m p q ≡ true → listed (q .off) h ≡ false
+  joins-right m p q e = not-true (listed (q .off) h) (and-second (not (listed (p .off) h)) _ (and-first _ (eqb (end p) (q .off) && leb (len p + len q) m) e))
+
+  -- neither of two pieces that join is the held one
+  apart-remaining : (m o : ℕ) (p q : Piece) → joins h m p q ≡ true → 1 ≤ occurs o h → eqb o (p .off) ≡ false
+  apart-remaining m o p q e l =
+      let u = unlisted-occurs (p .off) h (joins-left m p q e) in
+      ne-eqb o (p .off) (λ z. let v : 1 ≤ occurs (p .off) h = rw z at l in omega arith)
+
+  apart-right : (m o : ℕ) (p q : Piece) → joins h m p q ≡ true → 1 ≤ occurs o h → eqb o (q .off) ≡ false
+  apart-right m o p q e l =
+      let u = unlisted-occurs (q .off) h (joins-right m p q e) in
+      ne-eqb o (q .off) (λ z. let v : 1 ≤ occurs (q .off) h = rw z at l in omega arith)
+
+  find-mergeFrom : (m o : ℕ) (p : Piece) (qs : List Piece) → 1 ≤ occurs o h → find o (mergeFrom h m p qs) ≡ find o (p ∷ qs)
+  find-mergeFrom m o p [] l = refl
+  find-mergeFrom m o p (q ∷ qs) l =
+      by (λ (r : List Piece). find o r ≡ find o (p ∷ q ∷ qs)) (joins h m p q)
+      (λ e. find-mergeFrom m o (joined p q) qs l ∙ rw (apart-remaining m o p q e l, apart-right m o p q e l))
+      (λ e. rw (find-mergeFrom m o q qs l))
+
+  occurs-mergeFrom : (m o : ℕ) (p : Piece) (qs : List Piece) → 1 ≤ occurs o h → occurs o (offs (mergeFrom h m p qs)) ≡ occurs o (offs (p ∷ qs))
+  occurs-mergeFrom m o p [] l = refl
+  occurs-mergeFrom m o p (q ∷ qs) l =
+      by (λ (r : List Piece). occurs o (offs r) ≡ occurs o (offs (p ∷ q ∷ qs))) (joins h m p q)
+      (λ e.
+      let i = occurs-mergeFrom m o (joined p q) qs l in
+      let z = ap one (apart-right m o p q e l) in
+      omega arith)
+      (λ e. let i = occurs-mergeFrom m o q qs l in omega arith)
+
+  pub find-merge : (m o : ℕ) (ps : List Piece) → 1 ≤ occurs o h → find o (mergeInflight h m ps) ≡ find o ps
+  find-merge m o [] l = refl
+  find-merge m o (p ∷ ps) l = find-mergeFrom m o p ps l
+
+  pub occurs-merge : (m o : ℕ) (ps : List Piece) → 1 ≤ occurs o h → occurs o (offs (mergeInflight h m ps)) ≡ occurs o (offs ps)
+  occurs-merge m o [] l = refl
+  occurs-merge m o (p ∷ ps) l = occurs-mergeFrom m o p ps l
+
+  -- the pieces that are not held
+  occurs-unheld : (o : ℕ) (ps : List Piece) → occurs o (unheld h ps) ≤ occurs o (offs ps)
+  occurs-unheld o [] = omega arith
+  occurs-unheld o (p ∷ ps) =
+      let i = occurs-unheld o ps in
+      by (λ (r : List ℕ). occurs o r ≤ occurs o (offs (p ∷ ps))) (listed (p .off) h) (λ e. omega arith) (λ e. omega arith)
+
+  occurs-unheld-held : (o : ℕ) (ps : List Piece) → 1 ≤ occurs o h → occurs o (unheld h ps) ≡ 0
+  occurs-unheld-held o [] l = refl
+  occurs-unheld-held o (p ∷ ps) l =
+      let i = occurs-unheld-held o ps l in
+      by (λ (r : List ℕ). occurs o r ≡ 0) (listed (p .off) h)
+      (λ e. i)
+      (λ e.
+      let u = unlisted-occurs (p .off) h e in
+      let z = one-other o (p .off) (λ q. let v : 1 ≤ occurs (p .off) h = rw q at l in omega arith) in
+      omega arith)
+
+  -- held and others together are among the pieces
+  pub held-unheld : (o : ℕ) (ps : List Piece) → occurs o h ≤ occurs o (offs ps) → occurs o h + occurs o (unheld h ps) ≤ occurs o (offs ps)
+  held-unheld o ps w =
+      test (listed o h)
+      (λ e. let z = occurs-unheld-held o ps (listed-occurs o h e) in omega arith)
+      (λ e. let z = unlisted-occurs o h e in let i = occurs-unheld o ps in omega arith)
+
+-- one more held offset takes at most one piece from the others
+unheld-more : (x : ℕ) (h : List ℕ) (ps : List Piece) → length (unheld h ps) ≤ length (unheld (x ∷ h) ps) + occurs x (offs ps)
+unheld-more x h [] = omega arith
+unheld-more x h (p ∷ ps) =
+    let i = unheld-more x h ps in
+    by (λ (r : List ℕ). length r ≤ length (unheld (x ∷ h) (p ∷ ps)) + occurs x (offs (p ∷ ps))) (listed (p .off) h)
+    (λ e.
+    let l = listed-occurs (p .off) h e in
+    by (λ (r : List ℕ). length (unheld h ps) ≤ length r + occurs x (offs (p ∷ ps))) (listed (p .off) (x ∷ h)) (λ d. omega arith) (λ d. omega arith))
+    (λ e.
+    let l = unlisted-occurs (p .off) h e in
+    by (λ (r : List ℕ). suc (length (unheld h ps)) ≤ length r + occurs x (offs (p ∷ ps))) (listed (p .off) (x ∷ h))
+    (λ d.
+    let c = listed-occurs (p .off) (x ∷ h) d in
+    test (eqb x (p .off))
+    (λ f. rw f (omega arith))
+    (λ f. let z = one-other (p .off) x (λ q. eqb-false x (p .off) f (sym q)) in omega arith))
+    (λ d. omega arith))
+
+unheld-none : (ps : List Piece) → length (unheld [] ps) ≡ length ps
+unheld-none [] = refl
+unheld-none (p ∷ ps) = rw (unheld-none ps)
+
+-- all pieces are held ones and others
+pub pieces-few : (m k n : ℕ) (h : List ℕ) (ps : List Piece) → Ascend m k n ps → length ps ≤ length (unheld h ps) + length h
+pieces-few m k n [] ps a = omega (arith, unheld-none ps)
+pieces-few m k n (x ∷ h) ps a = omega (arith, pieces-few m k n h ps a, unheld-more x h ps, occurs-once m k n x ps a)
+
+-- which offsets a burst has
+pub sentOffs-append : (xs ys : List Sent) → sentOffs (xs ++ ys) ≡ sentOffs xs ++ sentOffs ys
+sentOffs-append [] ys = refl
+sentOffs-append (x ∷ xs) ys = rw (sentOffs-append xs ys)
+
+pub heldOffs-append : (xs ys : List Held) → heldOffs (xs ++ ys) ≡ heldOffs xs ++ heldOffs ys
+heldOffs-append [] ys = refl
+heldOffs-append (x ∷ xs) ys = rw (heldOffs-append xs ys)
+
+pub sentOffs-increments : (g : Plan) (ps : List Held) → sentOffs (increments g ps) ≡ heldOffs ps
+sentOffs-increments g [] = refl
+sentOffs-increments g (p ∷ ps) = rw (sentOffs-increments g ps)
+
+pub sentOffs-wholes : (g : Plan) (os : List ℕ) → sentOffs (wholes g os) ≡ os
+sentOffs-wholes g [] = refl
+sentOffs-wholes g (o ∷ os) = rw (sentOffs-wholes g os)
+
+pub length-sentOffs : (fs : List Sent) → length (sentOffs fs) ≡ length fs
+length-sentOffs [] = refl
+length-sentOffs (f ∷ fs) = rw (length-sentOffs fs)
+
+pub length-heldOffs : (ps : List Held) → length (heldOffs ps) ≡ length ps
+length-heldOffs [] = refl
+length-heldOffs (p ∷ ps) = rw (length-heldOffs ps)
+
+pub length-unheld : (h : List ℕ) (ps : List Piece) → length (unheld h ps) ≤ length ps
+length-unheld h [] = omega arith
+length-unheld h (p ∷ ps) =
+    let i = length-unheld h ps in
+    by (λ (r : List ℕ). length r ≤ suc (length ps)) (listed (p .off) h) (λ e. omega arith) (λ e. omega arith)
