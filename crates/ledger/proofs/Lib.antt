@@ -6,3 +6,5 @@ pub mod HeldPieces
 pub mod ShortFrames
 pub mod Furthest
 pub mod Settle
+pub mod Agree
+pub mod Burst

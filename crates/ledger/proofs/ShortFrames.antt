@@ -88,14 +88,14 @@ module _ (s : ℕ) (hs : 1 ≤ s) where
       let c = ceil-pos (len p) (a .1) in
       omega arith
 
-  -- 64 pieces of at most 255 bytes
-  pub shortFrames-few : (m k n : ℕ) (ps : List Piece) → 8 ≤ s → m ≤ 255 → Ascend m k n ps → shortFrames s ps ≤ 32 * length ps
-  shortFrames-few m k n [] h8 hm a = omega arith
-  shortFrames-few m k n (p ∷ ps) h8 hm a =
-      let h = shortFrames-few m (end p) n ps h8 hm (a .3) in
-      let c = ceil-least (len p) 32 (omega (arith, a .2)) in
+  -- where c frames carry the longest piece
+  pub shortFrames-few : (c m k n : ℕ) (ps : List Piece) → m ≤ c * s → Ascend m k n ps → shortFrames s ps ≤ c * length ps
+  shortFrames-few c m k n [] h a = omega arith
+  shortFrames-few c m k n (p ∷ ps) h a =
+      let i = shortFrames-few c m (end p) n ps h (a .3) in
+      let e = ceil-least (len p) c (omega (arith, a .2)) in
       omega arith
 
-pub size-few : (m k n : ℕ) (ps : List Piece) → m ≤ 255 → Ascend m k n ps → size ps ≤ 255 * length ps
-size-few m k n [] hm a = omega arith
-size-few m k n (p ∷ ps) hm a = let h = size-few m (end p) n ps hm (a .3) in omega (arith, a .2)
+pub size-few : (m k n : ℕ) (ps : List Piece) → Ascend m k n ps → size ps ≤ m * length ps
+size-few m k n [] a = omega arith
+size-few m k n (p ∷ ps) a = let h = size-few m (end p) n ps (a .3) in omega (arith, a .2)
