@@ -8,3 +8,4 @@ pub mod Furthest
 pub mod Settle
 pub mod Agree
 pub mod Burst
+pub mod Planned
