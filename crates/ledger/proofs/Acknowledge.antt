@@ -36,13 +36,13 @@ blank-none : (o l k i : ℕ) → blank o l k (replicate i none) ≡ replicate i 
 blank-none o l k zero = refl
 blank-none o l k (suc i) = by (λ c. c ∷ blank o l (suc k) (replicate i none) ≡ none ∷ replicate i none) (within o l k) (λ e. rw (blank-none o l (suc k) i)) (λ e. rw (blank-none o l (suc k) i))
 
-within-before : (o l k : ℕ) → k < o → within o l k ≡ false
+pub within-before : (o l k : ℕ) → k < o → within o l k ≡ false
 within-before o l k h = rw (lt-leb o k h)
 
-within-after : (o l k : ℕ) → o + l ≤ k → within o l k ≡ false
+pub within-after : (o l k : ℕ) → o + l ≤ k → within o l k ≡ false
 within-after o l k h = rw (le-ltb k (o + l) h) (and-right (leb o k) false refl)
 
-within-in : (o l k : ℕ) → o ≤ k → k < o + l → within o l k ≡ true
+pub within-in : (o l k : ℕ) → o ≤ k → k < o + l → within o l k ≡ true
 within-in o l k h h′ = rw (le-leb o k h, lt-ltb k (o + l) h′)
 
 blank-before : (o l k : ℕ) (xs : List (Option ℕ)) → k + length xs ≤ o → blank o l k xs ≡ xs

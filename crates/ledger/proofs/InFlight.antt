@@ -18,54 +18,56 @@ use Rattle.ledger.specs.Tally.{Flown, inFlight, acknowledged, byteOf}
 use Rattle.ledger.specs.Cover.{byOffset, flyingByte, Ascend}
 use Rattle.ledger.proofs.Acknowledge.{find-from}
 
-abbrev alive : Option ℕ → ℕ
-alive none = 0
-alive (some b) = 1
+-- 1 where there is a byte
+abbrev pub filled : Option ℕ → ℕ
+filled none = 0
+filled (some b) = 1
 
-abbrev live : List (Option ℕ) → ℕ
-live [] = 0
-live (c ∷ cs) = alive c + live cs
+-- how many bytes there are
+abbrev filledIn : List (Option ℕ) → ℕ
+filledIn [] = 0
+filledIn (c ∷ cs) = filled c + filledIn cs
 
-live-append : (xs ys : List (Option ℕ)) → live (xs ++ ys) ≡ live xs + live ys
-live-append [] ys = omega arith
-live-append (x ∷ xs) ys = let h = live-append xs ys in omega arith
+filledIn-append : (xs ys : List (Option ℕ)) → filledIn (xs ++ ys) ≡ filledIn xs + filledIn ys
+filledIn-append [] ys = omega arith
+filledIn-append (x ∷ xs) ys = let h = filledIn-append xs ys in omega arith
 
-live-none : (n : ℕ) → live (replicate n none) ≡ 0
-live-none zero = refl
-live-none (suc n) = let h = live-none n in omega arith
+filledIn-none : (n : ℕ) → filledIn (replicate n none) ≡ 0
+filledIn-none zero = refl
+filledIn-none (suc n) = let h = filledIn-none n in omega arith
 
-live-some : (bs : List ℕ) → live (map some bs) ≡ length bs
-live-some [] = refl
-live-some (b ∷ bs) = let h = live-some bs in omega arith
+filledIn-some : (bs : List ℕ) → filledIn (map some bs) ≡ length bs
+filledIn-some [] = refl
+filledIn-some (b ∷ bs) = let h = filledIn-some bs in omega arith
 
-live-byOffset : (k n : ℕ) (ps : List Piece) → live (byOffset k n ps) ≡ size ps
-live-byOffset k n [] = live-none (n - k)
-live-byOffset k n (p ∷ ps) =
-    rw (live-append (replicate (p .off - k) none) (map some (p .bytes) ++ byOffset (end p) n ps), live-append (map some (p .bytes)) (byOffset (end p) n ps),
-    live-none (p .off - k), live-some (p .bytes), live-byOffset (end p) n ps) (omega arith)
+filledIn-byOffset : (k n : ℕ) (ps : List Piece) → filledIn (byOffset k n ps) ≡ size ps
+filledIn-byOffset k n [] = filledIn-none (n - k)
+filledIn-byOffset k n (p ∷ ps) =
+    rw (filledIn-append (replicate (p .off - k) none) (map some (p .bytes) ++ byOffset (end p) n ps), filledIn-append (map some (p .bytes)) (byOffset (end p) n ps),
+    filledIn-none (p .off - k), filledIn-some (p .bytes), filledIn-byOffset (end p) n ps) (omega arith)
 
 -- the layout says how many bytes fly
 pub size-byOffset : (k n : ℕ) (ps qs : List Piece) → byOffset k n ps ≡ byOffset k n qs → size ps ≡ size qs
-size-byOffset k n ps qs e = sym (live-byOffset k n ps) ∙ ap live e ∙ live-byOffset k n qs
+size-byOffset k n ps qs e = sym (filledIn-byOffset k n ps) ∙ ap filledIn e ∙ filledIn-byOffset k n qs
 
-alive-flying : (a : Bool) (b : ℕ) → alive (cond a none (some b)) ≡ cond a 0 1
-alive-flying true b = refl
-alive-flying false b = refl
+pub filled-flying : (a : Bool) (b : ℕ) → filled (cond a none (some b)) ≡ cond a 0 1
+filled-flying true b = refl
+filled-flying false b = refl
 
-live-flying : (fl : List Flown) → live (map flyingByte fl) ≡ inFlight fl
-live-flying [] = refl
-live-flying (f ∷ fl) = rw (alive-flying (f .acked) (f .byte), live-flying fl)
+filledIn-flying : (fl : List Flown) → filledIn (map flyingByte fl) ≡ inFlight fl
+filledIn-flying [] = refl
+filledIn-flying (f ∷ fl) = rw (filled-flying (f .acked) (f .byte), filledIn-flying fl)
 
 pub inFlight-size : (n : ℕ) (ps : List Piece) (fl : List Flown) → map flyingByte fl ≡ byOffset 0 n ps → inFlight fl ≡ size ps
-inFlight-size n ps fl e = sym (live-flying fl) ∙ ap live e ∙ live-byOffset 0 n ps
+inFlight-size n ps fl e = sym (filledIn-flying fl) ∙ ap filledIn e ∙ filledIn-byOffset 0 n ps
 
-either : (b : Bool) → cond b 0 1 + cond b 1 0 ≡ 1
-either true = refl
-either false = refl
+one-of-two : (b : Bool) → cond b 0 1 + cond b 1 0 ≡ 1
+one-of-two true = refl
+one-of-two false = refl
 
 pub flown-parts : (fl : List Flown) → inFlight fl + acknowledged fl ≡ length fl
 flown-parts [] = refl
-flown-parts (f ∷ fl) = let h = flown-parts fl in omega (arith, either (f .acked))
+flown-parts (f ∷ fl) = let h = flown-parts fl in omega (arith, one-of-two (f .acked))
 
 -- as many cells as offsets
 length-byOffset : (m k n : ℕ) (ps : List Piece) → Ascend m k n ps → length (byOffset k n ps) + k ≡ n

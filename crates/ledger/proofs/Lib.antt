@@ -9,3 +9,5 @@ pub mod Settle
 pub mod Agree
 pub mod Burst
 pub mod Planned
+pub mod Kept
+pub mod Covers
