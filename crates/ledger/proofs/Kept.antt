@@ -54,7 +54,7 @@ unanswered r n ps (f ∷ fs) fl e =
 
 -- ---- the outstanding burst, counted
 
-out-occurs : (z : Sizes) (s : Sender) → Sound z s → (o : ℕ) → occurs o (sentOffs (s .sent)) + occurs o (heldOffs (s .rest)) ≤ occurs o (offs (s .pieces))
+pub out-occurs : (z : Sizes) (s : Sender) → Sound z s → (o : ℕ) → occurs o (sentOffs (s .sent)) + occurs o (heldOffs (s .rest)) ≤ occurs o (offs (s .pieces))
 out-occurs z s so o =
     omega (arith, flying-within (sentOffs (s .sent) ++ heldOffs (s .rest)) (s .pieces) (so .outFlying) o, occurs-append o (sentOffs (s .sent)) (heldOffs (s .rest)))
 

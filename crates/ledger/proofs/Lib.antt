@@ -11,3 +11,6 @@ pub mod Burst
 pub mod Planned
 pub mod Kept
 pub mod Covers
+pub mod History
+pub mod Refine
+pub mod Theorem
