@@ -14,3 +14,5 @@ pub mod Covers
 pub mod History
 pub mod Refine
 pub mod Theorem
+pub mod Examples
+pub mod Reached
