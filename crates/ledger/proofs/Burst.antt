@@ -88,6 +88,9 @@ module _ (z : Sizes) (zr : SizeRange z) (s : Sender) (g : Plan) (so : Sound z s)
   payload-le : g .payload ≤ z .long
   payload-le = ⊎-elim (λ e. omega (arith, zr .order)) (λ e. omega arith) (fi .payload)
 
+  pub payload-most : g .payload ≤ maxPayload
+  payload-most = omega (arith, payload-le, zr .most)
+
   recut-ascend : Ascend (g .payload) 0 (s .next) (recut g s)
   recut-ascend =
       let a = ascend-split (g .payload) (z .long) 0 (s .next) (s .pieces) (omega (arith, payload-pos)) (so .ascend) in
@@ -162,7 +165,7 @@ module _ (z : Sizes) (zr : SizeRange z) (s : Sender) (g : Plan) (so : Sound z s)
       omega (arith, old-few, new-few, fi .room, length-take (g .room) (unheld (heldOffs (kept g s)) (recut g s)),
       pieces-few (g .payload) 0 (s .next) (heldOffs (kept g s)) (recut g s) recut-ascend, length-heldOffs (kept g s), length-append (recut g s) (newPieces g s))
 
-  recut-size : size (recut g s) ≡ size (s .pieces)
+  pub recut-size : size (recut g s) ≡ size (s .pieces)
   recut-size = size-byOffset 0 (s .next) (recut g s) (s .pieces) recut-byOffset
 
   -- else the pieces are those of before, cut anew

@@ -16,3 +16,4 @@ pub mod Refine
 pub mod Theorem
 pub mod Examples
 pub mod Reached
+pub mod LeftOut

@@ -1,6 +1,7 @@
 pub mod Limits
 pub mod Reply
 pub mod Ledger
+pub mod LeftOut
 pub mod Tally
 pub mod Cover
 pub mod Sound
