@@ -11,8 +11,8 @@ use Rattle.laws.proofs.Picks.{either}
 use Rattle.laws.proofs.Lists.{map-append}
 use Rattle.ledger.specs.Reply.{Reply}
 use Rattle.ledger.specs.Ledger.{Frame}
-use Rattle.ledger.specs.Tally.{unacked, byteOf, acknowledge, Flown, acknowledgeAll, answered, Outstanding, nothing, outstanding, Tally, Event, feed, bytesIn, queued, sentOut, heard, turn, turned, silent, took, reply, went, furthest, start}
-use Rattle.ledger.specs.Calls.{told, tally, history}
+use Rattle.ledger.specs.Tally.{unacked, byteOf, acknowledge, Flown, acknowledgeAll, answered, Outstanding, nothing, outstanding, Tally, Event, feed, bytesIn, queued, sentOut, heard, turned, turn, silent, took, reply, went, furthest, start}
+use Rattle.ledger.specs.Calls.{tally, told, history}
 
 bytes-unacked : (bs : List ℕ) → map byteOf (unacked bs) ≡ bs
 bytes-unacked [] = refl
@@ -34,20 +34,20 @@ bytes-answered r (outstanding n fs) fl =
     either (λ (x : List Flown). map byteOf x ≡ map byteOf fl) (eqb (r .number) n) _ _ (bytes-acknowledgeAll (r .bit (length fs)) 0 fs fl) refl
 
 -- all bytes that the tally has, in order
-abbrev bytesOf : Tally → List ℕ
-bytesOf t = map byteOf (t .flown) ++ t .waiting
+abbrev tallyBytes : Tally → List ℕ
+tallyBytes t = map byteOf (t .flown) ++ t .waiting
 
-fed : (e : Event) (t : Tally) → bytesOf (feed e t) ≡ bytesOf t ++ bytesIn e
+fed : (e : Event) (t : Tally) → tallyBytes (feed e t) ≡ tallyBytes t ++ bytesIn e
 unfolding queued sentOut heard turned
-fed silent t = sym (append-nil (bytesOf t))
+fed silent t = sym (append-nil (tallyBytes t))
 fed (took bs) t = sym (append-assoc (map byteOf (t .flown)) (t .waiting) bs)
-fed (reply r) t = rw (bytes-answered r (t .out) (t .flown)) (sym (append-nil (bytesOf t)))
-fed turn t = sym (append-nil (bytesOf t))
+fed (reply r) t = rw (bytes-answered r (t .out) (t .flown)) (sym (append-nil (tallyBytes t)))
+fed turn t = sym (append-nil (tallyBytes t))
 fed (went n fs) t =
     let k = furthest fs - length (t .flown) in
     rw (map-append byteOf (t .flown) (unacked (take k (t .waiting))), bytes-unacked (take k (t .waiting)),
     append-assoc (map byteOf (t .flown)) (take k (t .waiting)) (drop k (t .waiting)), take-append-drop k (t .waiting))
-    (sym (append-nil (bytesOf t)))
+    (sym (append-nil (tallyBytes t)))
 
 counted : (e : Event) (t : Tally) → feed e t .taken ≡ t .taken + length (bytesIn e)
 unfolding queued sentOut heard turned
@@ -58,10 +58,10 @@ counted turn t = omega arith
 counted (went n fs) t = omega arith
 
 module _ {C I : Type 0} (next : I → C → C) (told : I → C → Event) where
-  fed-all : (is : List I) (c : C) (t : Tally) → bytesOf (tally next told is c t) ≡ bytesOf t ++ history next told is c
-  fed-all [] c t = sym (append-nil (bytesOf t))
+  fed-all : (is : List I) (c : C) (t : Tally) → tallyBytes (tally next told is c t) ≡ tallyBytes t ++ history next told is c
+  fed-all [] c t = sym (append-nil (tallyBytes t))
   fed-all (i ∷ is) c t =
-      fed-all is (next i c) (feed (told i c) t) ∙ rw (fed (told i c) t) (append-assoc (bytesOf t) (bytesIn (told i c)) (history next told is (next i c)))
+      fed-all is (next i c) (feed (told i c) t) ∙ rw (fed (told i c) t) (append-assoc (tallyBytes t) (bytesIn (told i c)) (history next told is (next i c)))
 
   counted-all : (is : List I) (c : C) (t : Tally) → tally next told is c t .taken ≡ t .taken + length (history next told is c)
   counted-all [] c t = omega arith

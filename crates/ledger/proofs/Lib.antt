@@ -11,6 +11,7 @@ pub mod Burst
 pub mod Planned
 pub mod Kept
 pub mod Covers
+pub mod Stream
 pub mod History
 pub mod Refine
 pub mod Theorem

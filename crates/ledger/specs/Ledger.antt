@@ -66,6 +66,11 @@ abbrev pub size : List Piece → ℕ
 size [] = 0
 size (p ∷ ps) = len p + size ps
 
+-- the flying bytes, in offset order
+abbrev pub bytesOf : List Piece → List ℕ
+bytesOf [] = []
+bytesOf (p ∷ ps) = p .bytes ++ bytesOf ps
+
 -- the bytes of the piece at offset o; none where no piece starts there
 abbrev pub find : ℕ → List Piece → List ℕ
 find o [] = []
