@@ -1,4 +1,4 @@
--- Acknowledging a range of offsets: on the tally's side the bytes are marked, on the sender's the piece goes.
+-- A range of offsets is acknowledged: the tally has these bytes acknowledged, and the sender has the piece no more.
 -- Assumes nothing.
 use Prim.Native.Nat.{ℕ, zero, suc, _+_, _-_, _≤_, _<_}
 use mathlib.Core.Path.{_≡_, refl, sym, _∙_}
@@ -14,27 +14,28 @@ use Rattle.laws.proofs.Picks.{by, and-right, test}
 use Rattle.ledger.specs.Ledger.{end, len, find, Piece, remove}
 use Rattle.ledger.specs.Tally.{within, acknowledge, Flown}
 use Rattle.ledger.specs.Cover.{flyingByte, Ascend, byOffset}
-use Rattle.ledger.proofs.Cover.{widen}
+use Rattle.ledger.proofs.Cover.{byOffset-from}
 
-abbrev pub blank : ℕ → ℕ → ℕ → List (Option ℕ) → List (Option ℕ)
-blank o l k [] = []
-blank o l k (c ∷ cs) = cond (within o l k) none c ∷ blank o l (suc k) cs
+-- nothing in flight at the l offsets from o; the list starts at offset k
+abbrev pub cleared : ℕ → ℕ → ℕ → List (Option ℕ) → List (Option ℕ)
+cleared o l k [] = []
+cleared o l k (c ∷ cs) = cond (within o l k) none c ∷ cleared o l (suc k) cs
 
 flyingByte-acknowledge : (w a : Bool) (b : ℕ) → cond (cond w true a) none (some b) ≡ cond w none (cond a none (some b))
 flyingByte-acknowledge true a b = refl
 flyingByte-acknowledge false a b = refl
 
-pub flying-acknowledge : (o l k : ℕ) (fl : List Flown) → map flyingByte (acknowledge o l k fl) ≡ blank o l k (map flyingByte fl)
+pub flying-acknowledge : (o l k : ℕ) (fl : List Flown) → map flyingByte (acknowledge o l k fl) ≡ cleared o l k (map flyingByte fl)
 flying-acknowledge o l k [] = refl
 flying-acknowledge o l k (f ∷ fl) = rw (flyingByte-acknowledge (within o l k) (f .acked) (f .byte), flying-acknowledge o l (suc k) fl)
 
-blank-append : (o l k : ℕ) (xs ys : List (Option ℕ)) → blank o l k (xs ++ ys) ≡ blank o l k xs ++ blank o l (k + length xs) ys
-blank-append o l k [] ys = rw (add-zero k)
-blank-append o l k (x ∷ xs) ys = rw (blank-append o l (suc k) xs ys, suc-add k (length xs), add-suc k (length xs))
+cleared-append : (o l k : ℕ) (xs ys : List (Option ℕ)) → cleared o l k (xs ++ ys) ≡ cleared o l k xs ++ cleared o l (k + length xs) ys
+cleared-append o l k [] ys = rw (add-zero k)
+cleared-append o l k (x ∷ xs) ys = rw (cleared-append o l (suc k) xs ys, suc-add k (length xs), add-suc k (length xs))
 
-blank-none : (o l k i : ℕ) → blank o l k (replicate i none) ≡ replicate i none
-blank-none o l k zero = refl
-blank-none o l k (suc i) = by (λ c. c ∷ blank o l (suc k) (replicate i none) ≡ none ∷ replicate i none) (within o l k) (λ e. rw (blank-none o l (suc k) i)) (λ e. rw (blank-none o l (suc k) i))
+cleared-none : (o l k i : ℕ) → cleared o l k (replicate i none) ≡ replicate i none
+cleared-none o l k zero = refl
+cleared-none o l k (suc i) = by (λ c. c ∷ cleared o l (suc k) (replicate i none) ≡ none ∷ replicate i none) (within o l k) (λ e. rw (cleared-none o l (suc k) i)) (λ e. rw (cleared-none o l (suc k) i))
 
 pub within-before : (o l k : ℕ) → k < o → within o l k ≡ false
 within-before o l k h = rw (lt-leb o k h)
@@ -45,17 +46,17 @@ within-after o l k h = rw (le-ltb k (o + l) h) (and-right (leb o k) false refl)
 pub within-in : (o l k : ℕ) → o ≤ k → k < o + l → within o l k ≡ true
 within-in o l k h h′ = rw (le-leb o k h, lt-ltb k (o + l) h′)
 
-blank-before : (o l k : ℕ) (xs : List (Option ℕ)) → k + length xs ≤ o → blank o l k xs ≡ xs
-blank-before o l k [] h = refl
-blank-before o l k (x ∷ xs) h = rw (within-before o l k (omega arith), blank-before o l (suc k) xs (omega arith))
+cleared-before : (o l k : ℕ) (xs : List (Option ℕ)) → k + length xs ≤ o → cleared o l k xs ≡ xs
+cleared-before o l k [] h = refl
+cleared-before o l k (x ∷ xs) h = rw (within-before o l k (omega arith), cleared-before o l (suc k) xs (omega arith))
 
-blank-after : (o l k : ℕ) (xs : List (Option ℕ)) → o + l ≤ k → blank o l k xs ≡ xs
-blank-after o l k [] h = refl
-blank-after o l k (x ∷ xs) h = rw (within-after o l k h, blank-after o l (suc k) xs (omega arith))
+cleared-after : (o l k : ℕ) (xs : List (Option ℕ)) → o + l ≤ k → cleared o l k xs ≡ xs
+cleared-after o l k [] h = refl
+cleared-after o l k (x ∷ xs) h = rw (within-after o l k h, cleared-after o l (suc k) xs (omega arith))
 
-blank-in : (o l k : ℕ) (xs : List (Option ℕ)) → o ≤ k → k + length xs ≤ o + l → blank o l k xs ≡ replicate (length xs) none
-blank-in o l k [] h h′ = refl
-blank-in o l k (x ∷ xs) h h′ = rw (within-in o l k h (omega arith), blank-in o l (suc k) xs (omega arith) (omega arith))
+cleared-in : (o l k : ℕ) (xs : List (Option ℕ)) → o ≤ k → k + length xs ≤ o + l → cleared o l k xs ≡ replicate (length xs) none
+cleared-in o l k [] h h′ = refl
+cleared-in o l k (x ∷ xs) h h′ = rw (within-in o l k h (omega arith), cleared-in o l (suc k) xs (omega arith) (omega arith))
 
 -- where a piece is found
 pub find-from : (m k n o : ℕ) (ps : List Piece) → Ascend m k n ps → 1 ≤ length (find o ps) → k ≤ o
@@ -65,27 +66,35 @@ find-from m k n o (p ∷ ps) a h =
     (λ e. omega (arith, eqb-true o (p .off) e))
     (λ e. omega (arith, find-from m (end p) n o ps (a .3) (rw e at h)))
 
-blank-piece : (o l k n : ℕ) (p : Piece) (ps : List Piece) → k ≤ p .off →
-    blank o l k (byOffset k n (p ∷ ps)) ≡ replicate (p .off - k) none ++ (blank o l (p .off) (map some (p .bytes)) ++ blank o l (end p) (byOffset (end p) n ps))
-blank-piece o l k n p ps h =
+cleared-piece : (o l k n : ℕ) (p : Piece) (ps : List Piece) → k ≤ p .off →
+    cleared o l k (byOffset k n (p ∷ ps)) ≡ replicate (p .off - k) none ++ (cleared o l (p .off) (map some (p .bytes)) ++ cleared o l (end p) (byOffset (end p) n ps))
+cleared-piece o l k n p ps h =
     let e : k + (p .off - k) ≡ p .off = omega arith in
-    blank-append o l k (replicate (p .off - k) none) _
-    ∙ rw (blank-none o l k (p .off - k), length-replicate {A = Option ℕ} (p .off - k) none, e, blank-append o l (p .off) (map some (p .bytes)) (byOffset (end p) n ps), length-map (p .bytes) some)
+    cleared-append o l k (replicate (p .off - k) none) _
+    ∙ rw (cleared-none o l k (p .off - k), length-replicate {A = Option ℕ} (p .off - k) none, e, cleared-append o l (p .off) (map some (p .bytes)) (byOffset (end p) n ps), length-map (p .bytes) some)
 
--- a piece that goes leaves its offsets blank
+-- without a piece, its offsets have nothing in flight
 pub byOffset-remove : (m k n o : ℕ) (ps : List Piece) → Ascend m k n ps → 1 ≤ length (find o ps) →
-    byOffset k n (remove o ps) ≡ blank o (length (find o ps)) k (byOffset k n ps)
-byOffset-remove m k n o [] a h = sym (blank-none o 0 k (n - k))
+    byOffset k n (remove o ps) ≡ cleared o (length (find o ps)) k (byOffset k n ps)
+byOffset-remove m k n o [] a h = sym (cleared-none o 0 k (n - k))
 byOffset-remove m k n o (p ∷ ps) a h =
     test (eqb o (p .off))
     (λ e.
     let q = eqb-true o (p .off) e in
     let d : end p - k ≡ p .off - k + len p = omega arith in
-    rw (e, blank-piece o (len p) k n p ps (a .0), blank-in o (len p) (p .off) (map some (p .bytes)) (omega arith) (rw (length-map (p .bytes) some) (omega arith)),
-    blank-after o (len p) (end p) (byOffset (end p) n ps) (omega arith), length-map (p .bytes) some,
-    widen m k (end p) n ps (omega arith) (a .3), d, ← replicate-append-replicate {A = Option ℕ} (p .off - k) (len p) none, append-assoc))
+    rw (
+      e,
+      cleared-piece o (len p) k n p ps (a .0),
+      cleared-in o (len p) (p .off) (map some (p .bytes)) (omega arith) (rw (length-map (p .bytes) some) (omega arith)),
+      cleared-after o (len p) (end p) (byOffset (end p) n ps) (omega arith),
+      length-map (p .bytes) some,
+      byOffset-from m k (end p) n ps (omega arith) (a .3),
+      d,
+      ← replicate-append-replicate {A = Option ℕ} (p .off - k) (len p) none,
+      append-assoc,
+    ))
     (λ e.
     let l = length (find o ps) in
     let g : 1 ≤ l = rw e at h in
     let b = find-from m (end p) n o ps (a .3) g in
-    rw (e, blank-piece o l k n p ps (a .0), blank-before o l (p .off) (map some (p .bytes)) (rw (length-map (p .bytes) some) b), byOffset-remove m (end p) n o ps (a .3) g))
+    rw (e, cleared-piece o l k n p ps (a .0), cleared-before o l (p .off) (map some (p .bytes)) (rw (length-map (p .bytes) some) b), byOffset-remove m (end p) n o ps (a .3) g))

@@ -15,16 +15,16 @@ use Rattle.laws.specs.Lists.{occurs}
 use Rattle.laws.proofs.Picks.{test, by}
 use Rattle.laws.proofs.Lists.{occurs-append, occurs-take, map-append}
 use Rattle.ledger.specs.Limits.{maxTop, maxBits, Sizes, SizeRange, maxSlots, maxFlying, maxPayload, minPayload, maxPieces}
-use Rattle.ledger.specs.Ledger.{size, Piece, find, increments, Plan, Held, Sent, wholes, Sender, heldOffs, recut, split, kept, offs, newPieces, oldOffs, unheld, sentOffs, slots, dataBurst, frames}
+use Rattle.ledger.specs.Ledger.{size, Piece, find, increments, Plan, Held, Sent, wholes, Sender, heldOffs, recut, split, kept, offs, newPieces, oldOffs, unheld, slots, sentOffs, dataBurst, frames}
 use Rattle.ledger.specs.Tally.{unacked, furthest, Tally, sentOut}
 use Rattle.ledger.specs.Cover.{flyingByte, Ascend, ceil, shortFrames, byOffset}
 use Rattle.ledger.specs.Sound.{HeldBits, SentBits, Sound, Fits}
 use Rattle.ledger.proofs.Agree.{Agree}
-use Rattle.ledger.proofs.Cover.{ascend-split, ascend-merge, byOffset-split, byOffset-merge, split-fits, ascend-chunks, ascend-append, ascend-wholeFrames, chunks-few, chunks-le, byOffset-append, byOffset-chunks}
-use Rattle.ledger.proofs.Furthest.{far}
-use Rattle.ledger.proofs.HeldPieces.{find-merge, occurs-merge, pieces-few, length-heldOffs, sentOffs-append, sentOffs-increments, sentOffs-wholes, heldOffs-append, held-unheld, length-sentOffs}
+use Rattle.ledger.proofs.Cover.{ascend-split, ascend-merge, byOffset-split, byOffset-merge, split-fits, ascend-chunks, ascend-append, ascend-longer, chunks-few, chunks-le, byOffset-append, byOffset-chunks}
+use Rattle.ledger.proofs.Furthest.{furthest-new}
+use Rattle.ledger.proofs.HeldPieces.{find-merge, occurs-merge, pieces-few, length-heldOffs, sentOffs-append, sentOffs-increments, sentOffs-wholes, heldOffs-append, held-and-unheld, length-sentOffs}
 use Rattle.ledger.proofs.InFlight.{size-byOffset, flown-length}
-use Rattle.ledger.proofs.Offsets.{Within, flying-within, offs-append, length-offs, within-flying, found}
+use Rattle.ledger.proofs.Offsets.{Within, flying-within, offs-append, length-offs, within-flying, find-some}
 use Rattle.ledger.proofs.ShortFrames.{size-few, shortFrames-few, shortFrames-split, shortFrames-merge}
 
 size-append : (ps qs : List Piece) → size (ps ++ qs) ≡ size ps + size qs
@@ -61,9 +61,9 @@ heldBits-take top zero ps b = tt
 heldBits-take top (suc k) [] b = tt
 heldBits-take top (suc k) (p ∷ ps) b = (b .0, b .1, heldBits-take top k ps (b .2))
 
-none-left : (ps : List Piece) → length ps ≤ 0 → ps ≡ []
-none-left [] h = refl
-none-left (p ∷ ps) h = absurd (omega arith)
+no-pieces : (ps : List Piece) → length ps ≤ 0 → ps ≡ []
+no-pieces [] h = refl
+no-pieces (p ∷ ps) h = absurd (omega arith)
 
 -- why the limits hold: so many pieces fly when new bytes are taken
 module _ (z : Sizes) (zr : SizeRange z) (n : ℕ) (ps : List Piece) (a : Ascend (z .long) 0 n ps) (h : length ps ≤ maxSlots) where
@@ -82,8 +82,8 @@ module _ (z : Sizes) (zr : SizeRange z) (s : Sender) (g : Plan) (so : Sound z s)
   held-in : Within (heldOffs (s .held)) (s .pieces)
   held-in = flying-within (heldOffs (s .held)) (s .pieces) (so .heldFlying)
 
-  payload-pos : minPayload ≤ g .payload
-  payload-pos = ⊎-elim (λ e. omega (arith, zr .least)) (λ e. omega (arith, zr .least, zr .order)) (fi .payload)
+  payload-least : minPayload ≤ g .payload
+  payload-least = ⊎-elim (λ e. omega (arith, zr .least)) (λ e. omega (arith, zr .least, zr .order)) (fi .payload)
 
   payload-le : g .payload ≤ z .long
   payload-le = ⊎-elim (λ e. omega (arith, zr .order)) (λ e. omega arith) (fi .payload)
@@ -93,7 +93,7 @@ module _ (z : Sizes) (zr : SizeRange z) (s : Sender) (g : Plan) (so : Sound z s)
 
   recut-ascend : Ascend (g .payload) 0 (s .next) (recut g s)
   recut-ascend =
-      let a = ascend-split (g .payload) (z .long) 0 (s .next) (s .pieces) (omega (arith, payload-pos)) (so .ascend) in
+      let a = ascend-split (g .payload) (z .long) 0 (s .next) (s .pieces) (omega (arith, payload-least)) (so .ascend) in
       by (λ (r : List Piece). Ascend (g .payload) 0 (s .next) r) (g .merging) (λ e. ascend-merge (heldOffs (kept g s)) (g .payload) 0 (s .next) (split (g .payload) (s .pieces)) a) (λ e. a)
 
   recut-byOffset : byOffset 0 (s .next) (recut g s) ≡ byOffset 0 (s .next) (s .pieces)
@@ -105,15 +105,15 @@ module _ (z : Sizes) (zr : SizeRange z) (s : Sender) (g : Plan) (so : Sound z s)
   recut-shortFrames : shortFrames (z .short) (recut g s) ≤ shortFrames (z .short) (s .pieces)
   recut-shortFrames =
       let w : shortFrames (z .short) (split (g .payload) (s .pieces)) ≤ shortFrames (z .short) (s .pieces) =
-          ⊎-elim (λ e. rw e (shortFrames-split (z .short) (omega (arith, zr .least)) (s .pieces)))
-          (λ e. rw (split-fits (g .payload) 0 (s .next) (s .pieces) (rw e (so .ascend))) (omega arith)) (fi .payload) in
+      ⊎-elim (λ e. rw e (shortFrames-split (z .short) (omega (arith, zr .least)) (s .pieces)))
+      (λ e. rw (split-fits (g .payload) 0 (s .next) (s .pieces) (rw e (so .ascend))) (omega arith)) (fi .payload) in
       by (λ (r : List Piece). shortFrames (z .short) r ≤ shortFrames (z .short) (s .pieces)) (g .merging)
       (λ e. let m = shortFrames-merge (z .short) (omega (arith, zr .least)) (heldOffs (kept g s)) (g .payload) (split (g .payload) (s .pieces)) in omega arith)
       (λ e. w)
 
   -- with a held list the level has long frames, and nothing is cut
-  uncut : 1 ≤ g .parity → split (g .payload) (s .pieces) ≡ s .pieces
-  uncut h = split-fits (g .payload) 0 (s .next) (s .pieces) (rw (fi .parity h) (so .ascend))
+  nothing-cut : 1 ≤ g .parity → split (g .payload) (s .pieces) ≡ s .pieces
+  nothing-cut h = split-fits (g .payload) 0 (s .next) (s .pieces) (rw (fi .parity h) (so .ascend))
 
   kept-le : (o : ℕ) → occurs o (heldOffs (kept g s)) ≤ occurs o (heldOffs (s .held))
   kept-le o = by (λ (r : List Held). occurs o (heldOffs r) ≤ occurs o (heldOffs (s .held))) (eqb (g .parity) 0) (λ e. omega arith) (λ e. omega arith)
@@ -127,7 +127,7 @@ module _ (z : Sizes) (zr : SizeRange z) (s : Sender) (g : Plan) (so : Sound z s)
   -- held pieces stay
   find-kept : (o : ℕ) → 1 ≤ occurs o (heldOffs (kept g s)) → find o (recut g s) ≡ find o (s .pieces)
   find-kept o h =
-      let u = uncut (kept-parity o h) in
+      let u = nothing-cut (kept-parity o h) in
       by (λ (r : List Piece). find o r ≡ find o (s .pieces)) (g .merging)
       (λ f. find-merge (heldOffs (kept g s)) (g .payload) o (split (g .payload) (s .pieces)) h ∙ rw u)
       (λ f. rw u)
@@ -137,7 +137,7 @@ module _ (z : Sizes) (zr : SizeRange z) (s : Sender) (g : Plan) (so : Sound z s)
       test (ltb 0 (occurs o (heldOffs (kept g s))))
       (λ e.
       let h = ltb-true 0 (occurs o (heldOffs (kept g s))) e in
-      let u = uncut (kept-parity o h) in
+      let u = nothing-cut (kept-parity o h) in
       let k : occurs o (heldOffs (kept g s)) ≤ occurs o (offs (split (g .payload) (s .pieces))) = rw u (omega (arith, kept-le o, held-in o)) in
       by (λ (r : List Piece). occurs o (heldOffs (kept g s)) ≤ occurs o (offs r)) (g .merging)
       (λ f. rw (occurs-merge (heldOffs (kept g s)) (g .payload) o (split (g .payload) (s .pieces)) h) k)
@@ -145,13 +145,13 @@ module _ (z : Sizes) (zr : SizeRange z) (s : Sender) (g : Plan) (so : Sound z s)
       (λ e. omega (arith, ltb-false 0 (occurs o (heldOffs (kept g s))) e))
 
   new-ascend : Ascend (g .payload) (s .next) (s .next + size (newPieces g s)) (newPieces g s)
-  new-ascend = ascend-chunks (g .room - length (oldOffs g s)) (g .payload) (s .next) (s .waiting) (omega (arith, payload-pos))
+  new-ascend = ascend-chunks (g .room - length (oldOffs g s)) (g .payload) (s .next) (s .waiting) (omega (arith, payload-least))
 
   all-ascend : Ascend (g .payload) 0 (s .next + size (newPieces g s)) (recut g s ++ newPieces g s)
   all-ascend = ascend-append (g .payload) 0 (s .next) (s .next + size (newPieces g s)) (recut g s) (newPieces g s) recut-ascend new-ascend
 
   all-long : Ascend (z .long) 0 (s .next + size (newPieces g s)) (recut g s ++ newPieces g s)
-  all-long = ascend-wholeFrames (g .payload) (z .long) 0 (s .next + size (newPieces g s)) (recut g s ++ newPieces g s) payload-le all-ascend
+  all-long = ascend-longer (g .payload) (z .long) 0 (s .next + size (newPieces g s)) (recut g s ++ newPieces g s) payload-le all-ascend
 
   old-few : length (oldOffs g s) ≤ g .room
   old-few = omega (arith, length-take (g .room) (unheld (heldOffs (kept g s)) (recut g s)))
@@ -159,33 +159,41 @@ module _ (z : Sizes) (zr : SizeRange z) (s : Sender) (g : Plan) (so : Sound z s)
   new-few : length (newPieces g s) ≤ g .room - length (oldOffs g s)
   new-few = chunks-few (g .room - length (oldOffs g s)) (g .payload) (s .next) (s .waiting)
 
-  -- where new bytes are taken, all the others go with them: at most 64 pieces fly
-  few : 1 ≤ length (newPieces g s) → length (recut g s ++ newPieces g s) ≤ maxSlots
-  few h =
-      omega (arith, old-few, new-few, fi .room, length-take (g .room) (unheld (heldOffs (kept g s)) (recut g s)),
-      pieces-few (g .payload) 0 (s .next) (heldOffs (kept g s)) (recut g s) recut-ascend, length-heldOffs (kept g s), length-append (recut g s) (newPieces g s))
+  -- where new bytes are taken, all unheld pieces go with them: at most 64 pieces fly
+  all-few : 1 ≤ length (newPieces g s) → length (recut g s ++ newPieces g s) ≤ maxSlots
+  all-few h =
+      omega (
+        arith,
+        old-few,
+        new-few,
+        fi .room,
+        length-take (g .room) (unheld (heldOffs (kept g s)) (recut g s)),
+        pieces-few (g .payload) 0 (s .next) (heldOffs (kept g s)) (recut g s) recut-ascend,
+        length-heldOffs (kept g s),
+        length-append (recut g s) (newPieces g s),
+      )
 
   pub recut-size : size (recut g s) ≡ size (s .pieces)
   recut-size = size-byOffset 0 (s .next) (recut g s) (s .pieces) recut-byOffset
 
-  -- else the pieces are those of before, cut anew
+  -- where none are, the pieces are those of before, cut anew
   none-new : length (newPieces g s) ≤ 0 → recut g s ++ newPieces g s ≡ recut g s
-  none-new h = rw (none-left (newPieces g s) h) (append-nil (recut g s))
+  none-new h = rw (no-pieces (newPieces g s) h) (append-nil (recut g s))
 
   bytes : size (recut g s ++ newPieces g s) ≤ maxFlying
   bytes =
       test (ltb 0 (length (newPieces g s)))
-      (λ e. few-bytes z zr (s .next + size (newPieces g s)) (recut g s ++ newPieces g s) all-long (few (ltb-true 0 (length (newPieces g s)) e)))
+      (λ e. few-bytes z zr (s .next + size (newPieces g s)) (recut g s ++ newPieces g s) all-long (all-few (ltb-true 0 (length (newPieces g s)) e)))
       (λ e. rw (none-new (ltb-false 0 (length (newPieces g s)) e), recut-size) (so .bytes))
 
   shorts : shortFrames (z .short) (recut g s ++ newPieces g s) ≤ maxPieces
   shorts =
       test (ltb 0 (length (newPieces g s)))
-      (λ e. few-shorts z zr (s .next + size (newPieces g s)) (recut g s ++ newPieces g s) all-long (few (ltb-true 0 (length (newPieces g s)) e)))
+      (λ e. few-shorts z zr (s .next + size (newPieces g s)) (recut g s ++ newPieces g s) all-long (all-few (ltb-true 0 (length (newPieces g s)) e)))
       (λ e. rw (none-new (ltb-false 0 (length (newPieces g s)) e)) (omega (arith, recut-shortFrames, so .shorts)))
 
-  went-offs : sentOffs (slots g s) ≡ heldOffs (take (g .parity) (kept g s)) ++ (oldOffs g s ++ offs (newPieces g s))
-  went-offs = rw (sentOffs-append (increments g (take (g .parity) (kept g s))) (wholes g (oldOffs g s ++ offs (newPieces g s))), sentOffs-increments g (take (g .parity) (kept g s)), sentOffs-wholes g (oldOffs g s ++ offs (newPieces g s)))
+  slots-offs : sentOffs (slots g s) ≡ heldOffs (take (g .parity) (kept g s)) ++ (oldOffs g s ++ offs (newPieces g s))
+  slots-offs = rw (sentOffs-append (increments g (take (g .parity) (kept g s))) (wholes g (oldOffs g s ++ offs (newPieces g s))), sentOffs-increments g (take (g .parity) (kept g s)), sentOffs-wholes g (oldOffs g s ++ offs (newPieces g s)))
 
   kept-parts : (o : ℕ) → occurs o (heldOffs (take (g .parity) (kept g s))) + occurs o (heldOffs (drop (g .parity) (kept g s))) ≡ occurs o (heldOffs (kept g s))
   kept-parts o =
@@ -194,8 +202,8 @@ module _ (z : Sizes) (zr : SizeRange z) (s : Sender) (g : Plan) (so : Sound z s)
 
   out-in : (o : ℕ) → occurs o (sentOffs (slots g s)) + occurs o (heldOffs (drop (g .parity) (kept g s))) ≤ occurs o (offs (recut g s ++ newPieces g s))
   out-in o =
-      rw (went-offs, offs-append (recut g s) (newPieces g s), occurs-append o (heldOffs (take (g .parity) (kept g s))) (oldOffs g s ++ offs (newPieces g s)), occurs-append o (oldOffs g s) (offs (newPieces g s)), occurs-append o (offs (recut g s)) (offs (newPieces g s)))
-      (omega (arith, kept-parts o, held-unheld (heldOffs (kept g s)) o (recut g s) (occurs-kept o), occurs-take o (g .room) (unheld (heldOffs (kept g s)) (recut g s))))
+      rw (slots-offs, offs-append (recut g s) (newPieces g s), occurs-append o (heldOffs (take (g .parity) (kept g s))) (oldOffs g s ++ offs (newPieces g s)), occurs-append o (oldOffs g s) (offs (newPieces g s)), occurs-append o (offs (recut g s)) (offs (newPieces g s)))
+      (omega (arith, kept-parts o, held-and-unheld (heldOffs (kept g s)) o (recut g s) (occurs-kept o), occurs-take o (g .room) (unheld (heldOffs (kept g s)) (recut g s))))
 
   kept-few : length (kept g s) ≤ length (s .held)
   kept-few = by (λ (r : List Held). length r ≤ length (s .held)) (eqb (g .parity) 0) (λ e. omega arith) (λ e. omega arith)
@@ -205,7 +213,7 @@ module _ (z : Sizes) (zr : SizeRange z) (s : Sender) (g : Plan) (so : Sound z s)
 
   out-few : length (slots g s) + length (drop (g .parity) (kept g s)) ≤ maxSlots
   out-few =
-      rw (← length-sentOffs (slots g s), went-offs, length-append (heldOffs (take (g .parity) (kept g s))) (oldOffs g s ++ offs (newPieces g s)), length-heldOffs (take (g .parity) (kept g s)), length-append (oldOffs g s) (offs (newPieces g s)), length-offs (newPieces g s))
+      rw (← length-sentOffs (slots g s), slots-offs, length-append (heldOffs (take (g .parity) (kept g s))) (oldOffs g s ++ offs (newPieces g s)), length-heldOffs (take (g .parity) (kept g s)), length-append (oldOffs g s) (offs (newPieces g s)), length-offs (newPieces g s))
       (omega (arith, old-few, new-few, fi .room, length-append (take (g .parity) (kept g s)) (drop (g .parity) (kept g s)), ap length (take-append-drop (g .parity) (kept g s))))
 
   new-le : size (newPieces g s) ≤ length (s .waiting)
@@ -221,31 +229,31 @@ module _ (z : Sizes) (zr : SizeRange z) (s : Sender) (g : Plan) (so : Sound z s)
   unfolding dataBurst
   burst-sound =
       record {
-      ascend = all-long;
-      bytes = bytes;
-      shorts = shorts;
-      heldFew = omega (arith, kept-few, so .heldFew);
-      heldFlying = within-flying (z .long) 0 (s .next + size (newPieces g s)) (heldOffs (kept g s)) (recut g s ++ newPieces g s) all-long all-in;
-      heldBits = kept-bits;
-      tail = (take (g .parity) (kept g s), sym (take-append-drop (g .parity) (kept g s)));
-      outFew = out-few;
-      outFlying =
-          within-flying (z .long) 0 (s .next + size (newPieces g s)) (sentOffs (slots g s) ++ heldOffs (drop (g .parity) (kept g s))) (recut g s ++ newPieces g s)
-          all-long out-within;
-      sentBits =
-          sentBits-append (increments g (take (g .parity) (kept g s))) (wholes g (oldOffs g s ++ offs (newPieces g s)))
-          (increments-bits g (z .top) (take (g .parity) (kept g s)) (zr .bits) (fi .increment) (heldBits-take (z .top) (g .parity) (kept g s) kept-bits))
-          (wholes-bits g (oldOffs g s ++ offs (newPieces g s)) (fi .slot .0) (fi .slot .1));
-      waitingFew = omega (arith, length-drop (size (newPieces g s)) (s .waiting), so .waitingFew);
-      takenFew = omega (arith, length-drop (size (newPieces g s)) (s .waiting), so .takenFew, new-le);
-      sum = omega (arith, size-append (recut g s) (newPieces g s), recut-size, so .sum);
-      number = fi .number
+        ascend = all-long;
+        bytes = bytes;
+        shorts = shorts;
+        heldFew = omega (arith, kept-few, so .heldFew);
+        heldFlying = within-flying (z .long) 0 (s .next + size (newPieces g s)) (heldOffs (kept g s)) (recut g s ++ newPieces g s) all-long all-in;
+        heldBits = kept-bits;
+        tail = (take (g .parity) (kept g s), sym (take-append-drop (g .parity) (kept g s)));
+        outFew = out-few;
+        outFlying =
+            within-flying (z .long) 0 (s .next + size (newPieces g s)) (sentOffs (slots g s) ++ heldOffs (drop (g .parity) (kept g s))) (recut g s ++ newPieces g s)
+            all-long out-within;
+        sentBits =
+            sentBits-append (increments g (take (g .parity) (kept g s))) (wholes g (oldOffs g s ++ offs (newPieces g s)))
+            (increments-bits g (z .top) (take (g .parity) (kept g s)) (zr .bits) (fi .increment) (heldBits-take (z .top) (g .parity) (kept g s) kept-bits))
+            (wholes-bits g (oldOffs g s ++ offs (newPieces g s)) (fi .slot .0) (fi .slot .1));
+        waitingFew = omega (arith, length-drop (size (newPieces g s)) (s .waiting), so .waitingFew);
+        takenFew = omega (arith, length-drop (size (newPieces g s)) (s .waiting), so .takenFew, new-le);
+        sum = omega (arith, size-append (recut g s) (newPieces g s), recut-size, so .sum);
+        number = fi .number;
       }
 
   -- the tally takes as many waiting bytes as the burst
-  reach : furthest (frames (recut g s ++ newPieces g s) (slots g s)) - s .next ≡ size (newPieces g s)
-  reach =
-      far g (g .payload) (s .next) (g .room - length (oldOffs g s)) (s .waiting) (recut g s) (increments g (take (g .parity) (kept g s))) (oldOffs g s) all-ascend
+  furthest-burst : furthest (frames (recut g s ++ newPieces g s) (slots g s)) - s .next ≡ size (newPieces g s)
+  furthest-burst =
+      furthest-new g (g .payload) (s .next) (g .room - length (oldOffs g s)) (s .waiting) (recut g s) (increments g (take (g .parity) (kept g s))) (oldOffs g s) all-ascend
       (λ o h. omega (arith, out-in o))
 
   all-byOffset : byOffset 0 (s .next + size (newPieces g s)) (recut g s ++ newPieces g s) ≡ byOffset 0 (s .next) (s .pieces) ++ map some (take (size (newPieces g s)) (s .waiting))
@@ -258,14 +266,14 @@ module _ (z : Sizes) (zr : SizeRange z) (s : Sender) (g : Plan) (so : Sound z s)
   burst-agree t ti =
       let l = flown-length (z .long) (s .next) (s .pieces) (t .flown) (so .ascend) (ti .flown) in
       record {
-      taken = omega (arith, ti .taken, length-drop (size (newPieces g s)) (s .waiting), new-le);
-      waiting = rw (l, reach, ti .waiting);
-      flown = rw (l, reach, ti .waiting, all-byOffset, map-append flyingByte (t .flown) (unacked (take (size (newPieces g s)) (s .waiting))), ti .flown, flying-unacked (take (size (newPieces g s)) (s .waiting)));
-      out = refl
+        taken = omega (arith, ti .taken, length-drop (size (newPieces g s)) (s .waiting), new-le);
+        waiting = rw (l, furthest-burst, ti .waiting);
+        flown = rw (l, furthest-burst, ti .waiting, all-byOffset, map-append flyingByte (t .flown) (unacked (take (size (newPieces g s)) (s .waiting))), ti .flown, flying-unacked (take (size (newPieces g s)) (s .waiting)));
+        out = refl;
       }
 
-  pub burst-holds : (o : ℕ) → 1 ≤ occurs o (heldOffs (dataBurst g s .held)) → find o (dataBurst g s .pieces) ≡ find o (s .pieces)
+  pub burst-keeps : (o : ℕ) → 1 ≤ occurs o (heldOffs (dataBurst g s .held)) → find o (dataBurst g s .pieces) ≡ find o (s .pieces)
   unfolding dataBurst
-  burst-holds o h =
-      let f = found (z .long) 0 (s .next) o (s .pieces) (so .ascend) (omega (arith, kept-le o, held-in o)) in
+  burst-keeps o h =
+      let f = find-some (z .long) 0 (s .next) o (s .pieces) (so .ascend) (omega (arith, kept-le o, held-in o)) in
       find-append o (recut g s) (newPieces g s) (rw (find-kept o h) f) ∙ find-kept o h

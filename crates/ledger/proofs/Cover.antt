@@ -15,12 +15,12 @@ use Rattle.laws.specs.Lists.{listed}
 use Rattle.laws.proofs.Picks.{by, and-first, and-second}
 use Rattle.laws.proofs.Lists.{map-append}
 use Rattle.ledger.specs.Ledger.{Piece, end, len, cut, split, joins, mergeFrom, joined, mergeInflight, chunks, size}
-use Rattle.ledger.specs.Cover.{Ascend, byOffset}
+use Rattle.ledger.specs.Cover.{byOffset, Ascend}
 
--- a gap before pieces that start later
-pub widen : (m k k′ n : ℕ) (ps : List Piece) → k ≤ k′ → Ascend m k′ n ps → byOffset k n ps ≡ replicate (k′ - k) none ++ byOffset k′ n ps
-widen m k k′ n [] h a = let e : n - k ≡ k′ - k + (n - k′) = omega arith in rw (replicate-append-replicate, e)
-widen m k k′ n (p ∷ ps) h a =
+-- nothing in flight before pieces that start later
+pub byOffset-from : (m k k′ n : ℕ) (ps : List Piece) → k ≤ k′ → Ascend m k′ n ps → byOffset k n ps ≡ replicate (k′ - k) none ++ byOffset k′ n ps
+byOffset-from m k k′ n [] h a = let e : n - k ≡ k′ - k + (n - k′) = omega arith in rw (replicate-append-replicate, e)
+byOffset-from m k k′ n (p ∷ ps) h a =
     let e : p .off - k ≡ k′ - k + (p .off - k′) = omega arith in
     rw (e, ← replicate-append-replicate {A = Option ℕ} (k′ - k) (p .off - k′) none, append-assoc)
 
@@ -29,21 +29,21 @@ ascend-from m k k′ n [] h a = omega arith
 ascend-from m k k′ n (p ∷ ps) h a = (omega arith, a .1, a .2, a .3)
 
 -- pieces of a shorter bound are pieces of a longer one
-pub ascend-wholeFrames : (m m′ k n : ℕ) (ps : List Piece) → m ≤ m′ → Ascend m k n ps → Ascend m′ k n ps
-ascend-wholeFrames m m′ k n [] h a = a
-ascend-wholeFrames m m′ k n (p ∷ ps) h a = (a .0, a .1, omega arith, ascend-wholeFrames m m′ (end p) n ps h (a .3))
+pub ascend-longer : (m m′ k n : ℕ) (ps : List Piece) → m ≤ m′ → Ascend m k n ps → Ascend m′ k n ps
+ascend-longer m m′ k n [] h a = a
+ascend-longer m m′ k n (p ∷ ps) h a = (a .0, a .1, omega arith, ascend-longer m m′ (end p) n ps h (a .3))
 
 pub ascend-le : (m k n : ℕ) (ps : List Piece) → Ascend m k n ps → k ≤ n
 ascend-le m k n [] a = a
 ascend-le m k n (p ∷ ps) a = let h = ascend-le m (end p) n ps (a .3) in omega arith
 
--- two pieces side by side lie as one
+-- two pieces side by side are as one
 byOffset-two : (o k n : ℕ) (xs bs : List ℕ) (ps : List Piece) →
     byOffset k n (record { off = o; bytes = xs } ∷ record { off = o + length xs; bytes = bs } ∷ ps) ≡ byOffset k n (record { off = o; bytes = xs ++ bs } ∷ ps)
 byOffset-two o k n xs bs ps =
     rw (sub-self (o + length xs), map-append some xs bs, length-append xs bs, ← add-assoc o (length xs) (length bs), append-assoc)
 
--- cutting: any fuel keeps the layout
+-- cutting, however many cuts are allowed
 pub byOffset-cut : (f m o n : ℕ) (bs : List ℕ) (k : ℕ) (ps : List Piece) →
     byOffset k n (cut f m o bs ++ ps) ≡ byOffset k n (record { off = o; bytes = bs } ∷ ps)
 byOffset-cut zero m o n bs k ps = refl
@@ -63,7 +63,7 @@ byOffset-split m k n (p ∷ ps) =
     byOffset-cut (len p) m (p .off) n (p .bytes) k (split m ps)
     ∙ ap (λ (c : List (Option ℕ)). replicate (p .off - k) none ++ (map some (p .bytes) ++ c)) (byOffset-split m (end p) n ps)
 
--- cutting with enough fuel gives pieces of at most m bytes
+-- with enough cuts allowed, the pieces have at most m bytes
 pub ascend-cut : (f m o n : ℕ) (bs : List ℕ) (k : ℕ) (ps : List Piece) → 1 ≤ m → length bs ≤ suc f → k ≤ o → 1 ≤ length bs →
     Ascend m (o + length bs) n ps → Ascend m k n (cut f m o bs ++ ps)
 ascend-cut zero m o n bs k ps hm hf hk hb a = (hk, hb, omega arith, a)
@@ -132,7 +132,7 @@ ascend-append m k n n′ [] qs a b = ascend-from m k n n′ qs a b
 ascend-append m k n n′ (p ∷ ps) qs a b = (a .0, a .1, a .2, ascend-append m (end p) n n′ ps qs (a .3) b)
 
 pub byOffset-append : (m k n n′ : ℕ) (ps qs : List Piece) → Ascend m k n ps → Ascend m n n′ qs → byOffset k n′ (ps ++ qs) ≡ byOffset k n ps ++ byOffset n n′ qs
-byOffset-append m k n n′ [] qs a b = widen m k n n′ qs a b
+byOffset-append m k n n′ [] qs a b = byOffset-from m k n n′ qs a b
 byOffset-append m k n n′ (p ∷ ps) qs a b = rw (byOffset-append m (end p) n n′ ps qs (a .3) b, append-assoc, append-assoc)
 
 -- new pieces
@@ -171,4 +171,3 @@ chunks-few (suc j) m o [] = omega arith
 chunks-few (suc j) m o (x ∷ w) =
     let h = chunks-few j m (o + length (take m (x ∷ w))) (drop m (x ∷ w)) in
     omega arith
-

@@ -13,20 +13,20 @@ use Rattle.ledger.specs.Plan.{parity, room}
 use Rattle.ledger.specs.Calls.{Call, bursts, queues, hears, turns, run, step, tally, told}
 
 -- offset and length of each piece
-abbrev spans : List Piece → List ℕ
+abbrev pub spans : List Piece → List ℕ
 spans [] = []
 spans (p ∷ ps) = p .off ∷ len p ∷ spans ps
 
-abbrev piece : ℕ → ℕ → Piece
+abbrev pub piece : ℕ → ℕ → Piece
 piece o n = record { off = o; bytes = replicate n 7 }
 
-P7 : spans (split 22 (piece 100 50 ∷ [])) ≡ 100 ∷ 22 ∷ 122 ∷ 22 ∷ 144 ∷ 6 ∷ []
+pub P7 : spans (split 22 (piece 100 50 ∷ [])) ≡ 100 ∷ 22 ∷ 122 ∷ 22 ∷ 144 ∷ 6 ∷ []
 P7 = refl
 
-P8 : spans (mergeInflight [] 100 (piece 0 40 ∷ piece 40 40 ∷ piece 80 40 ∷ [])) ≡ 0 ∷ 80 ∷ 80 ∷ 40 ∷ []
+pub P8 : spans (mergeInflight [] 100 (piece 0 40 ∷ piece 40 40 ∷ piece 80 40 ∷ [])) ≡ 0 ∷ 80 ∷ 80 ∷ 40 ∷ []
 P8 = refl
 
-P9 : spans (mergeInflight (40 ∷ []) 100 (piece 0 40 ∷ piece 40 40 ∷ piece 80 40 ∷ [])) ≡ 0 ∷ 40 ∷ 40 ∷ 40 ∷ 80 ∷ 40 ∷ []
+pub P9 : spans (mergeInflight (40 ∷ []) 100 (piece 0 40 ∷ piece 40 40 ∷ piece 80 40 ∷ [])) ≡ 0 ∷ 40 ∷ 40 ∷ 40 ∷ 80 ∷ 40 ∷ []
 P9 = refl
 
 -- merging goes on from the piece that did not fit: it takes the next one

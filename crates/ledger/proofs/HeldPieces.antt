@@ -23,13 +23,13 @@ module _ (h : List ℕ) where
   joins-right m p q e = not-true (listed (q .off) h) (and-second (not (listed (p .off) h)) _ (and-first _ (eqb (end p) (q .off) && leb (len p + len q) m) e))
 
   -- neither of two pieces that join is the held one
-  apart-remaining : (m o : ℕ) (p q : Piece) → joins h m p q ≡ true → 1 ≤ occurs o h → eqb o (p .off) ≡ false
-  apart-remaining m o p q e l =
+  joins-apart-left : (m o : ℕ) (p q : Piece) → joins h m p q ≡ true → 1 ≤ occurs o h → eqb o (p .off) ≡ false
+  joins-apart-left m o p q e l =
       let u = unlisted-occurs (p .off) h (joins-left m p q e) in
       ne-eqb o (p .off) (λ z. let v : 1 ≤ occurs (p .off) h = rw z at l in omega arith)
 
-  apart-right : (m o : ℕ) (p q : Piece) → joins h m p q ≡ true → 1 ≤ occurs o h → eqb o (q .off) ≡ false
-  apart-right m o p q e l =
+  joins-apart-right : (m o : ℕ) (p q : Piece) → joins h m p q ≡ true → 1 ≤ occurs o h → eqb o (q .off) ≡ false
+  joins-apart-right m o p q e l =
       let u = unlisted-occurs (q .off) h (joins-right m p q e) in
       ne-eqb o (q .off) (λ z. let v : 1 ≤ occurs (q .off) h = rw z at l in omega arith)
 
@@ -37,7 +37,7 @@ module _ (h : List ℕ) where
   find-mergeFrom m o p [] l = refl
   find-mergeFrom m o p (q ∷ qs) l =
       by (λ (r : List Piece). find o r ≡ find o (p ∷ q ∷ qs)) (joins h m p q)
-      (λ e. find-mergeFrom m o (joined p q) qs l ∙ rw (apart-remaining m o p q e l, apart-right m o p q e l))
+      (λ e. find-mergeFrom m o (joined p q) qs l ∙ rw (joins-apart-left m o p q e l, joins-apart-right m o p q e l))
       (λ e. rw (find-mergeFrom m o q qs l))
 
   occurs-mergeFrom : (m o : ℕ) (p : Piece) (qs : List Piece) → 1 ≤ occurs o h → occurs o (offs (mergeFrom h m p qs)) ≡ occurs o (offs (p ∷ qs))
@@ -46,7 +46,7 @@ module _ (h : List ℕ) where
       by (λ (r : List Piece). occurs o (offs r) ≡ occurs o (offs (p ∷ q ∷ qs))) (joins h m p q)
       (λ e.
       let i = occurs-mergeFrom m o (joined p q) qs l in
-      let z = ap one (apart-right m o p q e l) in
+      let z = ap one (joins-apart-right m o p q e l) in
       omega arith)
       (λ e. let i = occurs-mergeFrom m o q qs l in omega arith)
 
@@ -65,10 +65,10 @@ module _ (h : List ℕ) where
       let i = occurs-unheld o ps in
       by (λ (r : List ℕ). occurs o r ≤ occurs o (offs (p ∷ ps))) (listed (p .off) h) (λ e. omega arith) (λ e. omega arith)
 
-  occurs-unheld-held : (o : ℕ) (ps : List Piece) → 1 ≤ occurs o h → occurs o (unheld h ps) ≡ 0
-  occurs-unheld-held o [] l = refl
-  occurs-unheld-held o (p ∷ ps) l =
-      let i = occurs-unheld-held o ps l in
+  held-not-unheld : (o : ℕ) (ps : List Piece) → 1 ≤ occurs o h → occurs o (unheld h ps) ≡ 0
+  held-not-unheld o [] l = refl
+  held-not-unheld o (p ∷ ps) l =
+      let i = held-not-unheld o ps l in
       by (λ (r : List ℕ). occurs o r ≡ 0) (listed (p .off) h)
       (λ e. i)
       (λ e.
@@ -76,14 +76,14 @@ module _ (h : List ℕ) where
       let z = one-other o (p .off) (λ q. let v : 1 ≤ occurs (p .off) h = rw q at l in omega arith) in
       omega arith)
 
-  -- held and others together are among the pieces
-  pub held-unheld : (o : ℕ) (ps : List Piece) → occurs o h ≤ occurs o (offs ps) → occurs o h + occurs o (unheld h ps) ≤ occurs o (offs ps)
-  held-unheld o ps w =
+  -- held and unheld together are among the pieces
+  pub held-and-unheld : (o : ℕ) (ps : List Piece) → occurs o h ≤ occurs o (offs ps) → occurs o h + occurs o (unheld h ps) ≤ occurs o (offs ps)
+  held-and-unheld o ps w =
       test (listed o h)
-      (λ e. let z = occurs-unheld-held o ps (listed-occurs o h e) in omega arith)
+      (λ e. let z = held-not-unheld o ps (listed-occurs o h e) in omega arith)
       (λ e. let z = unlisted-occurs o h e in let i = occurs-unheld o ps in omega arith)
 
--- one more held offset takes at most one piece from the others
+-- one more held offset makes at most one piece less unheld
 unheld-more : (x : ℕ) (h : List ℕ) (ps : List Piece) → length (unheld h ps) ≤ length (unheld (x ∷ h) ps) + occurs x (offs ps)
 unheld-more x h [] = omega arith
 unheld-more x h (p ∷ ps) =
@@ -106,7 +106,7 @@ unheld-none : (ps : List Piece) → length (unheld [] ps) ≡ length ps
 unheld-none [] = refl
 unheld-none (p ∷ ps) = rw (unheld-none ps)
 
--- all pieces are held ones and others
+-- each piece is held or unheld
 pub pieces-few : (m k n : ℕ) (h : List ℕ) (ps : List Piece) → Ascend m k n ps → length ps ≤ length (unheld h ps) + length h
 pieces-few m k n [] ps a = omega (arith, unheld-none ps)
 pieces-few m k n (x ∷ h) ps a = omega (arith, pieces-few m k n h ps a, unheld-more x h ps, occurs-once m k n x ps a)
@@ -135,9 +135,3 @@ length-sentOffs (f ∷ fs) = rw (length-sentOffs fs)
 pub length-heldOffs : (ps : List Held) → length (heldOffs ps) ≡ length ps
 length-heldOffs [] = refl
 length-heldOffs (p ∷ ps) = rw (length-heldOffs ps)
-
-pub length-unheld : (h : List ℕ) (ps : List Piece) → length (unheld h ps) ≤ length ps
-length-unheld h [] = omega arith
-length-unheld h (p ∷ ps) =
-    let i = length-unheld h ps in
-    by (λ (r : List ℕ). length r ≤ suc (length ps)) (listed (p .off) h) (λ e. omega arith) (λ e. omega arith)

@@ -11,7 +11,7 @@ use Rattle.laws.proofs.Picks.{either}
 use Rattle.laws.proofs.Lists.{map-append}
 use Rattle.ledger.specs.Reply.{Reply}
 use Rattle.ledger.specs.Ledger.{Frame}
-use Rattle.ledger.specs.Tally.{unacked, byteOf, acknowledge, Flown, acknowledgeAll, answered, Outstanding, nothing, outstanding, Tally, Event, feed, bytesIn, queued, sentOut, heard, turned, turn, silent, took, reply, went, furthest, start}
+use Rattle.ledger.specs.Tally.{unacked, byteOf, acknowledge, Flown, acknowledgeAll, answered, Outstanding, nothing, outstanding, Tally, Event, feed, bytesIn, queued, sentOut, heard, turn, turned, silent, took, reply, went, furthest, start}
 use Rattle.ledger.specs.Calls.{tally, told, history}
 
 bytes-unacked : (bs : List ℕ) → map byteOf (unacked bs) ≡ bs
@@ -45,8 +45,12 @@ fed (reply r) t = rw (bytes-answered r (t .out) (t .flown)) (sym (append-nil (ta
 fed turn t = sym (append-nil (tallyBytes t))
 fed (went n fs) t =
     let k = furthest fs - length (t .flown) in
-    rw (map-append byteOf (t .flown) (unacked (take k (t .waiting))), bytes-unacked (take k (t .waiting)),
-    append-assoc (map byteOf (t .flown)) (take k (t .waiting)) (drop k (t .waiting)), take-append-drop k (t .waiting))
+    rw (
+      map-append byteOf (t .flown) (unacked (take k (t .waiting))),
+      bytes-unacked (take k (t .waiting)),
+      append-assoc (map byteOf (t .flown)) (take k (t .waiting)) (drop k (t .waiting)),
+      take-append-drop k (t .waiting),
+    )
     (sym (append-nil (tallyBytes t)))
 
 counted : (e : Event) (t : Tally) → feed e t .taken ≡ t .taken + length (bytesIn e)

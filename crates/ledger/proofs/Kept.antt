@@ -19,7 +19,7 @@ use Rattle.ledger.specs.Cover.{Ascend}
 use Rattle.ledger.specs.Sound.{HeldBits, SentBits, Sound, Fits}
 use Rattle.ledger.specs.Calls.{Allowed, queues, step, Call, idle, hears, turns, bursts, event, told}
 use Rattle.ledger.proofs.Agree.{Agree}
-use Rattle.ledger.proofs.Burst.{burst-sound, burst-agree, burst-holds}
+use Rattle.ledger.proofs.Burst.{burst-sound, burst-agree, burst-keeps}
 use Rattle.ledger.proofs.HeldPieces.{heldOffs-append}
 use Rattle.ledger.proofs.Offsets.{flying-within, Within, within-flying}
 use Rattle.ledger.proofs.Settle.{ascend-remaining, missed-remaining, ackedBytes-remaining, missed-few, shortFrames-remaining, acknowledgeAll-remaining, find-remaining}
@@ -87,45 +87,45 @@ module _ (z : Sizes) where
         let g = ackedBytes-remaining (z .long) (s .next) bits 0 (s .sent) (s .pieces) in
         let u = missed-few (z .long) (s .next) bits (z .top) 0 (s .sent) in
         record {
-        ascend = after-ascend;
-        bytes = omega (arith, so .bytes);
-        shorts = omega (arith, shortFrames-remaining (z .long) (s .next) bits (z .short) 0 (s .sent) (s .pieces), so .shorts);
-        heldFew =
-            by (λ (q : List Held). length q ≤ maxSlots) keep
-            (λ e. omega (arith, length-append (s .rest) (missed bits (z .top) 0 (s .sent)), so .outFew)) (λ e. omega arith);
-        heldFlying = within-flying (z .long) 0 (s .next) (heldOffs after) (remaining bits 0 (s .sent) (s .pieces)) after-ascend after-within;
-        heldBits =
-            by (λ (q : List Held). HeldBits (z .top) q) keep
-            (λ e. heldBits-append (z .top) (s .rest) (missed bits (z .top) 0 (s .sent)) (rest-bits s so) (missed-bits bits (z .top) 0 (s .sent) (so .sentBits)))
-            (λ e. tt);
-        tail = (after, sym (append-nil after));
-        outFew = omega arith;
-        outFlying = (tt, tt);
-        sentBits = tt;
-        waitingFew = so .waitingFew;
-        takenFew = so .takenFew;
-        sum = omega (arith, so .sum);
-        number = so .number
+          ascend = after-ascend;
+          bytes = omega (arith, so .bytes);
+          shorts = omega (arith, shortFrames-remaining (z .long) (s .next) bits (z .short) 0 (s .sent) (s .pieces), so .shorts);
+          heldFew =
+              by (λ (q : List Held). length q ≤ maxSlots) keep
+              (λ e. omega (arith, length-append (s .rest) (missed bits (z .top) 0 (s .sent)), so .outFew)) (λ e. omega arith);
+          heldFlying = within-flying (z .long) 0 (s .next) (heldOffs after) (remaining bits 0 (s .sent) (s .pieces)) after-ascend after-within;
+          heldBits =
+              by (λ (q : List Held). HeldBits (z .top) q) keep
+              (λ e. heldBits-append (z .top) (s .rest) (missed bits (z .top) 0 (s .sent)) (rest-bits s so) (missed-bits bits (z .top) 0 (s .sent) (so .sentBits)))
+              (λ e. tt);
+          tail = (after, sym (append-nil after));
+          outFew = omega arith;
+          outFlying = (tt, tt);
+          sentBits = tt;
+          waitingFew = so .waitingFew;
+          takenFew = so .takenFew;
+          sum = omega (arith, so .sum);
+          number = so .number;
         }
 
   clear-sound : (s : Sender) → Sound z s → Sound z (clearBurst s)
   unfolding clearBurst
   clear-sound s so =
       record {
-      ascend = so .ascend;
-      bytes = so .bytes;
-      shorts = so .shorts;
-      heldFew = so .heldFew;
-      heldFlying = so .heldFlying;
-      heldBits = so .heldBits;
-      tail = so .tail;
-      outFew = omega (arith, so .outFew);
-      outFlying = within-flying (z .long) 0 (s .next) (heldOffs (s .rest)) (s .pieces) (so .ascend) (λ o. omega (arith, out-occurs z s so o));
-      sentBits = tt;
-      waitingFew = so .waitingFew;
-      takenFew = so .takenFew;
-      sum = so .sum;
-      number = so .number
+        ascend = so .ascend;
+        bytes = so .bytes;
+        shorts = so .shorts;
+        heldFew = so .heldFew;
+        heldFlying = so .heldFlying;
+        heldBits = so .heldBits;
+        tail = so .tail;
+        outFew = omega (arith, so .outFew);
+        outFlying = within-flying (z .long) 0 (s .next) (heldOffs (s .rest)) (s .pieces) (so .ascend) (λ o. omega (arith, out-occurs z s so o));
+        sentBits = tt;
+        waitingFew = so .waitingFew;
+        takenFew = so .takenFew;
+        sum = so .sum;
+        number = so .number;
       }
 
   queue-sound : (bs : List ℕ) (s : Sender) → Allowed z (queues bs) s → Sound z s → Sound z (queue bs s)
@@ -133,39 +133,39 @@ module _ (z : Sizes) where
   queue-sound bs s al so =
       let l = length-append (s .waiting) bs in
       record {
-      ascend = so .ascend;
-      bytes = so .bytes;
-      shorts = so .shorts;
-      heldFew = so .heldFew;
-      heldFlying = so .heldFlying;
-      heldBits = so .heldBits;
-      tail = so .tail;
-      outFew = so .outFew;
-      outFlying = so .outFlying;
-      sentBits = so .sentBits;
-      waitingFew = omega arith;
-      takenFew = omega arith;
-      sum = omega (arith, so .sum);
-      number = so .number
+        ascend = so .ascend;
+        bytes = so .bytes;
+        shorts = so .shorts;
+        heldFew = so .heldFew;
+        heldFlying = so .heldFlying;
+        heldBits = so .heldBits;
+        tail = so .tail;
+        outFew = so .outFew;
+        outFlying = so .outFlying;
+        sentBits = so .sentBits;
+        waitingFew = omega arith;
+        takenFew = omega arith;
+        sum = omega (arith, so .sum);
+        number = so .number;
       }
 
   pub fresh-sound : Sound z fresh
   fresh-sound =
       record {
-      ascend = omega arith;
-      bytes = omega arith;
-      shorts = omega arith;
-      heldFew = omega arith;
-      heldFlying = (tt, tt);
-      heldBits = tt;
-      tail = ([], refl);
-      outFew = omega arith;
-      outFlying = (tt, tt);
-      sentBits = tt;
-      waitingFew = omega arith;
-      takenFew = omega arith;
-      sum = refl;
-      number = omega arith
+        ascend = omega arith;
+        bytes = omega arith;
+        shorts = omega arith;
+        heldFew = omega arith;
+        heldFlying = (tt, tt);
+        heldBits = tt;
+        tail = ([], refl);
+        outFew = omega arith;
+        outFlying = (tt, tt);
+        sentBits = tt;
+        waitingFew = omega arith;
+        takenFew = omega arith;
+        sum = refl;
+        number = omega arith;
       }
 
   module _ (zr : SizeRange z) where
@@ -189,14 +189,14 @@ module _ (z : Sizes) where
   settle-agree r keep s t w n so ag =
       let b = r .bit (length (s .sent)) in
       let e : answered r (t .out) (t .flown) ≡ acknowledgeAll b 0 (frames (s .pieces) (s .sent)) (t .flown) =
-          rw (ag .out, w, and-first (eqb (r .number) (s .number)) (ltb 0 (length (s .sent))) n, frames-length (s .pieces) (s .sent)) in
+      rw (ag .out, w, and-first (eqb (r .number) (s .number)) (ltb 0 (length (s .sent))) n, frames-length (s .pieces) (s .sent)) in
       record {
-      taken = ag .taken;
-      waiting = ag .waiting;
-      flown =
-          rw e
-          (acknowledgeAll-remaining (z .long) (s .next) b 0 (s .sent) (s .pieces) (t .flown) (so .ascend) (λ o. omega (arith, out-occurs z s so o)) (ag .flown));
-      out = refl
+        taken = ag .taken;
+        waiting = ag .waiting;
+        flown =
+            rw e
+            (acknowledgeAll-remaining (z .long) (s .next) b 0 (s .sent) (s .pieces) (t .flown) (so .ascend) (λ o. omega (arith, out-occurs z s so o)) (ag .flown));
+        out = refl;
       }
 
   -- an ack of another burst, or a turn
@@ -217,10 +217,10 @@ module _ (z : Sizes) where
   unfolding queue queued
   queue-agree bs s t ag =
       record {
-      taken = omega (arith, ag .taken, length-append (s .waiting) bs);
-      waiting = rw (ag .waiting);
-      flown = ag .flown;
-      out = ag .out
+        taken = omega (arith, ag .taken, length-append (s .waiting) bs);
+        waiting = rw (ag .waiting);
+        flown = ag .flown;
+        out = ag .out;
       }
 
   turn-agree : (s : Sender) (t : Tally) → Agree s t → Agree (clearBurst s) (turned t)
@@ -272,4 +272,4 @@ module _ (z : Sizes) where
         (λ n. settle-keeps r keep s o so) (λ n u. rw (clear-pieces s)))
         (λ w u. refl) h
     step-keeps turns s o al so h = rw (clear-pieces s)
-    step-keeps (bursts g) s o al so h = burst-holds z zr s g so al o h
+    step-keeps (bursts g) s o al so h = burst-keeps z zr s g so al o h

@@ -14,7 +14,7 @@ use Rattle.laws.proofs.Lists.{one-other, one-same, distinct-occurs, occurs-dist
 use Rattle.ledger.specs.Ledger.{offs, end, Piece, find, remove, size}
 use Rattle.ledger.specs.Cover.{Ascend, shortFrames}
 use Rattle.ledger.specs.Sound.{Flying}
-use Rattle.ledger.proofs.Cover.{ascend-le, ascend-from}
+use Rattle.ledger.proofs.Cover.{ascend-from}
 
 pub offs-append : (ps qs : List Piece) → offs (ps ++ qs) ≡ offs ps ++ offs qs
 offs-append [] qs = refl
@@ -29,14 +29,6 @@ pub occurs-low : (m k n o : ℕ) (ps : List Piece) → Ascend m k n ps → o < k
 occurs-low m k n o [] a h = refl
 occurs-low m k n o (p ∷ ps) a h =
     let r = occurs-low m (end p) n o ps (a .3) (omega arith) in
-    let z = one-other o (p .off) (omega arith) in
-    omega arith
-
-pub occurs-high : (m k n o : ℕ) (ps : List Piece) → Ascend m k n ps → n ≤ o → occurs o (offs ps) ≡ 0
-occurs-high m k n o [] a h = refl
-occurs-high m k n o (p ∷ ps) a h =
-    let r = occurs-high m (end p) n o ps (a .3) h in
-    let l = ascend-le m (end p) n ps (a .3) in
     let z = one-other o (p .off) (omega arith) in
     omega arith
 
@@ -55,12 +47,12 @@ occurs-once m k n o (p ∷ ps) a =
     omega arith)
 
 -- a flying offset has bytes
-pub found : (m k n o : ℕ) (ps : List Piece) → Ascend m k n ps → 1 ≤ occurs o (offs ps) → 1 ≤ length (find o ps)
-found m k n o [] a h = h
-found m k n o (p ∷ ps) a h =
+pub find-some : (m k n o : ℕ) (ps : List Piece) → Ascend m k n ps → 1 ≤ occurs o (offs ps) → 1 ≤ length (find o ps)
+find-some m k n o [] a h = h
+find-some m k n o (p ∷ ps) a h =
     test (eqb o (p .off))
     (λ e. rw e (a .1))
-    (λ e. rw e (found m (end p) n o ps (a .3) (rw (e, zero-add) at h)))
+    (λ e. rw e (find-some m (end p) n o ps (a .3) (rw (e, zero-add) at h)))
 
 -- without a piece
 pub ascend-remove : (m k n o : ℕ) (ps : List Piece) → Ascend m k n ps → Ascend m k n (remove o ps)

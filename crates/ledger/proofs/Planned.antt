@@ -14,7 +14,7 @@ use Rattle.laws.proofs.Picks.{by, test, and-first, and-second, and-left, and-ri
 use Rattle.ledger.specs.Limits.{Sizes, partialMax, maxSlots, maxBits}
 use Rattle.ledger.specs.Ledger.{Sender, kept, Sent, increments, Plan, Held, wholes, dataBurst, oldOffs, offs, newPieces, unheld, heldOffs, recut}
 use Rattle.ledger.specs.Sound.{Sound, Fits}
-use Rattle.ledger.specs.Plan.{Choice, popped, tooBig, parity, offered, roomFrom, room, stored, oneMore, cap, planOf, ChoiceRange, bitsOf, bitsIn, parityBits, wholeFrames, Longer, KeepsAir}
+use Rattle.ledger.specs.Plan.{Choice, popped, tooBig, parity, offered, room, roomFrom, stored, oneMore, cap, planOf, ChoiceRange, bitsOf, bitsIn, parityBits, wholeFrames, Longer, KeepsAir}
 use Rattle.ledger.proofs.Cover.{chunks-few}
 use Rattle.ledger.proofs.Offsets.{length-offs}
 
@@ -79,12 +79,12 @@ module _ (z : Sizes) (k : Choice) (s : Sender) where
   pub planned-fits : Sound z s → ChoiceRange k → Fits z s (planOf z k s)
   planned-fits so kr =
       record {
-      payload = by (λ (m : ℕ). (m ≡ z .short) ⊎ (m ≡ z .long)) (k .long) (λ e. inr refl) (λ e. inl refl);
-      parity = λ h. rw (parity-long h);
-      room = omega (arith, kept-stored, room-few so);
-      slot = kr .slot;
-      increment = kr .increment;
-      number = kr .number
+        payload = by (λ (m : ℕ). (m ≡ z .short) ⊎ (m ≡ z .long)) (k .long) (λ e. inr refl) (λ e. inl refl);
+        parity = λ h. rw (parity-long h);
+        room = omega (arith, kept-stored, room-few so);
+        slot = kr .slot;
+        increment = kr .increment;
+        number = kr .number;
       }
 
   -- the burst has the bits that were reckoned
@@ -104,23 +104,23 @@ module _ (z : Sizes) (k : Choice) (s : Sender) where
   length-wholes g [] = refl
   length-wholes g (o ∷ os) = rw (length-wholes g os)
 
-  or-second : (a b : Bool) → a || b ≡ false → b ≡ false
-  or-second true b e = cc
-  or-second false b e = e
+  or-none-second : (a b : Bool) → a || b ≡ false → b ≡ false
+  or-none-second true b e = cc
+  or-none-second false b e = e
 
-  pass : (a : Bool) → not a ≡ false → a ≡ true
-  pass true e = refl
-  pass false e = sym e
+  not-false : (a : Bool) → not a ≡ false → a ≡ true
+  not-false true e = refl
+  not-false false e = sym e
 
   not-big : (f : ℕ → Bool) (n : ℕ) → tooBig z k s f n ≡ false → 1 ≤ n → f (parityBits z k s n) ≡ true
-  not-big f n e h = pass (f (parityBits z k s n)) (rw (lt-ltb 0 n h) at (or-second (ltb (cap k) n) (ltb 0 n && not (f (parityBits z k s n))) e))
+  not-big f n e h = not-false (f (parityBits z k s n)) (rw (lt-ltb 0 n h) at (or-none-second (ltb (cap k) n) (ltb 0 n && not (f (parityBits z k s n))) e))
 
   popped-air : (n : ℕ) → 1 ≤ popped z k s n → k .inBurst (parityBits z k s (popped z k s n)) ≡ true
   popped-air zero h = absurd (omega arith)
   popped-air (suc n) h =
       by (λ (r : ℕ). 1 ≤ r → k .inBurst (parityBits z k s r) ≡ true) (ltb partialMax (suc n) || tooBig z k s (k .inBurst) (suc n))
       (λ e i. popped-air n i)
-      (λ e i. not-big (k .inBurst) (suc n) (or-second (ltb partialMax (suc n)) (tooBig z k s (k .inBurst) (suc n)) e) i) h
+      (λ e i. not-big (k .inBurst) (suc n) (or-none-second (ltb partialMax (suc n)) (tooBig z k s (k .inBurst) (suc n)) e) i) h
 
   parity-air : 1 ≤ parity z k s → cond (k .partial) (k .inBurst) (k .inStretch) (parityBits z k s (parity z k s)) ≡ true
   parity-air h = go (k .partial) refl
@@ -146,16 +146,21 @@ module _ (z : Sizes) (k : Choice) (s : Sender) where
   sent-bits =
       let g = planOf z k s in
       let c : bitsIn (k .increment) (take (parity z k s) (kept g s)) ≡ parityBits z k s (parity z k s) =
-          test (eqb (parity z k s) 0)
-          (λ e. rw (e, eqb-true (parity z k s) 0 e))
-          (λ e. rw e) in
+      test (eqb (parity z k s) 0)
+      (λ e. rw (e, eqb-true (parity z k s) 0 e))
+      (λ e. rw e) in
       rw (bits-append (increments g (take (g .parity) (kept g s))) (wholes g (oldOffs g s ++ offs (newPieces g s))), bits-increments g (take (g .parity) (kept g s)), bits-wholes g (oldOffs g s ++ offs (newPieces g s)), c)
 
   wholeFrames-le : wholeFrames z k s ≤ room z k s
   wholeFrames-le =
       let g = planOf z k s in
-      omega (arith, length-append (oldOffs g s) (offs (newPieces g s)), length-offs (newPieces g s), chunks-few (g .room - length (oldOffs g s)) (g .payload) (s .next) (s .waiting),
-      length-take (g .room) (unheld (heldOffs (kept g s)) (recut g s)))
+      omega (
+        arith,
+        length-append (oldOffs g s) (offs (newPieces g s)),
+        length-offs (newPieces g s),
+        chunks-few (g .room - length (oldOffs g s)) (g .payload) (s .next) (s .waiting),
+        length-take (g .room) (unheld (heldOffs (kept g s)) (recut g s)),
+      )
 
   parityBits-le : (n : ℕ) (ps : List Held) → ChoiceRange k → bitsIn (k .increment) (take n ps) ≤ n * maxBits
   parityBits-le zero ps kr = omega arith
@@ -175,24 +180,24 @@ module _ (z : Sizes) (k : Choice) (s : Sender) where
       let l = length-wholes (planOf z k s) (oldOffs (planOf z k s) s ++ offs (newPieces (planOf z k s) s)) in
       ap (λ (n : ℕ). length (increments (planOf z k s) (take n (kept (planOf z k s) s)) ++ wholes (planOf z k s) (oldOffs (planOf z k s) s ++ offs (newPieces (planOf z k s) s)))) q ∙ l
 
-  enough : (2 ≤ length (dataBurst (planOf z k s) s .sent)) ⊎ (1 ≤ parity z k s) → (1 ≤ parity z k s) ⊎ (2 ≤ wholeFrames z k s)
-  enough (inr h) = inl h
-  enough (inl h) =
+  two-or-parity : (2 ≤ length (dataBurst (planOf z k s) s .sent)) ⊎ (1 ≤ parity z k s) → (1 ≤ parity z k s) ⊎ (2 ≤ wholeFrames z k s)
+  two-or-parity (inr h) = inl h
+  two-or-parity (inl h) =
       test (eqb (parity z k s) 0) (λ e. inr (omega (arith, frames-whole e))) (λ e. inl (omega (arith, eqb-false (parity z k s) 0 e)))
 
   -- A burst of two frames or more, or with parity, keeps its allowance
   pub keeps-air : Sound z s → ChoiceRange k → Longer k → KeepsAir z k s
   keeps-air so kr lo h =
       let fit = wholeFrames-le in
-      let c = enough h in
+      let c = two-or-parity h in
       rw sent-bits
       (test (ltb 0 (wholeFrames z k s))
       (λ e.
       let w = ltb-true 0 (wholeFrames z k s) e in
       let r : (1 ≤ roomFrom z k s maxSlots 0) × (wholeFrames z k s ≤ roomFrom z k s maxSlots 0) =
-          test (eqb (parity z k s) 0)
-          (λ d. let q : room z k s ≡ max 1 (roomFrom z k s maxSlots 0) = rw d in ⊎-elim (λ u. omega (arith, eqb-true (parity z k s) 0 d)) (λ u. omega arith) c)
-          (λ d. let q : room z k s ≡ roomFrom z k s maxSlots 0 = rw d in omega arith) in
+      test (eqb (parity z k s) 0)
+      (λ d. let q : room z k s ≡ max 1 (roomFrom z k s maxSlots 0) = rw d in ⊎-elim (λ u. omega (arith, eqb-true (parity z k s) 0 d)) (λ u. omega arith) c)
+      (λ d. let q : room z k s ≡ roomFrom z k s maxSlots 0 = rw d in omega arith) in
       rw e
       (lo .longer (parityBits z k s (parity z k s) + wholeFrames z k s * k .slot) (parityBits z k s (parity z k s) + roomFrom z k s maxSlots 0 * k .slot)
       (omega (arith, mul-le-mul w (kr .slot .0)))

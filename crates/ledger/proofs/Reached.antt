@@ -13,41 +13,41 @@ use Rattle.ledger.specs.Sound.{Fits}
 use Rattle.ledger.specs.Plan.{parity, room}
 use Rattle.ledger.specs.Calls.{Call, queues, bursts, run, step, Along, Allowed}
 
-abbrev widest : Sizes
+abbrev pub widest : Sizes
 widest = record { short = minPayload; long = maxPayload; top = maxTop }
 
-abbrev whole : ℕ → ℕ → Plan
+abbrev pub whole : ℕ → ℕ → Plan
 whole payload number =
     record { payload = payload; merging = false; parity = 0; room = maxSlots; slot = 1; increment = λ h. 1; number = number }
 
 -- the queue filled; a burst of long frames; a burst of short ones
-full : List Call
+unfoldable pub full : List Call
 full = queues (replicate maxWaiting 0) ∷ bursts (whole maxPayload 1) ∷ bursts (whole minPayload 2) ∷ []
 
-full-bytes : size (run (step widest) full fresh .pieces) ≡ maxFlying
+pub full-bytes : size (run (step widest) full fresh .pieces) ≡ maxFlying
 unfolding full dataBurst queue
 full-bytes = refl
 
-full-pieces : length (run (step widest) full fresh .pieces) ≡ maxPieces
+pub full-pieces : length (run (step widest) full fresh .pieces) ≡ maxPieces
 unfolding full dataBurst queue
 full-pieces = refl
 
 -- by calls that are allowed
-widest-range : SizeRange widest
+pub widest-range : SizeRange widest
 widest-range = record { least = omega arith; order = omega arith; most = omega arith; bits = omega arith }
 
 whole-fits : (payload number : ℕ) (s : Sender) → (payload ≡ minPayload) ⊎ (payload ≡ maxPayload) → number ≤ maxNumber → Fits widest s (whole payload number)
 whole-fits payload number s p n =
     record {
-    payload = p;
-    parity = λ h. absurd (omega arith);
-    room = omega arith;
-    slot = (omega arith, omega arith);
-    increment = λ h. (omega arith, omega arith);
-    number = n
+      payload = p;
+      parity = λ h. absurd (omega arith);
+      room = omega arith;
+      slot = (omega arith, omega arith);
+      increment = λ h. (omega arith, omega arith);
+      number = n;
     }
 
-full-allowed : Along (step widest) (Allowed widest) full fresh
+pub full-allowed : Along (step widest) (Allowed widest) full fresh
 unfolding full
 full-allowed =
     let l = length-replicate {A = ℕ} maxWaiting 0 in

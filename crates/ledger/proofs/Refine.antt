@@ -17,9 +17,9 @@ use Rattle.ledger.specs.Claim.{Carry, Demand3}
 use Rattle.ledger.proofs.Agree.{Agree, start-agree}
 use Rattle.ledger.proofs.Covers.{covers-once, acked-exactly}
 use Rattle.ledger.proofs.History.{taken-is, history-is}
-use Rattle.ledger.proofs.InFlight.{content, inFlight-size, flown-parts, flown-length}
+use Rattle.ledger.proofs.InFlight.{find-flown, inFlight-size, flown-parts, flown-length}
 use Rattle.ledger.proofs.Kept.{out-occurs, step-sound, step-agree, step-keeps, fresh-sound}
-use Rattle.ledger.proofs.Offsets.{found, flying-within}
+use Rattle.ledger.proofs.Offsets.{find-some, flying-within}
 use Rattle.ledger.proofs.Planned.{keeps-air}
 use Rattle.ledger.proofs.ShortFrames.{pieces-shortFrames}
 
@@ -28,12 +28,12 @@ module _ (z : Sizes) (zr : SizeRange z) (s : Sender) (t : Tally) (so : Sound z s
   carry : (fs : List Sent) → ((o : ℕ) → 1 ≤ occurs o (sentOffs fs) → 1 ≤ occurs o (offs (s .pieces))) → Carry (map byteOf (t .flown)) (s .pieces) (frames (s .pieces) fs)
   carry [] w = tt
   carry (f ∷ fs) w =
-      let h = found (z .long) 0 (s .next) (f .off) (s .pieces) (so .ascend) (w (f .off) (omega (arith, one-same (f .off) (f .off) refl))) in
-      (h, refl, sym (content (z .long) (s .next) (f .off) (s .pieces) (t .flown) (so .ascend) h (ag .flown)), carry fs (λ o l. w o (omega arith)))
+      let h = find-some (z .long) 0 (s .next) (f .off) (s .pieces) (so .ascend) (w (f .off) (omega (arith, one-same (f .off) (f .off) refl))) in
+      (h, refl, sym (find-flown (z .long) (s .next) (f .off) (s .pieces) (t .flown) (so .ascend) h (ag .flown)), carry fs (λ o l. w o (omega arith)))
 
   holds : (o : ℕ) → listed o (offs (s .pieces)) ≡ true → find o (s .pieces) ≡ take (length (find o (s .pieces))) (drop o (map byteOf (t .flown)))
   holds o h =
-      sym (content (z .long) (s .next) o (s .pieces) (t .flown) (so .ascend) (found (z .long) 0 (s .next) o (s .pieces) (so .ascend) (listed-occurs o (offs (s .pieces)) h)) (ag .flown))
+      sym (find-flown (z .long) (s .next) o (s .pieces) (t .flown) (so .ascend) (find-some (z .long) 0 (s .next) o (s .pieces) (so .ascend) (listed-occurs o (offs (s .pieces)) h)) (ag .flown))
 
 module _ (z : Sizes) (zr : SizeRange z) (s : Sender) (t : Tally) (so : Sound z s) (ag : Agree s t) (c : Call) (al : Allowed z c s) where
   call-carries : (c′ : Call) → Sound z (step z c′ s) → Agree (step z c′ s) (feed (told z c′ s) t) → Carry (map byteOf (feed (told z c′ s) t .flown)) (step z c′ s .pieces) (framesIn (told z c′ s))
@@ -52,26 +52,27 @@ module _ (z : Sizes) (zr : SizeRange z) (s : Sender) (t : Tally) (so : Sound z s
       let l = flown-length (z .long) (s .next) (s .pieces) (t .flown) (so .ascend) (ag .flown) in
       let w = ap length (ag .waiting) in
       record {
-      sum = omega (arith, ag .taken);
-      taken = tk;
-      history = hi;
-      waiting = sym (ag .waiting);
-      covers = λ o. covers-once (z .long) (s .next) o (s .pieces) (t .flown) (so .ascend) (ag .flown);
-      holds = holds z zr s t so ag;
-      exactly = acked-exactly (told z c s) t;
-      acked = omega (arith, so .sum);
-      carries = call-carries c (step-sound z zr c s al so) (step-agree z zr c s t al so ag);
-      keeps = λ o h h′.
-          (found (z .long) 0 (s .next) o (s .pieces) (so .ascend)
-          (omega (arith, flying-within (heldOffs (s .held)) (s .pieces) (so .heldFlying) o, listed-occurs o (heldOffs (s .held)) h)),
-          step-keeps z zr c s o al so (listed-occurs o (heldOffs (step z c s .held)) h′));
-      flying = so .bytes;
-      pieces = omega (arith, pieces-shortFrames (z .short) (omega (arith, zr .least)) (z .long) 0 (s .next) (s .pieces) (so .ascend), so .shorts);
-      air = λ k kr lo. keeps-air z k s so kr lo
+        sum = omega (arith, ag .taken);
+        taken = tk;
+        history = hi;
+        waiting = sym (ag .waiting);
+        covers = λ o. covers-once (z .long) (s .next) o (s .pieces) (t .flown) (so .ascend) (ag .flown);
+        holds = holds z zr s t so ag;
+        exactly = acked-exactly (told z c s) t;
+        acked = omega (arith, so .sum);
+        carries = call-carries c (step-sound z zr c s al so) (step-agree z zr c s t al so ag);
+        keeps = λ o h h′. (
+          find-some (z .long) 0 (s .next) o (s .pieces) (so .ascend)
+              (omega (arith, flying-within (heldOffs (s .held)) (s .pieces) (so .heldFlying) o, listed-occurs o (heldOffs (s .held)) h)),
+          step-keeps z zr c s o al so (listed-occurs o (heldOffs (step z c s .held)) h′),
+        );
+        flying = so .bytes;
+        pieces = omega (arith, pieces-shortFrames (z .short) (omega (arith, zr .least)) (z .long) 0 (s .next) (s .pieces) (so .ascend), so .shorts);
+        air = λ k kr lo. keeps-air z k s so kr lo;
       }
 
 module _ (z : Sizes) (zr : SizeRange z) (C I : Type 0) (Given : I → C → Type 0) (Ok : C → Type 0)
-  (next : I → C → C) (view : C → Sender) (call : I → C → Call) (says : I → C → Event) where
+    (next : I → C → C) (view : C → Sender) (call : I → C → Call) (says : I → C → Event) where
   -- What each call gives of arguments that may be given and a sound record. `Ok` is whatever else holds of each state
   pub record Refines : Type 0 where
     pub allowed : (i : I) (c : C) → Given i c → Sound z (view c) → Ok c → Allowed z (call i c) (view c)

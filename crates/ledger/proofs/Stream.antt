@@ -54,8 +54,12 @@ bytesOf-chunks (suc j) m o (x ∷ w) =
 pub stream-burst : (g : Plan) (s : Sender) → bytesOf (dataBurst g s .pieces) ++ dataBurst g s .waiting ≡ bytesOf (s .pieces) ++ s .waiting
 unfolding dataBurst
 stream-burst g s =
-    rw (bytesOf-append (recut g s) (newPieces g s), append-assoc (bytesOf (recut g s)) (bytesOf (newPieces g s)) (drop (size (newPieces g s)) (s .waiting)),
-    bytesOf-chunks (g .room - length (oldOffs g s)) (g .payload) (s .next) (s .waiting), bytesOf-recut g s)
+    rw (
+      bytesOf-append (recut g s) (newPieces g s),
+      append-assoc (bytesOf (recut g s)) (bytesOf (newPieces g s)) (drop (size (newPieces g s)) (s .waiting)),
+      bytesOf-chunks (g .room - length (oldOffs g s)) (g .payload) (s .next) (s .waiting),
+      bytesOf-recut g s,
+    )
 
 pub length-bytesOf : (ps : List Piece) → length (bytesOf ps) ≡ size ps
 length-bytesOf [] = refl

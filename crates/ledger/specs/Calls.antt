@@ -51,7 +51,7 @@ module _ {C I : Type 0} (next : I → C → C) where
   run [] c = c
   run (i ∷ is) c = run is (next i c)
 
-  -- what each call says holds at its turn
+  -- P holds of each call, in the state that it finds
   abbrev pub Along : (I → C → Type 0) → List I → C → Type 0
   Along P [] c = Unit {0}
   Along P (i ∷ is) c = P i c × Along P is (next i c)

@@ -90,15 +90,15 @@ takenOf s = s .next + length (s .waiting)
 unfoldable pub queue : List ℕ → Sender → Sender
 queue bs s =
     record {
-    waiting = s .waiting ++ bs;
-    next = s .next;
-    acked = s .acked;
-    pieces = s .pieces;
-    held = s .held;
-    rest = s .rest;
-    sent = s .sent;
-    awaited = s .awaited;
-    number = s .number
+      waiting = s .waiting ++ bs;
+      next = s .next;
+      acked = s .acked;
+      pieces = s .pieces;
+      held = s .held;
+      rest = s .rest;
+      sent = s .sent;
+      awaited = s .awaited;
+      number = s .number;
     }
 
 -- ---- `data_burst`: "Re-cut anything still in flight to this level's frame size"
@@ -197,15 +197,15 @@ module _ (g : Plan) where
   unfoldable pub dataBurst : Sender → Sender
   dataBurst s =
       record {
-      waiting = drop (size (newPieces s)) (s .waiting);
-      next = s .next + size (newPieces s);
-      acked = s .acked;
-      pieces = recut s ++ newPieces s;
-      held = kept s;
-      rest = drop (g .parity) (kept s);
-      sent = slots s;
-      awaited = true;
-      number = g .number
+        waiting = drop (size (newPieces s)) (s .waiting);
+        next = s .next + size (newPieces s);
+        acked = s .acked;
+        pieces = recut s ++ newPieces s;
+        held = kept s;
+        rest = drop (g .parity) (kept s);
+        sent = slots s;
+        awaited = true;
+        number = g .number;
       }
 
 -- a frame as a burst's answer tells it: full offset and length
@@ -242,15 +242,15 @@ missed b top i (f ∷ fs) =
 unfoldable pub settleBurst : ℕ → Reply → Bool → Sender → Sender
 settleBurst top r keep s =
     record {
-    waiting = s .waiting;
-    next = s .next;
-    acked = s .acked + ackedBytes (r .bit (length (s .sent))) 0 (s .sent) (s .pieces);
-    pieces = remaining (r .bit (length (s .sent))) 0 (s .sent) (s .pieces);
-    held = cond keep (s .rest ++ missed (r .bit (length (s .sent))) top 0 (s .sent)) [];
-    rest = [];
-    sent = [];
-    awaited = false;
-    number = s .number
+      waiting = s .waiting;
+      next = s .next;
+      acked = s .acked + ackedBytes (r .bit (length (s .sent))) 0 (s .sent) (s .pieces);
+      pieces = remaining (r .bit (length (s .sent))) 0 (s .sent) (s .pieces);
+      held = cond keep (s .rest ++ missed (r .bit (length (s .sent))) top 0 (s .sent)) [];
+      rest = [];
+      sent = [];
+      awaited = false;
+      number = s .number;
     }
 
 -- ---- the Ack and Turn arms of `sender_rx`, with `on_ack`
@@ -259,15 +259,15 @@ settleBurst top r keep s =
 unfoldable pub clearBurst : Sender → Sender
 clearBurst s =
     record {
-    waiting = s .waiting;
-    next = s .next;
-    acked = s .acked;
-    pieces = s .pieces;
-    held = s .held;
-    rest = s .rest;
-    sent = [];
-    awaited = false;
-    number = s .number
+      waiting = s .waiting;
+      next = s .next;
+      acked = s .acked;
+      pieces = s .pieces;
+      held = s .held;
+      rest = s .rest;
+      sent = [];
+      awaited = false;
+      number = s .number;
     }
 
 -- "An unmatched burst number settles nothing"; a burst with no frame neither: `on_ack` returns before it, and the held list stays

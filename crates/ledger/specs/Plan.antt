@@ -19,7 +19,7 @@ pub record Choice : Type 0 where
   -- `slot`, and `harq::increment(h, slot)`
   pub slot : ℕ
   pub increment : ℕ → ℕ
-  -- `self.data_s(level, bits, cue) <= max_s`, the same with `parity_s`, and `bits <= max_bits`
+  -- `self.data_s(level, bits, cue) <= max_s` (where it fails, `>` holds: a duration is a number), the same with `parity_s`, and `bits <= max_bits`
   pub inBurst : ℕ → Bool
   pub inStretch : ℕ → Bool
   pub inMaxBits : ℕ → Bool
@@ -90,13 +90,13 @@ module _ (z : Sizes) (k : Choice) (s : Sender) where
   abbrev pub planOf : Plan
   planOf =
       record {
-      payload = cond (k .long) (z .long) (z .short);
-      merging = k .merging && k .long;
-      parity = parity;
-      room = room;
-      slot = k .slot;
-      increment = k .increment;
-      number = k .number
+        payload = cond (k .long) (z .long) (z .short);
+        merging = k .merging && k .long;
+        parity = parity;
+        room = room;
+        slot = k .slot;
+        increment = k .increment;
+        number = k .number;
       }
 
   -- frames of whole pieces in the burst: `pieces.len()` at the end

@@ -72,10 +72,10 @@ furthest (f ∷ fs) = max (f .off + f .len) (furthest fs)
 unfoldable pub sentOut : ℕ → List Frame → Tally → Tally
 sentOut n fs t =
     record {
-    taken = t .taken;
-    waiting = drop (furthest fs - length (t .flown)) (t .waiting);
-    flown = t .flown ++ unacked (take (furthest fs - length (t .flown)) (t .waiting));
-    out = outstanding n fs
+      taken = t .taken;
+      waiting = drop (furthest fs - length (t .flown)) (t .waiting);
+      flown = t .flown ++ unacked (take (furthest fs - length (t .flown)) (t .waiting));
+      out = outstanding n fs;
     }
 
 -- offset k is one of the l offsets from o
