@@ -92,39 +92,40 @@ split-fits m k n [] a = refl
 split-fits m k n (p ∷ ps) a = rw (cut-fits (len p) m (p .off) (p .bytes) (a .2), split-fits m (end p) n ps (a .3))
 
 -- merging
-module _ (h : List ℕ) (m : ℕ) where
-  joins-end : (p q : Piece) → joins h m p q ≡ true → end p ≡ q .off
-  joins-end p q e = eqb-true (end p) (q .off) (and-first _ (leb (len p + len q) m) (and-second (not (listed (p .off) h) && not (listed (q .off) h)) _ e))
+joins-end : (h : List ℕ) (m : ℕ) (p q : Piece) → joins h m p q ≡ true → end p ≡ q .off
+joins-end h m p q e =
+    eqb-true (end p) (q .off) (and-first _ (leb (len p + len q) m) (and-second (not (listed (p .off) h) && not (listed (q .off) h)) _ e))
 
-  joins-fit : (p q : Piece) → joins h m p q ≡ true → len p + len q ≤ m
-  joins-fit p q e = leb-true (len p + len q) m (and-second (eqb (end p) (q .off)) _ (and-second (not (listed (p .off) h) && not (listed (q .off) h)) _ e))
+joins-fit : (h : List ℕ) (m : ℕ) (p q : Piece) → joins h m p q ≡ true → len p + len q ≤ m
+joins-fit h m p q e =
+    leb-true (len p + len q) m (and-second (eqb (end p) (q .off)) _ (and-second (not (listed (p .off) h) && not (listed (q .off) h)) _ e))
 
-  byOffset-mergeFrom : (k n : ℕ) (p : Piece) (qs : List Piece) → byOffset k n (mergeFrom h m p qs) ≡ byOffset k n (p ∷ qs)
-  byOffset-mergeFrom k n p [] = refl
-  byOffset-mergeFrom k n p (q ∷ qs) =
-      by (λ (r : List Piece). byOffset k n r ≡ byOffset k n (p ∷ q ∷ qs)) (joins h m p q)
-      (λ e. byOffset-mergeFrom k n (joined p q) qs ∙ sym (byOffset-two (p .off) k n (p .bytes) (q .bytes) qs) ∙ rw (joins-end p q e))
-      (λ e. ap (λ (c : List (Option ℕ)). replicate (p .off - k) none ++ (map some (p .bytes) ++ c)) (byOffset-mergeFrom (end p) n q qs))
+byOffset-mergeFrom : (k n : ℕ) (h : List ℕ) (m : ℕ) (p : Piece) (qs : List Piece) → byOffset k n (mergeFrom h m p qs) ≡ byOffset k n (p ∷ qs)
+byOffset-mergeFrom k n h m p [] = refl
+byOffset-mergeFrom k n h m p (q ∷ qs) =
+    by (λ (r : List Piece). byOffset k n r ≡ byOffset k n (p ∷ q ∷ qs)) (joins h m p q)
+    (λ e. byOffset-mergeFrom k n h m (joined p q) qs ∙ sym (byOffset-two (p .off) k n (p .bytes) (q .bytes) qs) ∙ rw (joins-end h m p q e))
+    (λ e. ap (λ (c : List (Option ℕ)). replicate (p .off - k) none ++ (map some (p .bytes) ++ c)) (byOffset-mergeFrom (end p) n _ m q qs))
 
-  ascend-mergeFrom : (k n : ℕ) (p : Piece) (qs : List Piece) → Ascend m k n (p ∷ qs) → Ascend m k n (mergeFrom h m p qs)
-  ascend-mergeFrom k n p [] a = a
-  ascend-mergeFrom k n p (q ∷ qs) a =
-      by (λ (r : List Piece). Ascend m k n r) (joins h m p q)
-      (λ e.
-      let l = length-append (p .bytes) (q .bytes) in
-      let c = joins-end p q e in
-      let f = joins-fit p q e in
-      let i : p .off + length (p .bytes ++ q .bytes) ≡ end q = omega arith in
-      ascend-mergeFrom k n (joined p q) qs (a .0, omega arith, omega arith, rw i (a .3 .3)))
-      (λ e. (a .0, a .1, a .2, ascend-mergeFrom (end p) n q qs (a .3)))
+ascend-mergeFrom : (k n : ℕ) (h : List ℕ) (m : ℕ) (p : Piece) (qs : List Piece) → Ascend m k n (p ∷ qs) → Ascend m k n (mergeFrom h m p qs)
+ascend-mergeFrom k n h m p [] a = a
+ascend-mergeFrom k n h m p (q ∷ qs) a =
+    by (λ (r : List Piece). Ascend m k n r) (joins h m p q)
+    (λ e.
+    let l = length-append (p .bytes) (q .bytes) in
+    let c = joins-end h m p q e in
+    let f = joins-fit h m p q e in
+    let i : p .off + length (p .bytes ++ q .bytes) ≡ end q = omega arith in
+    ascend-mergeFrom k n h m (joined p q) qs (a .0, omega arith, omega arith, rw i (a .3 .3)))
+    (λ e. (a .0, a .1, a .2, ascend-mergeFrom (end p) n _ m q qs (a .3)))
 
-  pub byOffset-merge : (k n : ℕ) (ps : List Piece) → byOffset k n (mergeInflight h m ps) ≡ byOffset k n ps
-  byOffset-merge k n [] = refl
-  byOffset-merge k n (p ∷ ps) = byOffset-mergeFrom k n p ps
+pub byOffset-merge : (h : List ℕ) (m k n : ℕ) (ps : List Piece) → byOffset k n (mergeInflight h m ps) ≡ byOffset k n ps
+byOffset-merge h m k n [] = refl
+byOffset-merge h m k n (p ∷ ps) = byOffset-mergeFrom k n h m p ps
 
-  pub ascend-merge : (k n : ℕ) (ps : List Piece) → Ascend m k n ps → Ascend m k n (mergeInflight h m ps)
-  ascend-merge k n [] a = a
-  ascend-merge k n (p ∷ ps) a = ascend-mergeFrom k n p ps a
+pub ascend-merge : (h : List ℕ) (m k n : ℕ) (ps : List Piece) → Ascend m k n ps → Ascend m k n (mergeInflight h m ps)
+ascend-merge h m k n [] a = a
+ascend-merge h m k n (p ∷ ps) a = ascend-mergeFrom k n h m p ps a
 
 -- pieces after pieces
 pub ascend-append : (m k n n′ : ℕ) (ps qs : List Piece) → Ascend m k n ps → Ascend m n n′ qs → Ascend m k n′ (ps ++ qs)

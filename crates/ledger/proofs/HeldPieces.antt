@@ -2,61 +2,55 @@
 -- Assumes nothing.
 use Prim.Native.Nat.{ℕ, suc, _+_, _≤_}
 use mathlib.Core.Path.{_≡_, refl, sym, ap, _∙_}
-use mathlib.Core.Bool.{true, false, not, _&&_}
+use mathlib.Core.Bool.{true, false, cond, not, _&&_}
 use mathlib.Core.List.{List, [], _∷_, _++_}
 use native.Mathlib.Omega.{arith}
 use lib.Dec.{eqb, leb}
 use lib.ListN.{length}
 use borrow.Author.Tests.{eqb-false, ne-eqb, not-true}
-use Rattle.laws.specs.Lists.{listed, occurs, one}
+use Rattle.laws.specs.Lists.{occurs, listed, one}
 use Rattle.laws.proofs.Picks.{and-first, and-second, by, test}
 use Rattle.laws.proofs.Lists.{unlisted-occurs, listed-occurs, one-other}
 use Rattle.ledger.specs.Ledger.{joins, Piece, end, len, find, mergeFrom, joined, offs, mergeInflight, unheld, sentOffs, Sent, heldOffs, Held, increments, Plan, wholes}
 use Rattle.ledger.specs.Cover.{Ascend}
 use Rattle.ledger.proofs.Offsets.{occurs-once}
 
+-- neither of two pieces that join is a held one
+joins-left : (h : List ℕ) (m o : ℕ) (p q : Piece) → joins h m p q ≡ true → 1 ≤ occurs o h → eqb o (p .off) ≡ false
+joins-left h m o p q e l =
+    let n = not-true (listed (p .off) h) (and-first _ (not (listed (q .off) h)) (and-first _ (eqb (end p) (q .off) && leb (len p + len q) m) e)) in
+    ne-eqb o (p .off) (λ z. let v : 1 ≤ occurs (p .off) h = rw z at l in omega (arith, unlisted-occurs (p .off) h n))
+
+joins-right : (h : List ℕ) (m o : ℕ) (p q : Piece) → joins h m p q ≡ true → 1 ≤ occurs o h → eqb o (q .off) ≡ false
+joins-right h m o p q e l =
+    let n = not-true (listed (q .off) h) (and-second (not (listed (p .off) h)) _ (and-first _ (eqb (end p) (q .off) && leb (len p + len q) m) e)) in
+    ne-eqb o (q .off) (λ z. let v : 1 ≤ occurs (q .off) h = rw z at l in omega (arith, unlisted-occurs (q .off) h n))
+
+find-mergeFrom : (o : ℕ) (h : List ℕ) (m : ℕ) (p : Piece) (qs : List Piece) → 1 ≤ occurs o h → find o (mergeFrom h m p qs) ≡ find o (p ∷ qs)
+find-mergeFrom o h m p [] l = refl
+find-mergeFrom o h m p (q ∷ qs) l =
+    by (λ (r : List Piece). find o r ≡ find o (p ∷ q ∷ qs)) (joins h m p q)
+    (λ e. find-mergeFrom o h m (joined p q) qs l ∙ rw (joins-left h m o p q e l, joins-right h m o p q e l))
+    (λ e. ap (cond (eqb o (p .off)) (p .bytes)) (find-mergeFrom o _ m q qs (omega arith)))
+
+occurs-mergeFrom : (o : ℕ) (h : List ℕ) (m : ℕ) (p : Piece) (qs : List Piece) → 1 ≤ occurs o h → occurs o (offs (mergeFrom h m p qs)) ≡ occurs o (offs (p ∷ qs))
+occurs-mergeFrom o h m p [] l = refl
+occurs-mergeFrom o h m p (q ∷ qs) l =
+    by (λ (r : List Piece). occurs o (offs r) ≡ occurs o (offs (p ∷ q ∷ qs))) (joins h m p q)
+    (λ e.
+    let i = occurs-mergeFrom o h m (joined p q) qs l in
+    let z = ap one (joins-right h m o p q e l) in
+    omega arith)
+    (λ e. ap (λ (n : ℕ). one (eqb o (p .off)) + n) (occurs-mergeFrom o _ m q qs (omega arith)))
+
 module _ (h : List ℕ) where
-  joins-left : (m : ℕ) (p q : Piece) → joins h m p q ≡ true → listed (p .off) h ≡ false
-  joins-left m p q e = not-true (listed (p .off) h) (and-first _ (not (listed (q .off) h)) (and-first _ (eqb (end p) (q .off) && leb (len p + len q) m) e))
-
-  joins-right : (m : ℕ) (p q : Piece) → joins h m p q ≡ true → listed (q .off) h ≡ false
-  joins-right m p q e = not-true (listed (q .off) h) (and-second (not (listed (p .off) h)) _ (and-first _ (eqb (end p) (q .off) && leb (len p + len q) m) e))
-
-  -- neither of two pieces that join is the held one
-  joins-apart-left : (m o : ℕ) (p q : Piece) → joins h m p q ≡ true → 1 ≤ occurs o h → eqb o (p .off) ≡ false
-  joins-apart-left m o p q e l =
-      let u = unlisted-occurs (p .off) h (joins-left m p q e) in
-      ne-eqb o (p .off) (λ z. let v : 1 ≤ occurs (p .off) h = rw z at l in omega arith)
-
-  joins-apart-right : (m o : ℕ) (p q : Piece) → joins h m p q ≡ true → 1 ≤ occurs o h → eqb o (q .off) ≡ false
-  joins-apart-right m o p q e l =
-      let u = unlisted-occurs (q .off) h (joins-right m p q e) in
-      ne-eqb o (q .off) (λ z. let v : 1 ≤ occurs (q .off) h = rw z at l in omega arith)
-
-  find-mergeFrom : (m o : ℕ) (p : Piece) (qs : List Piece) → 1 ≤ occurs o h → find o (mergeFrom h m p qs) ≡ find o (p ∷ qs)
-  find-mergeFrom m o p [] l = refl
-  find-mergeFrom m o p (q ∷ qs) l =
-      by (λ (r : List Piece). find o r ≡ find o (p ∷ q ∷ qs)) (joins h m p q)
-      (λ e. find-mergeFrom m o (joined p q) qs l ∙ rw (joins-apart-left m o p q e l, joins-apart-right m o p q e l))
-      (λ e. rw (find-mergeFrom m o q qs l))
-
-  occurs-mergeFrom : (m o : ℕ) (p : Piece) (qs : List Piece) → 1 ≤ occurs o h → occurs o (offs (mergeFrom h m p qs)) ≡ occurs o (offs (p ∷ qs))
-  occurs-mergeFrom m o p [] l = refl
-  occurs-mergeFrom m o p (q ∷ qs) l =
-      by (λ (r : List Piece). occurs o (offs r) ≡ occurs o (offs (p ∷ q ∷ qs))) (joins h m p q)
-      (λ e.
-      let i = occurs-mergeFrom m o (joined p q) qs l in
-      let z = ap one (joins-apart-right m o p q e l) in
-      omega arith)
-      (λ e. let i = occurs-mergeFrom m o q qs l in omega arith)
-
   pub find-merge : (m o : ℕ) (ps : List Piece) → 1 ≤ occurs o h → find o (mergeInflight h m ps) ≡ find o ps
   find-merge m o [] l = refl
-  find-merge m o (p ∷ ps) l = find-mergeFrom m o p ps l
+  find-merge m o (p ∷ ps) l = find-mergeFrom o h m p ps l
 
   pub occurs-merge : (m o : ℕ) (ps : List Piece) → 1 ≤ occurs o h → occurs o (offs (mergeInflight h m ps)) ≡ occurs o (offs ps)
   occurs-merge m o [] l = refl
-  occurs-merge m o (p ∷ ps) l = occurs-mergeFrom m o p ps l
+  occurs-merge m o (p ∷ ps) l = occurs-mergeFrom o h m p ps l
 
   -- the pieces that are not held
   occurs-unheld : (o : ℕ) (ps : List Piece) → occurs o (unheld h ps) ≤ occurs o (offs ps)

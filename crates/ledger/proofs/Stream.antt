@@ -30,7 +30,7 @@ bytesOf-mergeFrom h m p [] = refl
 bytesOf-mergeFrom h m p (q ∷ qs) =
     by (λ (r : List Piece). bytesOf r ≡ bytesOf (p ∷ q ∷ qs)) (joins h m p q)
     (λ e. bytesOf-mergeFrom h m (joined p q) qs ∙ append-assoc (p .bytes) (q .bytes) (bytesOf qs))
-    (λ e. rw (bytesOf-mergeFrom h m q qs))
+    (λ e. ap (λ (bs : List ℕ). p .bytes ++ bs) (bytesOf-mergeFrom _ m q qs))
 
 bytesOf-merge : (h : List ℕ) (m : ℕ) (ps : List Piece) → bytesOf (mergeInflight h m ps) ≡ bytesOf ps
 bytesOf-merge h m [] = refl
