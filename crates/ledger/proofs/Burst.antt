@@ -61,7 +61,7 @@ heldBits-take top zero ps b = tt
 heldBits-take top (suc k) [] b = tt
 heldBits-take top (suc k) (p ∷ ps) b = (b .0, b .1, heldBits-take top k ps (b .2))
 
-no-pieces : (ps : List Piece) → length ps ≤ 0 → ps ≡ []
+pub no-pieces : (ps : List Piece) → length ps ≤ 0 → ps ≡ []
 no-pieces [] h = refl
 no-pieces (p ∷ ps) h = absurd (omega arith)
 
@@ -271,6 +271,11 @@ module _ (z : Sizes) (zr : SizeRange z) (s : Sender) (g : Plan) (so : Sound z s)
         flown = rw (l, furthest-burst, ti .waiting, all-byOffset, map-append flyingByte (t .flown) (unacked (take (size (newPieces g s)) (s .waiting))), ti .flown, flying-unacked (take (size (newPieces g s)) (s .waiting)));
         out = refl;
       }
+
+  -- each piece fits a frame of the burst
+  pub burst-ascend : Ascend (g .payload) 0 (dataBurst g s .next) (dataBurst g s .pieces)
+  unfolding dataBurst
+  burst-ascend = all-ascend
 
   pub burst-keeps : (o : ℕ) → 1 ≤ occurs o (heldOffs (dataBurst g s .held)) → find o (dataBurst g s .pieces) ≡ find o (s .pieces)
   unfolding dataBurst

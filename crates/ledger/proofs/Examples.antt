@@ -7,7 +7,7 @@ use mathlib.Core.List.{List, [], _∷_}
 use lib.ListN.{length, replicate}
 use Rattle.ledger.specs.Limits.{Sizes}
 use Rattle.ledger.specs.Reply.{shortAck, longAck}
-use Rattle.ledger.specs.Ledger.{Piece, len, split, mergeInflight, queue, fresh, dataBurst, onAck, settleBurst, clearBurst}
+use Rattle.ledger.specs.Ledger.{Piece, len, split, mergeInflight, queue, fresh, dataBurst, onAck, settleBurst, clearBurst, Held, Sent, Sender, sentOffs}
 use Rattle.ledger.specs.Tally.{Tally, inFlight, acknowledged, start, queued, sentOut, heard, turned}
 use Rattle.ledger.specs.Plan.{parity, room}
 use Rattle.ledger.specs.Calls.{Call, bursts, queues, hears, turns, run, step, tally, told}
@@ -79,3 +79,46 @@ counts t = t .taken ∷ length (t .waiting) ∷ inFlight (t .flown) ∷ acknowle
 after-tally : counts (tally (step sizes) (told sizes) calls fresh start) ≡ 200 ∷ 20 ∷ 30 ∷ 150 ∷ []
 unfolding calls dataBurst onAck settleBurst clearBurst queue queued sentOut heard turned
 after-tally = refl
+
+-- ---- a burst's frames, and the held list
+
+abbrev heldRows : List Held → List ℕ
+heldRows [] = []
+heldRows (h ∷ hs) = h .off ∷ h .bits ∷ heldRows hs
+
+abbrev sentRows : List Sent → List ℕ
+sentRows [] = []
+sentRows (f ∷ fs) = f .off ∷ f .bits ∷ f .held ∷ sentRows fs
+
+-- four frames of 30, of which the second and fourth arrive, the others held or not; then a burst
+abbrev twice : Bool → Call → Sender
+twice keep c = run (step sizes) (queues (replicate 200 5) ∷ plan 30 0 4 1 ∷ hears (shortAck 1 10) keep ∷ c ∷ []) fresh
+
+-- parity first, then new pieces; of two held one goes, and the other is the unsent rest
+parity-first : sentRows (twice true (plan 30 1 2 2) .sent) ≡ 0 ∷ 1440 ∷ 4320 ∷ 120 ∷ 2880 ∷ 2880 ∷ 150 ∷ 2880 ∷ 2880 ∷ []
+unfolding dataBurst onAck settleBurst clearBurst queue
+parity-first = refl
+
+rest-left : heldRows (twice true (plan 30 1 2 2) .rest) ≡ 60 ∷ 2880 ∷ []
+unfolding dataBurst onAck settleBurst clearBurst queue
+rest-left = refl
+
+-- the oldest pieces, then new ones
+oldest-first : sentOffs (twice false (plan 30 0 3 2) .sent) ≡ 0 ∷ 60 ∷ 120 ∷ []
+unfolding dataBurst onAck settleBurst clearBurst queue
+oldest-first = refl
+
+-- after an ack that has the second frame alone, the peer holds the unsent rest, then what it missed
+held-then : heldRows (onAck 11520 (shortAck 2 2) true (twice true (plan 30 1 2 2)) .held) ≡ 60 ∷ 2880 ∷ 0 ∷ 4320 ∷ 150 ∷ 2880 ∷ []
+unfolding dataBurst onAck settleBurst clearBurst queue
+held-then = refl
+
+-- after an ack of another burst the held list and the unsent rest stay
+unmatched : heldRows (onAck 11520 (shortAck 1 2) true (twice true (plan 30 1 2 2)) .held) ≡ 0 ∷ 2880 ∷ 60 ∷ 2880 ∷ []
+unfolding dataBurst onAck settleBurst clearBurst queue
+unmatched = refl
+
+-- an ack of a burst with no frame keeps the held list, whatever it says
+no-frame : (keep : Bool) → heldRows (onAck 11520 (shortAck 0 63) keep (record { waiting = []; next = 30; acked = 0; pieces = piece 0 30 ∷ []; held = record { off = 0; bits = 2880 } ∷ []; rest = []; sent = []; awaited = true; number = 0 }) .held) ≡ 0 ∷ 2880 ∷ []
+unfolding onAck settleBurst clearBurst
+no-frame keep = refl

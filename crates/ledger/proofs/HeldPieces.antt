@@ -96,7 +96,7 @@ unheld-more x h (p ∷ ps) =
     (λ f. let z = one-other (p .off) x (λ q. eqb-false x (p .off) f (sym q)) in omega arith))
     (λ d. omega arith))
 
-unheld-none : (ps : List Piece) → length (unheld [] ps) ≡ length ps
+pub unheld-none : (ps : List Piece) → length (unheld [] ps) ≡ length ps
 unheld-none [] = refl
 unheld-none (p ∷ ps) = rw (unheld-none ps)
 

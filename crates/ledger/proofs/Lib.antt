@@ -9,6 +9,7 @@ pub mod Settle
 pub mod Agree
 pub mod Burst
 pub mod Planned
+pub mod Progress
 pub mod Kept
 pub mod Covers
 pub mod Stream

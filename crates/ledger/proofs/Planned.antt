@@ -1,6 +1,6 @@
 -- The plan that `data_burst` makes fits, and its burst keeps the air allowance.
 -- Assumes nothing.
-use Prim.Native.Nat.{ℕ, zero, suc, _+_, _-_, _*_, _≤_, max}
+use Prim.Native.Nat.{ℕ, zero, suc, _+_, _-_, _*_, _≤_, _<_, max}
 use mathlib.Core.Path.{_≡_, refl, sym, ap, _∙_}
 use mathlib.Core.Logic.{_⊎_, inl, inr, ⊎-elim}
 use mathlib.Core.Bool.{Bool, true, false, cond, not, _&&_, _||_}
@@ -18,6 +18,10 @@ use Rattle.ledger.specs.Plan.{Choice, popped, tooBig, parity, offered, r
 use Rattle.ledger.proofs.Cover.{chunks-few}
 use Rattle.ledger.proofs.Offsets.{length-offs}
 
+or-none-first : (a b : Bool) → a || b ≡ false → a ≡ false
+or-none-first true b e = e
+or-none-first false b e = refl
+
 module _ (z : Sizes) (k : Choice) (s : Sender) where
   popped-le : (n : ℕ) → popped z k s n ≤ n
   popped-le zero = omega arith
@@ -30,6 +34,23 @@ module _ (z : Sizes) (k : Choice) (s : Sender) where
       by (λ (r : ℕ). r ≤ offered z k s) (k .partial)
       (λ e. by (λ (r : ℕ). r ≤ offered z k s) (tooBig z k s (k .inBurst) (offered z k s)) (λ d. popped-le (offered z k s)) (λ d. omega arith))
       (λ e. by (λ (r : ℕ). r ≤ offered z k s) (tooBig z k s (k .inStretch) (offered z k s)) (λ d. omega arith) (λ d. omega arith))
+
+  popped-partial : (n : ℕ) → popped z k s n ≤ partialMax
+  popped-partial zero = omega arith
+  popped-partial (suc n) =
+      by (λ (r : ℕ). r ≤ partialMax) (ltb partialMax (suc n) || tooBig z k s (k .inBurst) (suc n))
+      (λ e. popped-partial n)
+      (λ e. omega (arith, ltb-false partialMax (suc n) (or-none-first (ltb partialMax (suc n)) (tooBig z k s (k .inBurst) (suc n)) e)))
+
+  offered-all : offered z k s < length (s .held) → offered z k s ≤ partialMax
+  offered-all = by (λ (r : ℕ). r < length (s .held) → r ≤ partialMax) (k .long && k .sameWave) (λ e h. absurd (omega arith)) (λ e h. omega arith)
+
+  -- where some of the held list stay unsent, the partial field has a place for the rest
+  pub parity-partial : parity z k s < length (s .held) → parity z k s ≤ partialMax
+  parity-partial =
+      by (λ (r : ℕ). r < length (s .held) → r ≤ partialMax) (k .partial)
+      (λ e. by (λ (r : ℕ). r < length (s .held) → r ≤ partialMax) (tooBig z k s (k .inBurst) (offered z k s)) (λ d h. popped-partial (offered z k s)) (λ d. offered-all))
+      (λ e. by (λ (r : ℕ). r < length (s .held) → r ≤ partialMax) (tooBig z k s (k .inStretch) (offered z k s)) (λ d h. omega arith) (λ d. offered-all))
 
   parity-long : 1 ≤ parity z k s → k .long ≡ true
   parity-long h =
@@ -55,7 +76,7 @@ module _ (z : Sizes) (k : Choice) (s : Sender) where
   pub room-done : oneMore z k s (roomFrom z k s maxSlots 0) ≡ false
   room-done = roomFrom-done maxSlots 0 (omega arith)
 
-  kept-stored : length (kept (planOf z k s) s) ≡ stored z k s
+  pub kept-stored : length (kept (planOf z k s) s) ≡ stored z k s
   kept-stored =
       test (eqb (parity z k s) 0)
       (λ e. rw e)
@@ -100,7 +121,7 @@ module _ (z : Sizes) (k : Choice) (s : Sender) where
   bits-wholes g [] = omega arith
   bits-wholes g (o ∷ os) = let i = bits-wholes g os in omega arith
 
-  length-wholes : (g : Plan) (os : List ℕ) → length (wholes g os) ≡ length os
+  pub length-wholes : (g : Plan) (os : List ℕ) → length (wholes g os) ≡ length os
   length-wholes g [] = refl
   length-wholes g (o ∷ os) = rw (length-wholes g os)
 
@@ -167,13 +188,13 @@ module _ (z : Sizes) (k : Choice) (s : Sender) where
   parityBits-le (suc n) [] kr = omega arith
   parityBits-le (suc n) (p ∷ ps) kr = omega (arith, parityBits-le n ps kr, kr .increment (p .bits) .1)
 
-  parity-stored : parity z k s ≤ stored z k s
+  pub parity-stored : parity z k s ≤ stored z k s
   parity-stored =
       let o : offered z k s ≤ length (s .held) = by (λ (q : ℕ). q ≤ length (s .held)) (k .long && k .sameWave) (λ e. omega arith) (λ e. omega arith) in
       by (λ (q : ℕ). parity z k s ≤ q) (eqb (parity z k s) 0) (λ e. omega (arith, eqb-true (parity z k s) 0 e)) (λ e. omega (arith, parity-le))
 
   -- with no parity all frames have whole pieces
-  frames-whole : eqb (parity z k s) 0 ≡ true → length (dataBurst (planOf z k s) s .sent) ≡ wholeFrames z k s
+  pub frames-whole : eqb (parity z k s) 0 ≡ true → length (dataBurst (planOf z k s) s .sent) ≡ wholeFrames z k s
   unfolding dataBurst
   frames-whole e =
       let q = eqb-true (parity z k s) 0 e in
