@@ -6,7 +6,7 @@ use mathlib.Core.Logic.{⊎-elim}
 use mathlib.Core.Bool.{true, cond}
 use mathlib.Core.List.{List, [], _∷_, _++_, map, append-nil}
 use mathlib.Core.Option.{some}
-use native.Mathlib.Nat.{mul-le-mul}
+use native.Mathlib.Nat.{mul-le-mul, le-trans}
 use native.Mathlib.Omega.{arith}
 use lib.Dec.{eqb, ltb}
 use lib.ListN.{length, take, drop, take-append-drop, length-append, length-drop, length-take}
@@ -94,13 +94,13 @@ module _ (z : Sizes) (zr : SizeRange z) (s : Sender) (g : Plan) (so : Sound z s)
   recut-ascend : Ascend (g .payload) 0 (s .next) (recut g s)
   recut-ascend =
       let a = ascend-split (g .payload) (z .long) 0 (s .next) (s .pieces) (omega (arith, payload-least)) (so .ascend) in
-      by (λ (r : List Piece). Ascend (g .payload) 0 (s .next) r) (g .merging) (λ e. ascend-merge (heldOffs (kept g s)) (g .payload) 0 (s .next) (split (g .payload) (s .pieces)) a) (λ e. a)
+      by (λ (r : List Piece). Ascend (g .payload) 0 (s .next) r) (g .merging) (λ e. ascend-merge _ (g .payload) 0 (s .next) (split (g .payload) (s .pieces)) a) (λ e. a)
 
   recut-byOffset : byOffset 0 (s .next) (recut g s) ≡ byOffset 0 (s .next) (s .pieces)
   recut-byOffset =
       let a = byOffset-split (g .payload) 0 (s .next) (s .pieces) in
       by (λ (r : List Piece). byOffset 0 (s .next) r ≡ byOffset 0 (s .next) (s .pieces)) (g .merging)
-      (λ e. byOffset-merge (heldOffs (kept g s)) (g .payload) 0 (s .next) (split (g .payload) (s .pieces)) ∙ a) (λ e. a)
+      (λ e. byOffset-merge _ (g .payload) 0 (s .next) (split (g .payload) (s .pieces)) ∙ a) (λ e. a)
 
   recut-shortFrames : shortFrames (z .short) (recut g s) ≤ shortFrames (z .short) (s .pieces)
   recut-shortFrames =
@@ -108,7 +108,7 @@ module _ (z : Sizes) (zr : SizeRange z) (s : Sender) (g : Plan) (so : Sound z s)
       ⊎-elim (λ e. rw e (shortFrames-split (z .short) (omega (arith, zr .least)) (s .pieces)))
       (λ e. rw (split-fits (g .payload) 0 (s .next) (s .pieces) (rw e (so .ascend))) (omega arith)) (fi .payload) in
       by (λ (r : List Piece). shortFrames (z .short) r ≤ shortFrames (z .short) (s .pieces)) (g .merging)
-      (λ e. let m = shortFrames-merge (z .short) (omega (arith, zr .least)) (heldOffs (kept g s)) (g .payload) (split (g .payload) (s .pieces)) in omega arith)
+      (λ e. le-trans (shortFrames-merge (z .short) (omega (arith, zr .least)) _ (g .payload) (split (g .payload) (s .pieces))) w)
       (λ e. w)
 
   -- with a held list the level has long frames, and nothing is cut

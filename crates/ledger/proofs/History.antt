@@ -11,7 +11,7 @@ use Rattle.laws.proofs.Picks.{either}
 use Rattle.laws.proofs.Lists.{map-append}
 use Rattle.ledger.specs.Reply.{Reply}
 use Rattle.ledger.specs.Ledger.{Frame}
-use Rattle.ledger.specs.Tally.{unacked, byteOf, acknowledge, Flown, acknowledgeAll, answered, Outstanding, nothing, outstanding, Tally, Event, feed, bytesIn, queued, sentOut, heard, turn, turned, silent, took, reply, went, furthest, start}
+use Rattle.ledger.specs.Tally.{unacked, byteOf, acknowledge, Flown, acknowledgeAll, answered, Outstanding, nothing, outstanding, Tally, Event, feed, bytesIn, queued, sentOut, heard, turned, turn, silent, took, reply, went, furthest, start}
 use Rattle.ledger.specs.Calls.{tally, told, history}
 
 bytes-unacked : (bs : List ℕ) → map byteOf (unacked bs) ≡ bs

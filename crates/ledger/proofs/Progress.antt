@@ -1,6 +1,6 @@
 -- No empty bursts: a burst has a frame where any byte flies or waits.
 -- Assumes nothing.
-use Prim.Native.Nat.{ℕ, zero, suc, _+_, _-_, _≤_, max}
+use Prim.Native.Nat.{ℕ, zero, suc, _+_, _-_, _≤_}
 use mathlib.Core.Path.{_≡_, refl, ap, _∙_}
 use mathlib.Core.List.{List, [], _∷_, _++_}
 use native.Mathlib.Omega.{arith}
@@ -8,10 +8,10 @@ use lib.Dec.{eqb, ltb}
 use lib.ListN.{length, take, length-append, length-take}
 use borrow.Author.Tests.{eqb-true, eqb-false, ltb-true, ltb-false}
 use Rattle.laws.proofs.Picks.{test}
-use Rattle.ledger.specs.Limits.{Sizes, SizeRange, maxSlots}
+use Rattle.ledger.specs.Limits.{Sizes, SizeRange}
 use Rattle.ledger.specs.Ledger.{chunks, increments, Plan, Held, Sender, size, oldOffs, offs, newPieces, kept, unheld, heldOffs, recut, dataBurst, wholes}
 use Rattle.ledger.specs.Sound.{Sound, Fits}
-use Rattle.ledger.specs.Plan.{parity, room, Choice, ChoiceRange, planOf, roomFrom}
+use Rattle.ledger.specs.Plan.{parity, room, Choice, ChoiceRange, planOf}
 use Rattle.ledger.proofs.Burst.{no-pieces, recut-size}
 use Rattle.ledger.proofs.HeldPieces.{unheld-none}
 use Rattle.ledger.proofs.Offsets.{length-offs}
@@ -61,6 +61,6 @@ module _ (z : Sizes) (zr : SizeRange z) (k : Choice) (kr : ChoiceRange k) (s : S
   burst-some b =
       test (eqb (parity z k s) 0)
       (λ e.
-      let r : room z k s ≡ max 1 (roomFrom z k s maxSlots 0) = rw e in
+      let r : 1 ≤ room z k s = rw e (omega arith) in
       rw (frames-whole z k s e) (whole-some z zr s (planOf z k s) so (planned-fits z k s so kr) (eqb-true (parity z k s) 0 e) (omega arith) b))
       (λ e. parity-some (omega (arith, eqb-false (parity z k s) 0 e)))
