@@ -15,12 +15,12 @@ use Rattle.laws.specs.Lists.{occurs}
 use Rattle.laws.proofs.Picks.{test, by}
 use Rattle.laws.proofs.Lists.{occurs-append, occurs-take, map-append}
 use Rattle.ledger.specs.Limits.{maxTop, maxBits, Sizes, SizeRange, maxSlots, maxFlying, maxPayload, minPayload, maxPieces}
-use Rattle.ledger.specs.Ledger.{size, Piece, find, increments, Plan, Held, Sent, wholes, Sender, heldOffs, recut, split, kept, offs, newPieces, oldOffs, unheld, slots, sentOffs, dataBurst, frames}
+use Rattle.ledger.specs.Ledger.{size, Piece, find, increments, Plan, Held, Sent, wholes, Sender, heldOffs, recut, split, kept, offs, oldOffs, unheld, newPieces, slots, sentOffs, dataBurst, frames}
 use Rattle.ledger.specs.Tally.{unacked, furthest, Tally, sentOut}
 use Rattle.ledger.specs.Cover.{flyingByte, Ascend, ceil, shortFrames, byOffset}
 use Rattle.ledger.specs.Sound.{HeldBits, SentBits, Sound, Fits}
 use Rattle.ledger.proofs.Agree.{Agree}
-use Rattle.ledger.proofs.Cover.{ascend-split, ascend-merge, byOffset-split, byOffset-merge, split-fits, ascend-chunks, ascend-append, ascend-longer, chunks-few, chunks-le, byOffset-append, byOffset-chunks}
+use Rattle.ledger.proofs.Cover.{ascend-split, ascend-merge, byOffset-split, byOffset-merge, split-fits, chunks-few, ascend-chunks, ascend-append, ascend-longer, chunks-le, byOffset-append, byOffset-chunks}
 use Rattle.ledger.proofs.Furthest.{furthest-new}
 use Rattle.ledger.proofs.HeldPieces.{find-merge, occurs-merge, pieces-few, length-heldOffs, sentOffs-append, sentOffs-increments, sentOffs-wholes, heldOffs-append, held-and-unheld, length-sentOffs}
 use Rattle.ledger.proofs.InFlight.{size-byOffset, flown-length}
@@ -144,6 +144,12 @@ module _ (z : Sizes) (zr : SizeRange z) (s : Sender) (g : Plan) (so : Sound z s)
       (λ f. k))
       (λ e. omega (arith, ltb-false 0 (occurs o (heldOffs (kept g s))) e))
 
+  old-few : length (oldOffs g s) ≤ g .room
+  old-few = omega (arith, length-take (g .room) (unheld (heldOffs (kept g s)) (recut g s)))
+
+  new-few : length (newPieces g s) ≤ g .room - length (oldOffs g s)
+  new-few = chunks-few (g .room - length (oldOffs g s)) (g .payload) (s .next) (s .waiting)
+
   new-ascend : Ascend (g .payload) (s .next) (s .next + size (newPieces g s)) (newPieces g s)
   new-ascend = ascend-chunks (g .room - length (oldOffs g s)) (g .payload) (s .next) (s .waiting) (omega (arith, payload-least))
 
@@ -152,12 +158,6 @@ module _ (z : Sizes) (zr : SizeRange z) (s : Sender) (g : Plan) (so : Sound z s)
 
   all-long : Ascend (z .long) 0 (s .next + size (newPieces g s)) (recut g s ++ newPieces g s)
   all-long = ascend-longer (g .payload) (z .long) 0 (s .next + size (newPieces g s)) (recut g s ++ newPieces g s) payload-le all-ascend
-
-  old-few : length (oldOffs g s) ≤ g .room
-  old-few = omega (arith, length-take (g .room) (unheld (heldOffs (kept g s)) (recut g s)))
-
-  new-few : length (newPieces g s) ≤ g .room - length (oldOffs g s)
-  new-few = chunks-few (g .room - length (oldOffs g s)) (g .payload) (s .next) (s .waiting)
 
   -- where new bytes are taken, all unheld pieces go with them: at most 64 pieces fly
   all-few : 1 ≤ length (newPieces g s) → length (recut g s ++ newPieces g s) ≤ maxSlots

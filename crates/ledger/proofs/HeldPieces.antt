@@ -2,35 +2,29 @@
 -- Assumes nothing.
 use Prim.Native.Nat.{ℕ, suc, _+_, _≤_}
 use mathlib.Core.Path.{_≡_, refl, sym, ap, _∙_}
-use mathlib.Core.Bool.{true, false, cond, not, _&&_}
+use mathlib.Core.Bool.{false, cond}
 use mathlib.Core.List.{List, [], _∷_, _++_}
 use native.Mathlib.Omega.{arith}
-use lib.Dec.{eqb, leb}
+use lib.Dec.{eqb}
 use lib.ListN.{length}
-use borrow.Author.Tests.{eqb-false, ne-eqb, not-true}
-use Rattle.laws.specs.Lists.{occurs, listed, one}
-use Rattle.laws.proofs.Picks.{and-first, and-second, by, test}
+use borrow.Author.Tests.{eqb-false, ne-eqb}
+use Rattle.laws.specs.Lists.{listed, occurs, one}
+use Rattle.laws.proofs.Picks.{by, test}
 use Rattle.laws.proofs.Lists.{unlisted-occurs, listed-occurs, one-other}
-use Rattle.ledger.specs.Ledger.{joins, Piece, end, len, find, mergeFrom, joined, offs, mergeInflight, unheld, sentOffs, Sent, heldOffs, Held, increments, Plan, wholes}
+use Rattle.ledger.specs.Ledger.{find, mergeFrom, Piece, joins, joined, offs, mergeInflight, unheld, sentOffs, Sent, heldOffs, Held, increments, Plan, wholes}
 use Rattle.ledger.specs.Cover.{Ascend}
+use Rattle.ledger.proofs.Cover.{joins-says}
 use Rattle.ledger.proofs.Offsets.{occurs-once}
 
--- neither of two pieces that join is a held one
-joins-left : (h : List ℕ) (m o : ℕ) (p q : Piece) → joins h m p q ≡ true → 1 ≤ occurs o h → eqb o (p .off) ≡ false
-joins-left h m o p q e l =
-    let n = not-true (listed (p .off) h) (and-first _ (not (listed (q .off) h)) (and-first _ (eqb (end p) (q .off) && leb (len p + len q) m) e)) in
-    ne-eqb o (p .off) (λ z. let v : 1 ≤ occurs (p .off) h = rw z at l in omega (arith, unlisted-occurs (p .off) h n))
-
-joins-right : (h : List ℕ) (m o : ℕ) (p q : Piece) → joins h m p q ≡ true → 1 ≤ occurs o h → eqb o (q .off) ≡ false
-joins-right h m o p q e l =
-    let n = not-true (listed (q .off) h) (and-second (not (listed (p .off) h)) _ (and-first _ (eqb (end p) (q .off) && leb (len p + len q) m) e)) in
-    ne-eqb o (q .off) (λ z. let v : 1 ≤ occurs (q .off) h = rw z at l in omega (arith, unlisted-occurs (q .off) h n))
+-- an offset that is listed is none that is not
+other-off : (o x : ℕ) (h : List ℕ) → listed x h ≡ false → 1 ≤ occurs o h → eqb o x ≡ false
+other-off o x h n l = ne-eqb o x (λ z. let v : 1 ≤ occurs x h = rw z at l in omega (arith, unlisted-occurs x h n))
 
 find-mergeFrom : (o : ℕ) (h : List ℕ) (m : ℕ) (p : Piece) (qs : List Piece) → 1 ≤ occurs o h → find o (mergeFrom h m p qs) ≡ find o (p ∷ qs)
 find-mergeFrom o h m p [] l = refl
 find-mergeFrom o h m p (q ∷ qs) l =
     by (λ (r : List Piece). find o r ≡ find o (p ∷ q ∷ qs)) (joins h m p q)
-    (λ e. find-mergeFrom o h m (joined p q) qs l ∙ rw (joins-left h m o p q e l, joins-right h m o p q e l))
+    (λ e. find-mergeFrom o h m (joined p q) qs l ∙ rw (other-off o (p .off) h (joins-says h m p q e .0) l, other-off o (q .off) h (joins-says h m p q e .1) l))
     (λ e. ap (cond (eqb o (p .off)) (p .bytes)) (find-mergeFrom o _ m q qs (omega arith)))
 
 occurs-mergeFrom : (o : ℕ) (h : List ℕ) (m : ℕ) (p : Piece) (qs : List Piece) → 1 ≤ occurs o h → occurs o (offs (mergeFrom h m p qs)) ≡ occurs o (offs (p ∷ qs))
@@ -39,7 +33,7 @@ occurs-mergeFrom o h m p (q ∷ qs) l =
     by (λ (r : List Piece). occurs o (offs r) ≡ occurs o (offs (p ∷ q ∷ qs))) (joins h m p q)
     (λ e.
     let i = occurs-mergeFrom o h m (joined p q) qs l in
-    let z = ap one (joins-right h m o p q e l) in
+    let z = ap one (other-off o (q .off) h (joins-says h m p q e .1) l) in
     omega arith)
     (λ e. ap (λ (n : ℕ). one (eqb o (p .off)) + n) (occurs-mergeFrom o _ m q qs (omega arith)))
 

@@ -23,6 +23,13 @@ or-none-first true b e = e
 or-none-first false b e = refl
 
 module _ (z : Sizes) (k : Choice) (s : Sender) where
+  popped-partial : (n : ℕ) → popped z k s n ≤ partialMax
+  popped-partial zero = omega arith
+  popped-partial (suc n) =
+      by (λ (r : ℕ). r ≤ partialMax) (ltb partialMax (suc n) || tooBig z k s (k .inBurst) (suc n))
+      (λ e. popped-partial n)
+      (λ e. omega (arith, ltb-false partialMax (suc n) (or-none-first (ltb partialMax (suc n)) (tooBig z k s (k .inBurst) (suc n)) e)))
+
   popped-le : (n : ℕ) → popped z k s n ≤ n
   popped-le zero = omega arith
   popped-le (suc n) =
@@ -35,12 +42,11 @@ module _ (z : Sizes) (k : Choice) (s : Sender) where
       (λ e. by (λ (r : ℕ). r ≤ offered z k s) (tooBig z k s (k .inBurst) (offered z k s)) (λ d. popped-le (offered z k s)) (λ d. omega arith))
       (λ e. by (λ (r : ℕ). r ≤ offered z k s) (tooBig z k s (k .inStretch) (offered z k s)) (λ d. omega arith) (λ d. omega arith))
 
-  popped-partial : (n : ℕ) → popped z k s n ≤ partialMax
-  popped-partial zero = omega arith
-  popped-partial (suc n) =
-      by (λ (r : ℕ). r ≤ partialMax) (ltb partialMax (suc n) || tooBig z k s (k .inBurst) (suc n))
-      (λ e. popped-partial n)
-      (λ e. omega (arith, ltb-false partialMax (suc n) (or-none-first (ltb partialMax (suc n)) (tooBig z k s (k .inBurst) (suc n)) e)))
+  parity-long : 1 ≤ parity z k s → k .long ≡ true
+  parity-long h =
+      test (k .long && k .sameWave)
+      (λ e. and-first (k .long) (k .sameWave) e)
+      (λ e. absurd (let p = parity-le in let q : offered z k s ≡ 0 = rw e in omega arith))
 
   offered-all : offered z k s < length (s .held) → offered z k s ≤ partialMax
   offered-all = by (λ (r : ℕ). r < length (s .held) → r ≤ partialMax) (k .long && k .sameWave) (λ e h. absurd (omega arith)) (λ e h. omega arith)
@@ -51,12 +57,6 @@ module _ (z : Sizes) (k : Choice) (s : Sender) where
       by (λ (r : ℕ). r < length (s .held) → r ≤ partialMax) (k .partial)
       (λ e. by (λ (r : ℕ). r < length (s .held) → r ≤ partialMax) (tooBig z k s (k .inBurst) (offered z k s)) (λ d h. popped-partial (offered z k s)) (λ d. offered-all))
       (λ e. by (λ (r : ℕ). r < length (s .held) → r ≤ partialMax) (tooBig z k s (k .inStretch) (offered z k s)) (λ d h. omega arith) (λ d. offered-all))
-
-  parity-long : 1 ≤ parity z k s → k .long ≡ true
-  parity-long h =
-      test (k .long && k .sameWave)
-      (λ e. and-first (k .long) (k .sameWave) e)
-      (λ e. absurd (let p = parity-le in let q : offered z k s ≡ 0 = rw e in omega arith))
 
   -- what the loop keeps
   roomFrom-fit : (f r : ℕ) → stored z k s + r ≤ maxSlots → stored z k s + roomFrom z k s f r ≤ maxSlots
