@@ -57,6 +57,7 @@ module _ (z : Sizes) (zr : SizeRange z) (s : Sender) (t : Tally) (so : Sound z s
         history = hi;
         waiting = sym (ag .waiting);
         covers = λ o. covers-once (z .long) (s .next) o (s .pieces) (t .flown) (so .ascend) (ag .flown);
+        inPieces = sym f;
         holds = holds z zr s t so ag;
         exactly = acked-exactly (told z c s) t;
         acked = omega (arith, so .sum);
@@ -66,7 +67,7 @@ module _ (z : Sizes) (zr : SizeRange z) (s : Sender) (t : Tally) (so : Sound z s
               (omega (arith, flying-within (heldOffs (s .held)) (s .pieces) (so .heldFlying) o, listed-occurs o (heldOffs (s .held)) h)),
           step-keeps z zr c s o al so (listed-occurs o (heldOffs (step z c s .held)) h′),
         );
-        flying = so .bytes;
+        flying = omega (arith, so .bytes);
         pieces = omega (arith, pieces-shortFrames (z .short) (omega (arith, zr .least)) (z .long) 0 (s .next) (s .pieces) (so .ascend), so .shorts);
         air = λ k kr lo. keeps-air z k s so kr lo;
       }

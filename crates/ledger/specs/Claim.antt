@@ -63,7 +63,8 @@ pub record Demand3 (z : Sizes) (bytes : List ℕ) (s : Sender) (t : Tally) (e : 
   pub waiting : s .waiting ≡ t .waiting
   -- a flying byte is in one piece: the pieces cover each offset in flight once and no other
   pub covers : (o : ℕ) → covering o (s .pieces) ≡ flyingAt o (t .flown)
-  -- and hold the flown bytes there
+  -- (as many in all) and hold the flown bytes there
+  pub inPieces : size (s .pieces) ≡ inFlight (t .flown)
   pub holds : (o : ℕ) → listed o (offs (s .pieces)) ≡ true → find o (s .pieces) ≡ take (length (find o (s .pieces))) (drop o (map byteOf (t .flown)))
   -- a byte is acknowledged exactly when an accepted reply bearing the outstanding burst's number sets the bit of that burst's frame
   pub exactly : (o : ℕ) → ackedAt o (feed e t .flown) ≡ ackedAt o (t .flown) || (ltb o (length (t .flown)) && settledBy e (t .out) o)
@@ -75,7 +76,7 @@ pub record Demand3 (z : Sizes) (bytes : List ℕ) (s : Sender) (t : Tally) (e : 
   pub keeps : (o : ℕ) → listed o (heldOffs (s .held)) ≡ true → listed o (heldOffs (s′ .held)) ≡ true →
       (1 ≤ length (find o (s .pieces))) × (find o (s′ .pieces) ≡ find o (s .pieces))
   -- at most 16,320 bytes fly, in at most 2,048 pieces
-  pub flying : size (s .pieces) ≤ maxFlying
+  pub flying : inFlight (t .flown) ≤ maxFlying
   pub pieces : length (s .pieces) ≤ maxPieces
   -- a burst of two frames or more, or with parity, keeps its air allowance
   pub air : (k : Choice) → ChoiceRange k → Longer k → KeepsAir z k s
