@@ -2,7 +2,7 @@
 -- What the gear decides of a burst comes in as a `Plan`; specs/Plan says how `data_burst` makes it.
 use Prim.Native.Nat.{ℕ, zero, suc, _+_, _-_}
 use mathlib.Core.Bool.{Bool, true, false, cond, not, _&&_}
-use mathlib.Core.List.{List, [], _∷_, _++_}
+use mathlib.Core.List.{List, [], _∷_, _++_, map}
 use lib.Dec.{leb, ltb, eqb}
 use lib.ListN.{length, take, drop}
 use Rattle.laws.specs.Lists.{listed}
@@ -50,16 +50,13 @@ end p = p .off + len p
 
 -- offsets, in order: `inflight.keys()`
 abbrev pub offs : List Piece → List ℕ
-offs [] = []
-offs (p ∷ ps) = p .off ∷ offs ps
+offs ps = map (λ (p : Piece). p .off) ps
 
 abbrev pub heldOffs : List Held → List ℕ
-heldOffs [] = []
-heldOffs (h ∷ hs) = h .off ∷ heldOffs hs
+heldOffs hs = map (λ (h : Held). h .off) hs
 
 abbrev pub sentOffs : List Sent → List ℕ
-sentOffs [] = []
-sentOffs (f ∷ fs) = f .off ∷ sentOffs fs
+sentOffs fs = map (λ (f : Sent). f .off) fs
 
 -- bytes in flight: `inflight.values().map(Vec::len).sum()`
 abbrev pub size : List Piece → ℕ
@@ -179,16 +176,19 @@ module _ (g : Plan) where
   abbrev pub newPieces : Sender → List Piece
   newPieces s = chunks (g .room - length (oldOffs s)) (g .payload) (s .next) (s .waiting)
 
-  -- the slots of parity: `(off, h + bits, from, bits)`
-  abbrev pub increments : List Held → List Sent
-  increments [] = []
-  increments (h ∷ hs) =
-      record { off = h .off; bits = g .increment (h .bits); held = h .bits + g .increment (h .bits) } ∷ increments hs
+  -- a slot of parity: `(off, h + bits, from, bits)`
+  abbrev pub increment : Held → Sent
+  increment h = record { off = h .off; bits = g .increment (h .bits); held = h .bits + g .increment (h .bits) }
 
-  -- the slots of whole pieces: `(off, slot, 0, slot)`
+  -- a slot of a whole piece: `(off, slot, 0, slot)`
+  abbrev pub whole : ℕ → Sent
+  whole o = record { off = o; bits = g .slot; held = g .slot }
+
+  abbrev pub increments : List Held → List Sent
+  increments hs = map increment hs
+
   abbrev pub wholes : List ℕ → List Sent
-  wholes [] = []
-  wholes (o ∷ os) = record { off = o; bits = g .slot; held = g .slot } ∷ wholes os
+  wholes os = map whole os
 
   -- "Parity first, then oldest pieces, then new"
   abbrev pub slots : Sender → List Sent
@@ -214,8 +214,7 @@ pub record Frame : Type 0 where
   pub len : ℕ
 
 abbrev pub frames : List Piece → List Sent → List Frame
-frames ps [] = []
-frames ps (f ∷ fs) = record { off = f .off; len = length (find (f .off) ps) } ∷ frames ps fs
+frames ps fs = map (λ (f : Sent). record { off = f .off; len = length (find (f .off) ps) }) fs
 
 -- ---- `settle_burst`: its loop from place i on, with the ack's bits b
 

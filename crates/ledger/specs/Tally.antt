@@ -1,7 +1,7 @@
 -- The tally of document 01: what the calls' arguments and answers alone say of each byte. Definitions only.
 use Prim.Native.Nat.{ℕ, suc, _+_, _-_, max}
 use mathlib.Core.Bool.{Bool, true, false, cond, _&&_}
-use mathlib.Core.List.{List, [], _∷_, _++_}
+use mathlib.Core.List.{List, [], _∷_, _++_, map}
 use lib.Dec.{leb, ltb, eqb}
 use lib.ListN.{length, take, drop}
 use Rattle.ledger.specs.Reply.{Reply}
@@ -59,8 +59,7 @@ queued bs t = record { taken = t .taken + length bs; waiting = t .waiting ++ bs;
 
 -- bytes that begin to fly, not acknowledged
 abbrev pub unacked : List ℕ → List Flown
-unacked [] = []
-unacked (b ∷ bs) = record { byte = b; acked = false } ∷ unacked bs
+unacked bs = map (λ (b : ℕ). record { byte = b; acked = false }) bs
 
 -- where the furthest frame ends
 abbrev pub furthest : List Frame → ℕ
