@@ -28,6 +28,14 @@ module _ {ℓ κ} {A : Type ℓ} {B : Type κ} (f : A → B) where
   map-drop (suc n) [] = refl
   map-drop (suc n) (x ∷ xs) = map-drop n xs
 
+pub map-map {ℓ κ μ} : {A : Type ℓ} {B : Type κ} {C : Type μ} (g : B → C) (f : A → B) (xs : List A) → map g (map f xs) ≡ map (λ (x : A). g (f x)) xs
+map-map g f [] = refl
+map-map g f (x ∷ xs) = rw (map-map g f xs)
+
+pub map-id {ℓ} : {A : Type ℓ} (xs : List A) → map (λ (x : A). x) xs ≡ xs
+map-id [] = refl
+map-id (x ∷ xs) = rw (map-id xs)
+
 -- ---- how often a number stands in a list
 
 pub one-none : (b : Bool) → one b ≡ 0 → b ≡ false

@@ -13,7 +13,7 @@ use lib.ListN.{length, take, drop, take-append-drop, length-append, length-drop,
 use borrow.Author.Tests.{eqb-false, ltb-true, ltb-false}
 use Rattle.laws.specs.Lists.{occurs}
 use Rattle.laws.proofs.Picks.{test, by}
-use Rattle.laws.proofs.Lists.{occurs-append, occurs-take, map-append}
+use Rattle.laws.proofs.Lists.{map-map, occurs-append, occurs-take, map-append}
 use Rattle.ledger.specs.Limits.{maxTop, maxBits, Sizes, SizeRange, maxSlots, maxFlying, maxPayload, minPayload, maxPieces}
 use Rattle.ledger.specs.Ledger.{size, Piece, find, increments, Plan, Held, Sent, wholes, Sender, heldOffs, recut, split, kept, offs, oldOffs, unheld, newPieces, slots, sentOffs, dataBurst, frames}
 use Rattle.ledger.specs.Tally.{unacked, furthest, Tally, sentOut}
@@ -39,8 +39,7 @@ find-append o (p ∷ ps) qs h =
     (λ e. rw e (find-append o ps qs (rw e at h)))
 
 flying-unacked : (bs : List ℕ) → map flyingByte (unacked bs) ≡ map some bs
-flying-unacked [] = refl
-flying-unacked (b ∷ bs) = rw (flying-unacked bs)
+flying-unacked bs = map-map flyingByte _ bs
 
 increments-bits : (g : Plan) (top : ℕ) (ps : List Held) → top ≤ maxTop → ((h : ℕ) → (1 ≤ g .increment h) × (g .increment h ≤ maxBits)) → HeldBits top ps → SentBits (increments g ps)
 increments-bits g top [] ht f b = tt

@@ -14,7 +14,7 @@ use borrow.Author.Tests.{ltb-true, ltb-false, lt-ltb, le-ltb}
 use Rattle.laws.proofs.Picks.{test, either}
 use Rattle.ledger.specs.Reply.{Reply}
 use Rattle.ledger.specs.Ledger.{Piece, end, len, Frame}
-use Rattle.ledger.specs.Tally.{within, Flown, acknowledge, acknowledgeAll, unacked, answered, Outstanding, nothing, outstanding, Event, Tally, feed, queued, sentOut, heard, turned, turn, silent, took, reply, went, furthest}
+use Rattle.ledger.specs.Tally.{within, Flown, acknowledge, acknowledgeAll, unacked, answered, Outstanding, nothing, outstanding, Event, Tally, feed, queued, sentOut, heard, turn, turned, silent, took, reply, went, furthest}
 use Rattle.ledger.specs.Cover.{Ascend, byOffset, flyingByte}
 use Rattle.ledger.specs.Claim.{covering, flyingAt, ackedAt, bitOver, named, settledBy}
 use Rattle.ledger.proofs.Acknowledge.{within-before, within-in, within-after}

@@ -8,15 +8,14 @@ use native.Mathlib.Omega.{arith}
 use lib.Dec.{eqb}
 use lib.ListN.{length, take, drop, take-append-drop, length-append}
 use Rattle.laws.proofs.Picks.{either}
-use Rattle.laws.proofs.Lists.{map-append}
+use Rattle.laws.proofs.Lists.{map-map, map-id, map-append}
 use Rattle.ledger.specs.Reply.{Reply}
 use Rattle.ledger.specs.Ledger.{Frame}
-use Rattle.ledger.specs.Tally.{unacked, byteOf, acknowledge, Flown, acknowledgeAll, answered, Outstanding, nothing, outstanding, Tally, Event, feed, bytesIn, queued, sentOut, heard, turned, turn, silent, took, reply, went, furthest, start}
+use Rattle.ledger.specs.Tally.{unacked, byteOf, acknowledge, Flown, acknowledgeAll, answered, Outstanding, nothing, outstanding, Tally, Event, feed, bytesIn, queued, sentOut, heard, turn, turned, silent, took, reply, went, furthest, start}
 use Rattle.ledger.specs.Calls.{tally, told, history}
 
 bytes-unacked : (bs : List ℕ) → map byteOf (unacked bs) ≡ bs
-bytes-unacked [] = refl
-bytes-unacked (b ∷ bs) = rw (bytes-unacked bs)
+bytes-unacked bs = map-map byteOf _ bs ∙ map-id bs
 
 bytes-acknowledge : (o l k : ℕ) (fl : List Flown) → map byteOf (acknowledge o l k fl) ≡ map byteOf fl
 bytes-acknowledge o l k [] = refl

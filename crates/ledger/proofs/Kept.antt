@@ -6,7 +6,7 @@ use mathlib.Core.Bool.{Bool, true, false, cond, not, _&&_}
 use mathlib.Core.List.{List, [], _∷_, _++_, append-nil}
 use native.Mathlib.Omega.{arith}
 use lib.Dec.{eqb, ltb}
-use lib.ListN.{length, length-append}
+use lib.ListN.{length, length-append, length-map}
 use borrow.Author.Tests.{ltb-true, lt-ltb}
 use Rattle.laws.specs.Lists.{occurs}
 use Rattle.laws.proofs.Picks.{by, and-second, either, and-yes, and-first}
@@ -40,8 +40,7 @@ missed-bits b top i (f ∷ fs) a =
     (λ e. missed-bits b top (suc i) fs (a .4))
 
 frames-length : (ps : List Piece) (fs : List Sent) → length (frames ps fs) ≡ length fs
-frames-length ps [] = refl
-frames-length ps (f ∷ fs) = rw (frames-length ps fs)
+frames-length ps fs = length-map fs _
 
 -- an ack that settles nothing: another number, or no frame
 unanswered : (r : Reply) (n : ℕ) (ps : List Piece) (fs : List Sent) (fl : List Flown) → eqb (r .number) n && ltb 0 (length fs) ≡ false →

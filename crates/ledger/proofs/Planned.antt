@@ -8,11 +8,11 @@ use mathlib.Core.List.{List, [], _∷_, _++_}
 use native.Mathlib.Nat.{mul-le-mul-left, mul-le-mul, mul-le-mul-right}
 use native.Mathlib.Omega.{arith}
 use lib.Dec.{eqb, ltb}
-use lib.ListN.{length, take, length-append, length-take}
+use lib.ListN.{length, take, length-append, length-map, length-take}
 use borrow.Author.Tests.{eqb-true, eqb-false, ltb-true, ltb-false, lt-ltb, le-ltb}
 use Rattle.laws.proofs.Picks.{by, test, and-first, and-second, and-left, and-right}
 use Rattle.ledger.specs.Limits.{Sizes, partialMax, maxSlots, maxBits}
-use Rattle.ledger.specs.Ledger.{Sender, kept, Sent, increments, Plan, Held, wholes, dataBurst, oldOffs, offs, newPieces, unheld, heldOffs, recut}
+use Rattle.ledger.specs.Ledger.{Sender, kept, increment, Sent, increments, Plan, Held, whole, wholes, dataBurst, oldOffs, offs, newPieces, unheld, heldOffs, recut}
 use Rattle.ledger.specs.Sound.{Sound, Fits}
 use Rattle.ledger.specs.Plan.{Choice, popped, tooBig, parity, offered, room, roomFrom, stored, oneMore, cap, planOf, ChoiceRange, bitsOf, bitsIn, parityBits, wholeFrames, Longer, KeepsAir}
 use Rattle.ledger.proofs.Cover.{chunks-few}
@@ -122,8 +122,7 @@ module _ (z : Sizes) (k : Choice) (s : Sender) where
   bits-wholes g (o ∷ os) = let i = bits-wholes g os in omega arith
 
   pub length-wholes : (g : Plan) (os : List ℕ) → length (wholes g os) ≡ length os
-  length-wholes g [] = refl
-  length-wholes g (o ∷ os) = rw (length-wholes g os)
+  length-wholes g os = length-map os (whole g)
 
   or-none-second : (a b : Bool) → a || b ≡ false → b ≡ false
   or-none-second true b e = cc
