@@ -7,7 +7,7 @@ use mathlib.Core.List.{List, [], _∷_}
 use lib.ListN.{length, replicate}
 use Rattle.ledger.specs.Limits.{Sizes}
 use Rattle.ledger.specs.Reply.{shortAck, longAck}
-use Rattle.ledger.specs.Ledger.{Piece, len, split, mergeInflight, increment, queue, fresh, dataBurst, onAck, settleBurst, clearBurst, Held, Sent, Sender, sentOffs}
+use Rattle.ledger.specs.Ledger.{Piece, len, split, mergeInflight, queue, fresh, dataBurst, onAck, settleBurst, clearBurst, Held, Sent, Sender, sentOffs}
 use Rattle.ledger.specs.Tally.{Tally, inFlight, acknowledged, start, queued, sentOut, heard, turned}
 use Rattle.ledger.specs.Plan.{parity, room}
 use Rattle.ledger.specs.Calls.{Call, bursts, queues, hears, turns, run, step, tally, told}

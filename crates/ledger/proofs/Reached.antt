@@ -8,9 +8,8 @@ use mathlib.Core.List.{List, [], _∷_}
 use native.Mathlib.Omega.{arith}
 use lib.ListN.{length, replicate, length-replicate}
 use Rattle.ledger.specs.Limits.{Sizes, minPayload, maxPayload, maxTop, maxSlots, maxWaiting, maxFlying, maxPieces, SizeRange, maxNumber}
-use Rattle.ledger.specs.Ledger.{Plan, increment, queue, size, fresh, dataBurst, Sender}
+use Rattle.ledger.specs.Ledger.{Plan, queue, size, fresh, dataBurst, Sender}
 use Rattle.ledger.specs.Sound.{Fits}
-use Rattle.ledger.specs.Plan.{parity, room}
 use Rattle.ledger.specs.Calls.{Call, queues, bursts, run, step, Along, Allowed}
 
 abbrev pub widest : Sizes

@@ -12,7 +12,7 @@ use Rattle.ledger.specs.Limits.{Sizes, SizeRange}
 use Rattle.ledger.specs.Ledger.{Sender, Sent, sentOffs, offs, frames, find, dataBurst, heldOffs, fresh}
 use Rattle.ledger.specs.Tally.{Tally, byteOf, feed, framesIn, Event, start}
 use Rattle.ledger.specs.Sound.{Sound}
-use Rattle.ledger.specs.Calls.{Call, Allowed, step, told, idle, queues, hears, turns, bursts, history, Along, run, tally}
+use Rattle.ledger.specs.Calls.{Call, Allowed, step, told, idle, queues, hears, turns, bursts, Along, run, tally, history}
 use Rattle.ledger.specs.Claim.{Carry, Demand3}
 use Rattle.ledger.proofs.Agree.{Agree, start-agree}
 use Rattle.ledger.proofs.Covers.{covers-once, acked-exactly}
