@@ -72,6 +72,11 @@ module _ (z : Sizes) (zr : SizeRange z) (s : Sender) (t : Tally) (so : Sound z s
         air = λ k kr lo. keeps-air z k s so kr lo;
       }
 
+-- where the arguments may be any
+pub along : {C I : Type 0} (next : I → C → C) (P : I → C → Type 0) → ((i : I) (c : C) → P i c) → (is : List I) (c : C) → Along next P is c
+along next P p [] c = tt
+along next P p (i ∷ is) c = (p i c, along next P p is (next i c))
+
 module _ (z : Sizes) (zr : SizeRange z) (C I : Type 0) (Given : I → C → Type 0) (Ok : C → Type 0)
     (next : I → C → C) (view : C → Sender) (call : I → C → Call) (says : I → C → Event) where
   -- What each call gives of arguments that may be given and a sound record. `Ok` is whatever else holds of each state
