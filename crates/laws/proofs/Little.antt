@@ -1,7 +1,7 @@
 -- Laws of numbers as bytes: stores and loads of a u32, and bytes that spell a number back.
 -- Assumes nothing.
 use mathlib.Core.Path.{_≡_, refl, sym, ap, _∙_}
-use mathlib.Core.List.{List, [], _∷_}
+use mathlib.Core.List.{List, [], _∷_, _++_}
 use Prim.Native.Nat.{ℕ, zero, suc, _+_, _*_, _/_, _%_, _^_, _≤_, _<_}
 use native.Mathlib.Nat.{add-assoc}
 use native.Mathlib.Omega.{arith}
@@ -10,7 +10,7 @@ use lib.ListN.{length, getD, set, take, drop, length-take}
 use lib.Seq.{getD-drop}
 use Rattle.laws.specs.Bytes.{overwrite, part}
 use Rattle.laws.specs.Little.{num, le, load}
-use Rattle.laws.proofs.Bytes.{part-cons, set-over, over-snoc, part-before, part-after, length-part}
+use Rattle.laws.proofs.Bytes.{part-cons, part-add, set-over, over-snoc, part-before, part-after, length-part}
 
 pub part4 : (l : List ℕ) (at : ℕ) → at + 4 ≤ length l → part l at 4 ≡ getD l at 0 ∷ getD l (at + 1) 0 ∷ getD l (at + 2) 0 ∷ getD l (at + 3) 0 ∷ []
 part4 l at h =
@@ -92,3 +92,17 @@ num-small (w ∷ x ∷ y ∷ z ∷ v ∷ bs) b h = absurd (omega arith)
 pub load-small : (a : List ℕ) → Bytes a → (at : ℕ) → load a at < 2 ^ 32
 unfolding load
 load-small a b at = num-small (part a at 4) (bytes-part a b at 4) (omega (arith, length-take 4 (drop at a)))
+
+-- ---- a u64
+
+-- four bytes and then more
+pub num-after4 : (a b c d : ℕ) (bs : List ℕ) → num (a ∷ b ∷ c ∷ d ∷ bs) ≡ num (a ∷ b ∷ c ∷ d ∷ []) + 4294967296 * num bs
+unfolding num
+num-after4 a b c d bs = omega arith
+
+pub load8 : (l : List ℕ) (at : ℕ) → at + 8 ≤ length l → num (part l at 8) ≡ load l at + 4294967296 * load l (at + 4)
+unfolding load
+load8 l at h =
+    ap num (part-add l at 4 4 ∙ ap (λ (r : List ℕ). r ++ part l (at + 4) 4) (part4 l at (omega arith)))
+    ∙ num-after4 (getD l at 0) (getD l (at + 1) 0) (getD l (at + 2) 0) (getD l (at + 3) 0) (part l (at + 4) 4)
+    ∙ ap (λ (r : List ℕ). num r + 4294967296 * num (part l (at + 4) 4)) (sym (part4 l at (omega arith)))

@@ -5,8 +5,10 @@ use mathlib.Core.Bool.{Bool, true, false}
 use mathlib.Core.List.{List, [], _∷_}
 use Prim.Native.Nat.{ℕ, zero, suc, _+_, _-_, _<_, _≤_}
 use native.Mathlib.Omega.{arith}
+use borrow.Author.Tests.{eqb-true, eqb-false}
+use lib.Dec.{eqb}
 use Rattle.laws.specs.Span.{from, upto, fold, every, first, count, lastOf}
-use Rattle.laws.proofs.Picks.{either}
+use Rattle.laws.proofs.Picks.{either, test, and-first, and-second, and-yes}
 
 pub upto-more : (a b : ℕ) → a < b → upto a b ≡ a ∷ upto (a + 1) b
 unfolding upto from
@@ -137,3 +139,25 @@ last-from p (suc j) d a (suc m) n h k = either (λ (x : ℕ). x < n) (p a) (last
 pub last-lt : (p : ℕ → Bool) (j d a n : ℕ) → a ≤ n → d < n → lastOf p j d (upto a n) < n
 unfolding upto
 last-lt p j d a n h k = last-from p j d a (n - a) n (omega arith) k
+
+-- a test passes along a..b exactly where it passes at each number there
+every-from : (p : ℕ → Bool) (a m : ℕ) → every p (from a m) ≡ true → (k : ℕ) → a ≤ k → k < a + m → p k ≡ true
+unfolding from every
+every-from p a zero e k h j = absurd (omega arith)
+every-from p a (suc m) e k h j =
+    test (eqb a k)
+    (λ z. subst (λ (x : ℕ). p x ≡ true) (eqb-true a k z) (and-first (p a) _ e))
+    (λ z. every-from p (a + 1) m (and-second (p a) _ e) k (omega (arith, eqb-false a k z)) (omega arith))
+
+from-every : (p : ℕ → Bool) (a m : ℕ) → ((k : ℕ) → a ≤ k → k < a + m → p k ≡ true) → every p (from a m) ≡ true
+unfolding from every
+from-every p a zero f = refl
+from-every p a (suc m) f = and-yes (p a) _ (f a (omega arith) (omega arith)) (from-every p (a + 1) m (λ k h j. f k (omega arith) (omega arith)))
+
+pub every-all : (p : ℕ → Bool) (b : ℕ) → every p (upto 0 b) ≡ true → (k : ℕ) → k < b → p k ≡ true
+unfolding upto
+every-all p b e k h = every-from p 0 (b - 0) e k (omega arith) (omega arith)
+
+pub all-every : (p : ℕ → Bool) (b : ℕ) → ((k : ℕ) → k < b → p k ≡ true) → every p (upto 0 b) ≡ true
+unfolding upto
+all-every p b f = from-every p 0 (b - 0) (λ k h j. f k (omega arith))

@@ -80,3 +80,7 @@ airCode l = cond (ltb l 5) l (l - 5 + 2)
 -- user_bits: the air code in bits 0 to 3, the session in 4 to 11, `hi` in 12 to 15
 unfoldable pub userBits : ℕ → ℕ → ℕ → ℕ
 userBits l session hi = airCode l + 16 * session + 4096 * (hi % 16)
+
+-- data_burst of sender.rs: the next number of four, or the one after it where that is the number last heard (`heard`: there is one)
+unfoldable pub nextBurstId : ℕ → Bool → ℕ → ℕ
+nextBurstId id heard peer = let n = (id + 1) % 4 in cond (heard && eqb n peer) ((n + 1) % 4) n

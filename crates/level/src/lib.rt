@@ -2,7 +2,7 @@
 // A wave is its `wave_rank`: 0 lifeline, 1 MFSK R0, 2 MFSK R1, 3 OFDM slice, 4 OFDM long, 5 OFDM normal.
 ghost use mathlib.Core.Path.{_≡_};
 ghost use Prim.Native.Nat.{_<_};
-ghost use Rattle.level.specs.Ladder.{waveRank, rateOf, longFrame, thresholds, effThresholds, airMean, airMeanTd, guardMs, isStep, topLevelIn, airCode, userBits};
+ghost use Rattle.level.specs.Ladder.{waveRank, rateOf, longFrame, thresholds, effThresholds, airMean, airMeanTd, guardMs, isStep, topLevelIn, airCode, userBits, nextBurstId};
 
 // Where every link starts.
 pub const FLOOR: usize = 0;
@@ -223,4 +223,15 @@ pub fn user_bits(l: usize, session: u8, hi: u8) -> u16
 {
     let code = air_code(l);
     code + 16 * (session as u16) + 4096 * ((hi % 16) as u16)
+}
+
+// The number of the burst after burst_id: never the one that the far station last showed it heard.
+pub fn next_burst_id(burst_id: u8, heard: bool, peer_heard: u8) -> u8
+    ensures { λ r. ⌜ r ≡ nextBurstId «burst_id» heard «peer_heard» ⌝ }
+{
+    let n = (burst_id % 4 + 1) % 4;
+    if heard & (n == peer_heard) {
+        return (n + 1) % 4;
+    }
+    n
 }

@@ -3,7 +3,7 @@ ghost use mathlib.Core.Path.{_≡_};
 ghost use Prim.Native.Nat.{_+_, _≤_, _<_};
 ghost use lib.ListN.{length, replicate};
 ghost use Rattle.laws.specs.Bytes.{overwrite, part};
-ghost use Rattle.laws.specs.Little.{load, le};
+ghost use Rattle.laws.specs.Little.{num, load, le};
 
 // Moves the n bytes at `from` down to `to`. The two ranges may overlap.
 pub fn shift_left(s: &mut [u8], from: usize, to: usize, n: usize)
@@ -53,6 +53,16 @@ pub fn load32(a: &[u8], at: usize) -> u32
     ensures { λ r. ⌜ r ≡ load (now (a .entry)) at ⌝ }
 {
     wide(a[at]) + 256 * (wide(a[at + 1]) + 256 * (wide(a[at + 2]) + 256 * wide(a[at + 3])))
+}
+
+// The u64 at `at`, low byte first.
+pub fn load64(a: &[u8], at: usize) -> u64
+    requires { ⌜ at + 8 ≤ length (now a) ⌝ }
+    ensures { λ r. ⌜ r ≡ num (part (now (a .entry)) at 8) ⌝ }
+{
+    let low = load32(a, at);
+    let high = load32(a, at + 4);
+    (low as u64) + 4294967296 * (high as u64)
 }
 
 // Stores a u32 at `at`, low byte first.

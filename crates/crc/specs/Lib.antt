@@ -1,0 +1,3 @@
+pub mod V42
+pub mod Crc
+pub mod Table

@@ -1,0 +1,3 @@
+pub mod ExpLaws
+pub mod NarrowLaws
+pub mod NarrowPlace

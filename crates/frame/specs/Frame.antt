@@ -1,0 +1,22 @@
+-- frame.rs: a data frame's bytes (document 01, module 1). Definitions only.
+use mathlib.Core.List.{List, [], _∷_, _++_}
+use Prim.Native.Nat.{ℕ, _-_, min}
+use lib.ListN.{length, replicate}
+use Rattle.laws.specs.Little.{le}
+use Rattle.crc.specs.Crc.{crc32}
+
+-- Frame::max_payload: min(size - 10, 255)
+abbrev pub maxPayload : ℕ → ℕ
+maxPayload size = min (size - 10) 255
+
+-- kind 3, flags 0, the offset's low 24 bits low byte first, length
+abbrev pub headOf : ℕ → ℕ → List ℕ
+headOf off n = 3 ∷ 0 ∷ (le 3 off ++ (n ∷ []))
+
+-- all but the check sum: head, payload, zero fill
+abbrev pub bodyOf : ℕ → ℕ → List ℕ → List ℕ
+bodyOf size off payload = (headOf off (length payload) ++ payload) ++ replicate (size - 10 - length payload) 0
+
+-- Frame::encode of a data frame
+unfoldable pub frameOf : ℕ → ℕ → List ℕ → List ℕ
+frameOf size off payload = bodyOf size off payload ++ le 4 (crc32 (bodyOf size off payload))

@@ -1,0 +1,12 @@
+pub mod Tests
+pub mod Value
+pub mod Rounds
+pub mod Representable
+pub mod Mono
+pub mod Bounds
+pub mod Exact
+pub mod RoundingError
+pub mod Sizes
+pub mod Units
+pub mod Power
+pub mod Cut

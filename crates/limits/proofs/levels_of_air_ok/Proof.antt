@@ -1,0 +1,52 @@
+use borrow.Author.Tests.{not-true, not-false}
+use Rattle.laws.proofs.Picks.{told-yes, told-no}
+use Rattle.laws.specs.Span.{every, upto}
+use Rattle.laws.proofs.Span.{every-pass, every-fail, every-end}
+use Rattle.limits.specs.Ranges.{levelOk}
+use Prim.Native.Nat.{_-_, _≤_}
+use mathlib.Core.Path.{_≡_, refl, sym, _∙_}
+use native.Mathlib.Omega.{arith}
+use borrow.Author.Needs.{needs}
+use Rattle.limits.proofs.levels_of_air_ok.Statement.{statement}
+use Rattle.limits.proofs.levels_of_air_ok.Tie as tie
+
+abbrev Inv-loop : tie.InvT-loop
+Inv-loop a l₀ l = (l ≤ 17) × (every (levelOk a) (upto 0 17) ≡ every (levelOk a) (upto l 17))
+
+abbrev μ-loop : tie.MeasureT-loop
+μ-loop a l₀ l = 17 - l
+
+loop-holds : tie.Need-loop-holds Inv-loop μ-loop
+loop-holds c = (omega arith, refl)
+
+level-ok-requires : tie.Need-level-ok-requires Inv-loop μ-loop
+level-ok-requires c κs = search needs
+
+returns : tie.Need-returns Inv-loop μ-loop
+returns c = sym (c .before .before .before .loop .inv .1 ∙ every-fail _ _ _ (omega arith) (told-no _ _ (c .before .level-ok .ensures) (not-true _ (c .if1 .taken))))
+
+add-l : tie.Need-add-l Inv-loop μ-loop
+add-l c = search needs
+
+loop-less : tie.Need-loop-less Inv-loop μ-loop
+loop-less c = search needs
+
+loop-again : tie.Need-loop-again Inv-loop μ-loop
+loop-again c = (omega arith, c .before .before .before .loop .inv .1 ∙ every-pass _ _ _ (omega arith) (told-yes _ _ (c .before .level-ok .ensures) (not-false _ (c .if1 .left))))
+
+returns-2 : tie.Need-returns-2 Inv-loop μ-loop
+returns-2 c = sym (c .before .loop .inv .1 ∙ every-end _ _ _ (omega arith))
+
+pub levels-of-air-ok-spec : {M : Type 1} → statement M
+levels-of-air-ok-spec =
+    tie.close
+    (tie.spec
+    Inv-loop
+    μ-loop
+    loop-holds
+    level-ok-requires
+    returns
+    add-l
+    loop-less
+    loop-again
+    returns-2)

@@ -1,0 +1,12 @@
+use Rattle.limits.specs.Ranges.{pinOk}
+use Prim.Native.Nat.{_-_}
+use borrow.Author.Needs.{needs}
+use Rattle.limits.proofs.pin_ok.Statement.{statement}
+use Rattle.limits.proofs.pin_ok.Tie as tie
+
+returns : tie.Need-returns
+unfolding pinOk
+returns c = search needs
+
+pub pin-ok-spec : {M : Type 1} → statement M
+pin-ok-spec = tie.close (tie.spec returns)

@@ -1,0 +1,19 @@
+use Rattle.laws.specs.Tests.{all}
+use Rattle.limits.specs.Ranges.{sizesOk}
+use Prim.Native.Nat.{_-_}
+use borrow.Author.Needs.{needs}
+use Rattle.limits.proofs.sizes_ok.Statement.{statement}
+use Rattle.limits.proofs.sizes_ok.Tie as tie
+
+from-to-requires : tie.Need-from-to-requires
+from-to-requires c κs = search needs
+
+from-to-requires-2 : tie.Need-from-to-requires-2
+from-to-requires-2 c κs = search needs
+
+returns : tie.Need-returns
+unfolding all sizesOk
+returns c = cc
+
+pub sizes-ok-spec : {M : Type 1} → statement M
+sizes-ok-spec = tie.close (tie.spec from-to-requires from-to-requires-2 returns)

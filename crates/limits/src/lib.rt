@@ -1,0 +1,175 @@
+// Refusals 1 and 2: which of the profile's numbers are in range (document 01, Profile).
+use config::Air;
+use config::HoldTimes;
+use config::Lengths;
+use config::Marks;
+use config::MaybeDb;
+use config::MaybeLevel;
+use config::Profile;
+use harq::Harq;
+ghost use mathlib.Core.Path.{_≡_};
+ghost use Prim.Native.Nat.{_<_};
+ghost use Rattle.laws.specs.Span.{every, upto};
+ghost use Rattle.limits.specs.Ranges.{inside, between, dbOk, maybeDbOk, levelOk, ackOk, airOk, endOk, harqOk, lengthsOk, holdsOk, thresholdOk, marksOk, pinOk, levelsOk, sizesOk, inRange as inRangeOf, inOrder};
+
+fn within(x: f64, lo: f64, hi: f64) -> bool
+    ensures { λ r. ⌜ r ≡ inside lo hi x ⌝ }
+{
+    (lo <= x) & (x <= hi)
+}
+
+fn from_to(n: u32, lo: u32, hi: u32) -> bool
+    ensures { λ r. ⌜ r ≡ between lo hi n ⌝ }
+{
+    (lo <= n) & (n <= hi)
+}
+
+fn db_ok(x: f32) -> bool
+    ensures { λ r. ⌜ r ≡ dbOk x ⌝ }
+{
+    (-100.0 <= x) & (x <= 100.0)
+}
+
+fn maybe_db_ok(m: MaybeDb) -> bool
+    ensures { λ r. ⌜ r ≡ maybeDbOk m ⌝ }
+{
+    !m.set | db_ok(m.db)
+}
+
+fn level_ok(a: Air, l: usize) -> bool
+    requires { ⌜ l < 17 ⌝ }
+    ensures { λ r. ⌜ r ≡ levelOk a l ⌝ }
+{
+    let most = a.most_bits(l);
+    from_to(a.slot(l), 1, 16384)
+        & (within(a.pre_s[l], 0.0, 60.0) & (within(a.rate[l], 1.0, 100000.0) & (1 <= most)))
+}
+
+fn levels_of_air_ok(a: Air) -> bool
+    ensures { λ r. ⌜ r ≡ every (levelOk a) (upto 0 17) ⌝ }
+{
+    let mut l: usize = 0;
+    while l < 17 {
+        if !level_ok(a, l) {
+            return false;
+        }
+        l += 1;
+    }
+    true
+}
+
+fn acks_ok(a: Air) -> bool
+    ensures { λ r. ⌜ r ≡ every (ackOk a) (upto 0 6) ⌝ }
+{
+    let mut w: usize = 0;
+    while w < 6 {
+        if !within(a.ack_s[w], 0.0, 60.0) {
+            return false;
+        }
+        w += 1;
+    }
+    true
+}
+
+fn air_ok(a: Air) -> bool
+    ensures { λ r. ⌜ r ≡ airOk a ⌝ }
+{
+    levels_of_air_ok(a) & (acks_ok(a) & within(a.cue_s, 0.0, 10.0))
+}
+
+fn ends_ok(q: Harq) -> bool
+    ensures { λ r. ⌜ r ≡ every (endOk q) (upto 0 6) ⌝ }
+{
+    let mut i: usize = 0;
+    while i < 6 {
+        if !from_to(q.ends[i], 1, 16384) {
+            return false;
+        }
+        i += 1;
+    }
+    true
+}
+
+fn harq_ok(q: Harq) -> bool
+    ensures { λ r. ⌜ r ≡ harqOk q ⌝ }
+{
+    from_to(q.mother, 1, 16384) & ends_ok(q)
+}
+
+fn lengths_ok(b: Lengths) -> bool
+    ensures { λ r. ⌜ r ≡ lengthsOk b ⌝ }
+{
+    let climb = b.burst_climb_db;
+    let costs = within(b.turnaround_s, 0.0, 60.0) & (db_ok(b.burst_steady_db) & maybe_db_ok(climb));
+    within(b.max_burst_s, 1.0, 1000.0)
+        & (within(b.max_burst_long_s, 1.0, 1000.0) & (within(b.burst_overhead, 0.01, 1.0) & costs))
+}
+
+fn holds_ok(h: HoldTimes) -> bool
+    ensures { λ r. ⌜ r ≡ holdsOk h ⌝ }
+{
+    within(h.fail_hold_s, 1.0, 100000.0)
+        & (within(h.fail_hold_max_s, 0.0, 1000000.0) & within(h.loss_hold_s, 0.0, 1000000.0))
+}
+
+fn thresholds_ok(m: Marks) -> bool
+    ensures { λ r. ⌜ r ≡ every (thresholdOk m) (upto 0 17) ⌝ }
+{
+    let mut l: usize = 0;
+    while l < 17 {
+        if !db_ok(m.thresholds_db[l]) {
+            return false;
+        }
+        l += 1;
+    }
+    true
+}
+
+fn marks_ok(m: Marks) -> bool
+    ensures { λ r. ⌜ r ≡ marksOk m ⌝ }
+{
+    thresholds_ok(m) & db_ok(m.margin_db)
+}
+
+fn pin_ok(m: MaybeLevel) -> bool
+    ensures { λ r. ⌜ r ≡ pinOk m ⌝ }
+{
+    !m.set | (m.level <= 16)
+}
+
+fn levels_ok(p: Profile) -> bool
+    ensures { λ r. ⌜ r ≡ levelsOk p ⌝ }
+{
+    let pin = p.pin_level;
+    (p.max_level <= 16) & ((p.skip_slices_from <= 17) & pin_ok(pin))
+}
+
+fn sizes_ok(p: Profile) -> bool
+    ensures { λ r. ⌜ r ≡ sizesOk p ⌝ }
+{
+    let power = p.power;
+    from_to(p.short_bytes, 18, 512) & (from_to(p.long_bytes, 18, 512) & (power <= 2))
+}
+
+// Refusal 1 where false: every number is in its range.
+pub fn in_range(p: Profile) -> bool
+    ensures { λ r. ⌜ r ≡ inRangeOf p ⌝ }
+{
+    let air = p.air;
+    let codes = p.codes;
+    let lengths = p.lengths;
+    let holds = p.hold_times;
+    let plain = p.plain;
+    let eff = p.eff;
+    let start = p.start_margin_db;
+    let last = db_ok(p.cue_below_db) & (maybe_db_ok(start) & (levels_ok(p) & sizes_ok(p)));
+    let marks = marks_ok(plain) & (marks_ok(eff) & last);
+    air_ok(air) & (harq_ok(codes) & (lengths_ok(lengths) & (holds_ok(holds) & marks)))
+}
+
+// Refusal 2 where false: the short frame is no larger than the long.
+pub fn in_order(p: Profile) -> bool
+    ensures { λ r. ⌜ r ≡ inOrder p ⌝ }
+{
+    p.short_bytes <= p.long_bytes
+}
