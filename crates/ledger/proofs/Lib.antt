@@ -11,7 +11,7 @@ pub mod Burst
 pub mod Planned
 pub mod Progress
 pub mod Kept
-pub mod Covers
+pub mod PerOffset
 pub mod Stream
 pub mod History
 pub mod Refine

@@ -15,7 +15,7 @@ use Rattle.ledger.specs.Sound.{Sound}
 use Rattle.ledger.specs.Calls.{Call, Allowed, step, told, idle, queues, hears, turns, bursts, Along, run, tally, history}
 use Rattle.ledger.specs.Claim.{Carry, Demand3}
 use Rattle.ledger.proofs.Agree.{Agree, start-agree}
-use Rattle.ledger.proofs.Covers.{covers-once, acked-exactly}
+use Rattle.ledger.proofs.PerOffset.{covers-once, acked-exactly}
 use Rattle.ledger.proofs.History.{taken-is, history-is}
 use Rattle.ledger.proofs.InFlight.{find-flown, inFlight-size, flown-parts, flown-length}
 use Rattle.ledger.proofs.Kept.{out-occurs, step-sound, step-agree, step-keeps, fresh-sound}
