@@ -6,3 +6,4 @@ pub mod Tables
 pub mod Products
 pub mod Bytes
 pub mod Little
+pub mod Lists

@@ -3,3 +3,4 @@ pub mod Steps
 pub mod Span
 pub mod Bytes
 pub mod Little
+pub mod Lists

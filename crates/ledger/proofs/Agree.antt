@@ -1,0 +1,21 @@
+-- The sender and the tally agree: what the proof carries from call to call beside `Sound`.
+-- Assumes nothing.
+use mathlib.Core.Path.{_≡_, refl}
+use mathlib.Core.Bool.{cond}
+use mathlib.Core.List.{map}
+use Rattle.ledger.specs.Ledger.{Sender, frames, takenOf, fresh}
+use Rattle.ledger.specs.Tally.{Outstanding, outstanding, nothing, Tally, start}
+use Rattle.ledger.specs.Cover.{flyingByte, byOffset}
+
+-- the outstanding burst as the tally has it
+abbrev pub outOf : Sender → Outstanding
+outOf s = cond (s .awaited) (outstanding (s .number) (frames (s .pieces) (s .sent))) nothing
+
+pub record Agree (s : Sender) (t : Tally) : Type 0 where
+  pub taken : t .taken ≡ takenOf s
+  pub waiting : t .waiting ≡ s .waiting
+  pub flown : map flyingByte (t .flown) ≡ byOffset 0 (s .next) (s .pieces)
+  pub out : t .out ≡ outOf s
+
+pub start-agree : Agree fresh start
+start-agree = record { taken = refl; waiting = refl; flown = refl; out = refl }

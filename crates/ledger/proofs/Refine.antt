@@ -1,0 +1,127 @@
+-- Demand 3 of any sender whose calls are the ledger's: its states are C, a call's arguments I, and `view` reads the ledger out of a state.
+-- Assumes nothing.
+use Prim.Native.Nat.{ℕ, _≤_}
+use mathlib.Core.Path.{_≡_, refl, sym, ap}
+use mathlib.Core.Bool.{true}
+use mathlib.Core.List.{List, [], _∷_, _++_, map}
+use native.Mathlib.Omega.{arith}
+use lib.ListN.{length, take, drop}
+use Rattle.laws.specs.Lists.{occurs, listed}
+use Rattle.laws.proofs.Lists.{one-same, listed-occurs}
+use Rattle.ledger.specs.Limits.{Sizes, SizeRange}
+use Rattle.ledger.specs.Ledger.{Sender, Sent, sentOffs, offs, frames, find, dataBurst, heldOffs, fresh}
+use Rattle.ledger.specs.Tally.{Tally, byteOf, feed, framesIn, Event, start}
+use Rattle.ledger.specs.Sound.{Sound}
+use Rattle.ledger.specs.Calls.{Call, Allowed, step, told, idle, queues, hears, turns, bursts, Along, run, tally, history}
+use Rattle.ledger.specs.Claim.{Carry, Demand3}
+use Rattle.ledger.proofs.Agree.{Agree, start-agree}
+use Rattle.ledger.proofs.PerOffset.{covers-once, acked-exactly}
+use Rattle.ledger.proofs.History.{taken-is, history-is}
+use Rattle.ledger.proofs.InFlight.{find-flown, inFlight-size, flown-parts, flown-length}
+use Rattle.ledger.proofs.Kept.{out-occurs, step-sound, step-agree, step-keeps, fresh-sound}
+use Rattle.ledger.proofs.Offsets.{find-some, flying-within}
+use Rattle.ledger.proofs.Planned.{keeps-air}
+use Rattle.ledger.proofs.ShortFrames.{pieces-shortFrames}
+
+-- what a sound record that agrees with its tally says of the next call
+module _ (z : Sizes) (zr : SizeRange z) (s : Sender) (t : Tally) (so : Sound z s) (ag : Agree s t) where
+  carry : (fs : List Sent) → ((o : ℕ) → 1 ≤ occurs o (sentOffs fs) → 1 ≤ occurs o (offs (s .pieces))) → Carry (map byteOf (t .flown)) (s .pieces) (frames (s .pieces) fs)
+  carry [] w = tt
+  carry (f ∷ fs) w =
+      let h = find-some (z .long) 0 (s .next) (f .off) (s .pieces) (so .ascend) (w (f .off) (omega (arith, one-same (f .off) (f .off) refl))) in
+      (h, refl, sym (find-flown (z .long) (s .next) (f .off) (s .pieces) (t .flown) (so .ascend) h (ag .flown)), carry fs (λ o l. w o (omega arith)))
+
+  holds : (o : ℕ) → listed o (offs (s .pieces)) ≡ true → find o (s .pieces) ≡ take (length (find o (s .pieces))) (drop o (map byteOf (t .flown)))
+  holds o h =
+      sym (find-flown (z .long) (s .next) o (s .pieces) (t .flown) (so .ascend) (find-some (z .long) 0 (s .next) o (s .pieces) (so .ascend) (listed-occurs o (offs (s .pieces)) h)) (ag .flown))
+
+module _ (z : Sizes) (zr : SizeRange z) (s : Sender) (t : Tally) (so : Sound z s) (ag : Agree s t) (c : Call) (al : Allowed z c s) where
+  call-carries : (c′ : Call) → Sound z (step z c′ s) → Agree (step z c′ s) (feed (told z c′ s) t) → Carry (map byteOf (feed (told z c′ s) t .flown)) (step z c′ s .pieces) (framesIn (told z c′ s))
+  call-carries idle so′ ag′ = tt
+  call-carries (queues bs) so′ ag′ = tt
+  call-carries (hears r keep) so′ ag′ = tt
+  call-carries turns so′ ag′ = tt
+  call-carries (bursts g) so′ ag′ =
+      carry z zr (dataBurst g s) (feed (told z (bursts g) s) t) so′ ag′ (dataBurst g s .sent)
+      (λ o h. omega (arith, out-occurs z (dataBurst g s) so′ o))
+
+  pub claim-of : (bytes : List ℕ) → t .taken ≡ length bytes → bytes ≡ map byteOf (t .flown) ++ t .waiting → Demand3 z bytes s t (told z c s) (step z c s)
+  claim-of bytes tk hi =
+      let f = inFlight-size (s .next) (s .pieces) (t .flown) (ag .flown) in
+      let p = flown-parts (t .flown) in
+      let l = flown-length (z .long) (s .next) (s .pieces) (t .flown) (so .ascend) (ag .flown) in
+      let w = ap length (ag .waiting) in
+      record {
+        sum = omega (arith, ag .taken);
+        taken = tk;
+        history = hi;
+        waiting = sym (ag .waiting);
+        covers = λ o. covers-once (z .long) (s .next) o (s .pieces) (t .flown) (so .ascend) (ag .flown);
+        inPieces = sym f;
+        holds = holds z zr s t so ag;
+        exactly = acked-exactly (told z c s) t;
+        acked = omega (arith, so .sum);
+        carries = call-carries c (step-sound z zr c s al so) (step-agree z zr c s t al so ag);
+        keeps = λ o h h′. (
+          find-some (z .long) 0 (s .next) o (s .pieces) (so .ascend)
+              (omega (arith, flying-within (heldOffs (s .held)) (s .pieces) (so .heldFlying) o, listed-occurs o (heldOffs (s .held)) h)),
+          step-keeps z zr c s o al so (listed-occurs o (heldOffs (step z c s .held)) h′),
+        );
+        flying = omega (arith, so .bytes);
+        pieces = omega (arith, pieces-shortFrames (z .short) (omega (arith, zr .least)) (z .long) 0 (s .next) (s .pieces) (so .ascend), so .shorts);
+        air = λ k kr lo. keeps-air z k s so kr lo;
+      }
+
+-- where the arguments may be any
+pub along : {C I : Type 0} (next : I → C → C) (P : I → C → Type 0) → ((i : I) (c : C) → P i c) → (is : List I) (c : C) → Along next P is c
+along next P p [] c = tt
+along next P p (i ∷ is) c = (p i c, along next P p is (next i c))
+
+module _ (z : Sizes) (zr : SizeRange z) (C I : Type 0) (Given : I → C → Type 0) (Ok : C → Type 0)
+    (next : I → C → C) (view : C → Sender) (call : I → C → Call) (says : I → C → Event) where
+  -- What each call gives of arguments that may be given and a sound record. `Ok` is whatever else holds of each state
+  pub record Refines : Type 0 where
+    pub allowed : (i : I) (c : C) → Given i c → Sound z (view c) → Ok c → Allowed z (call i c) (view c)
+    pub steps : (i : I) (c : C) → Given i c → Sound z (view c) → Ok c → view (next i c) ≡ step z (call i c) (view c)
+    pub tells : (i : I) (c : C) → Given i c → Sound z (view c) → Ok c → says i c ≡ told z (call i c) (view c)
+    pub keeps : (i : I) (c : C) → Given i c → Sound z (view c) → Ok c → Ok (next i c)
+
+  module _ (re : Refines) where
+    one-sound : (i : I) (c : C) → Given i c → Sound z (view c) → Ok c → Sound z (view (next i c))
+    one-sound i c g so ok = rw (re .steps i c g so ok) (step-sound z zr (call i c) (view c) (re .allowed i c g so ok) so)
+
+    one-agree : (i : I) (c : C) (t : Tally) → Given i c → Sound z (view c) → Ok c → Agree (view c) t → Agree (view (next i c)) (feed (says i c) t)
+    one-agree i c t g so ok ag = rw (re .steps i c g so ok, re .tells i c g so ok) (step-agree z zr (call i c) (view c) t (re .allowed i c g so ok) so ag)
+
+    all-sound : (is : List I) (c : C) → Along next Given is c → Sound z (view c) → Ok c → Sound z (view (run next is c))
+    all-sound [] c gs so ok = so
+    all-sound (i ∷ is) c gs so ok = all-sound is (next i c) (gs .1) (one-sound i c (gs .0) so ok) (re .keeps i c (gs .0) so ok)
+
+    all-ok : (is : List I) (c : C) → Along next Given is c → Sound z (view c) → Ok c → Ok (run next is c)
+    all-ok [] c gs so ok = ok
+    all-ok (i ∷ is) c gs so ok = all-ok is (next i c) (gs .1) (one-sound i c (gs .0) so ok) (re .keeps i c (gs .0) so ok)
+
+    all-agree : (is : List I) (c : C) (t : Tally) → Along next Given is c → Sound z (view c) → Ok c → Agree (view c) t → Agree (view (run next is c)) (tally next says is c t)
+    all-agree [] c t gs so ok ag = ag
+    all-agree (i ∷ is) c t gs so ok ag =
+        all-agree is (next i c) (feed (says i c) t) (gs .1) (one-sound i c (gs .0) so ok) (re .keeps i c (gs .0) so ok) (one-agree i c t (gs .0) so ok ag)
+
+    -- from a state that shows a fresh sender
+    module _ (c : C) (e : view c ≡ fresh) (ok : Ok c) (is : List I) (gs : Along next Given is c) where
+      pub sound-after : Sound z (view (run next is c))
+      sound-after = all-sound is c gs (rw e (fresh-sound z)) ok
+
+      pub ok-after : Ok (run next is c)
+      ok-after = all-ok is c gs (rw e (fresh-sound z)) ok
+
+      -- DEMAND 3, after every list of calls and of one further call
+      pub refined : (i : I) → Given i (run next is c) →
+          Demand3 z (history next says is c) (view (run next is c)) (tally next says is c start) (says i (run next is c)) (view (next i (run next is c)))
+      refined i g =
+          let d = run next is c in
+          let t = tally next says is c start in
+          let so = sound-after in
+          let al = re .allowed i d g so ok-after in
+          let ag = all-agree is c start gs (rw e (fresh-sound z)) ok (rw e start-agree) in
+          rw (re .steps i d g so ok-after, re .tells i d g so ok-after)
+          (claim-of z zr (view d) t so ag (call i d) al (history next says is c) (taken-is next says is c) (history-is next says is c))

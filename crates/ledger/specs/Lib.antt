@@ -1,0 +1,10 @@
+pub mod Limits
+pub mod Reply
+pub mod Ledger
+pub mod LeftOut
+pub mod Tally
+pub mod Cover
+pub mod Sound
+pub mod Plan
+pub mod Calls
+pub mod Claim
