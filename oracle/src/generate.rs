@@ -851,6 +851,8 @@ pub fn list(seed: u64, index: u64, calls: usize, kind: &str) -> Vec<Item> {
         "harq" => {
             d.snr = 12.0;
             d.class_in = 40;
+            d.loss_in = d.r.pick(&[2, 2, 3, 8]);
+            d.largest_queue = d.r.pick(&[500, 2000, 5000]);
         }
         "merge" => {
             d.class_in = d.r.pick(&[4, 30]);

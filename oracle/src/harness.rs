@@ -86,14 +86,6 @@ impl Harness {
         self.station.awaiting == Awaiting::Ack
     }
 
-    pub fn area(&self) -> u64 {
-        self.area
-    }
-
-    pub fn out(&self) -> u64 {
-        self.out
-    }
-
     /// The number by which document 01 turns the call down.
     pub fn refuses(&self, call: &Call) -> Option<u8> {
         if matches!(call, Call::State | Call::Area(_) | Call::Out(_)) {

@@ -21,6 +21,8 @@ mod profiles;
 mod progress;
 mod rng;
 mod shrink;
+#[cfg(test)]
+mod tests;
 mod transcript;
 
 include!(concat!(env!("OUT_DIR"), "/level_mod.rs"));

@@ -144,10 +144,48 @@ pub fn harq(r: &mut Rng) -> Profile {
         };
         set_whole(&mut p, HARQ, i, end);
     }
-    if r.once_in(3) {
+    if r.flag() {
         set_whole(&mut p, PIN, 0, r.within(5, 16));
     }
+    match r.below(3) {
+        // More increments than fit, behind a cue.
+        0 => {
+            p.values[ON][on::CUE] = Value::Flag(true);
+            p.values[ON][on::HARQ_PARTIAL] = Value::Flag(true);
+            set_f32(&mut p, DBS, 2, 100.0);
+            set_whole(&mut p, PIN, 0, r.within(7, 16));
+            large_increments(r, &mut p);
+        }
+        // More than fit, without a cue.
+        1 => {
+            p.values[ON][on::HARQ_STRETCH] = Value::Flag(!r.once_in(3));
+            set_f32(&mut p, DBS, 2, -100.0);
+            set_whole(&mut p, PIN, 0, r.within(5, 16));
+            large_increments(r, &mut p);
+        }
+        _ => {}
+    }
     p
+}
+
+/// Increments several times as long as a slot, of which a burst takes a few.
+fn large_increments(r: &mut Rng, p: &mut Profile) {
+    let slot = r.within(16, 200);
+    let step = slot * r.within(1, 6) + r.within(0, 3);
+    let mother = (6 * step).min(16384);
+    set_whole(p, HARQ, 0, mother);
+    for i in 1..7 {
+        set_whole(p, HARQ, i, (slot + step * i as u64).min(16384));
+    }
+    let usual_s = p.f64(BURST, 0);
+    let fit = r.within(2, 40);
+    for l in 0..17 {
+        set_whole(p, l, 0, slot);
+        set_f64(p, l, 1, 0.0);
+        set_whole(p, l, 3, 0xFFFF_FFFF);
+        set_f64(p, l, 2, ((step * fit) as f64 / usual_s).clamp(1.0, 100_000.0));
+    }
+    set_f64(p, CUE_S, 0, r.pick(&[0.0, 0.125, 0.5]));
 }
 
 /// For splitting and merging: any frame sizes, short levels within reach.

@@ -3,6 +3,7 @@
 use std::time::{Duration, Instant};
 
 use crate::list::{Call, Item};
+use crate::profile::Profile;
 
 const TIME: Duration = Duration::from_secs(30);
 
@@ -53,6 +54,24 @@ pub fn shrink(mut items: Vec<Item>, shows: &mut dyn FnMut(&[Item]) -> bool) -> V
             break;
         }
     }
+    // Lines of the profile, back to the usual ones.
+    for i in 0..items.len() {
+        let Item::Profile(p) = &items[i] else { continue };
+        let mut p = p.clone();
+        for line in 0..p.values.len() {
+            if Instant::now() > until {
+                return items;
+            }
+            let mut nearer = p.clone();
+            nearer.values[line] = Profile::usual().values[line].clone();
+            let mut other = items.clone();
+            other[i] = Item::Profile(nearer.clone());
+            if shows(&other) {
+                items = other;
+                p = nearer;
+            }
+        }
+    }
     // Queued bytes.
     for i in 0..items.len() {
         loop {
@@ -85,7 +104,6 @@ pub fn shrink(mut items: Vec<Item>, shows: &mut dyn FnMut(&[Item]) -> bool) -> V
 #[cfg(test)]
 mod tests {
     use super::*;
-    use crate::profile::Profile;
 
     #[test]
     fn keeps_only_what_is_needed() {
