@@ -4,41 +4,14 @@
 # folder; the sources themselves are only read.
 #
 #     oracle/audit-awake.sh [NAME..]     all edits, or those named
-set -eu
-here=$(cd "$(dirname "$0")" && pwd)
-from=${ION_HF_SRC:-$here/../../shared/docs/src}
-scratch=$(mktemp -d)
-trap 'rm -rf "$scratch"' EXIT
-trap 'exit 1' INT TERM
-only=" $* "
-export ION_HF_SRC="$scratch/src" CARGO_TARGET_DIR="$scratch/target" CARGO_PROFILE_RELEASE_OPT_LEVEL=1
-caught=0
-missed=0
+. "$(dirname "$0")/edited.sh"
 
-# edit NAME FILE SED: makes the edit, builds, and wants the audit to fail.
+# edit NAME FILE SED: the audit must fail on the original so edited.
 edit() {
-    if [ "$only" != "  " ]; then
-        case $only in *" $1 "*) ;; *) return 0 ;; esac
-    fi
-    rm -rf "$scratch/src"
-    mkdir "$scratch/src"
-    cp -R "$from/crates" "$scratch/src/"
-    chmod -R u+w "$scratch/src"
-    file=$(find "$scratch/src" -name "$2")
-    sed -e "$3" "$file" >"$scratch/edited"
-    if cmp -s "$file" "$scratch/edited"; then
-        echo "$1: the edit changes nothing" >&2
+    asked "$1" || return 0
+    if ! build "$1" "$2" "$3"; then
         missed=$((missed + 1))
-        return 0
-    fi
-    cp "$scratch/edited" "$file"
-    if ! (cd "$here" && cargo build --release --offline --quiet) >"$scratch/build" 2>&1; then
-        echo "$1: the edited original does not build" >&2
-        grep -m 5 '^error' "$scratch/build" >&2 || true
-        missed=$((missed + 1))
-        return 0
-    fi
-    if "$scratch/target/release/oracle" audit 7 1500 80 >"$scratch/out" 2>"$scratch/err"; then
+    elif "$scratch/target/release/oracle" audit 7 1500 80 >"$scratch/out" 2>"$scratch/err"; then
         echo "$1: NOT CAUGHT"
         missed=$((missed + 1))
     elif grep -q '^# violation: ' "$scratch/out"; then
@@ -68,6 +41,7 @@ edit split-never sender.rs 's/v.len() > max_payload)/v.len() > 10 * max_payload)
 edit merge-loses sender.rs 's/self.inflight.get_mut(&k).unwrap().extend(tail);/drop(tail);/'
 edit merge-apart sender.rs 's/k.wrapping_add(len as u32) != n || //'
 edit merge-held sender.rs 's/held.contains(&n) || //'
+edit merge-into-held sender.rs 's/if !held.contains(&k) {/if true {/'
 edit merge-too-long sender.rs 's/self.inflight\[&n\].len() > max {/self.inflight[\&n].len() > max + 1 {/'
 edit offset-skips sender.rs 's/self.next_offset.wrapping_add(n as u32)/self.next_offset.wrapping_add(n as u32 + 1)/'
 edit queue-doubles sender.rs 's/self.out.drain(..n).collect()/self.out.iter().take(n).copied().collect()/'
@@ -105,5 +79,4 @@ edit hold-uncapped gear.rs 's/\.min(self.cfg.fail_hold_max_s)/.min(1e300)/'
 edit burst-grows gear.rs 's/(self.burst_s \* 2.0)\.min(/(self.burst_s * 2.0).max(/'
 edit four-reports gear.rs 's/self.snr_reports.len() > 3/self.snr_reports.len() > 4/'
 
-echo "$caught caught, $missed not"
-[ "$missed" = 0 ]
+finish

@@ -21,6 +21,8 @@ enum Far {
     Lossy,
     Fading,
     Hostile,
+    /// Hears every burst and decodes next to nothing.
+    Deaf,
 }
 
 thread_local! {
@@ -52,6 +54,8 @@ struct Driver<'a> {
     state_in: u64,
     loss_in: u64,
     largest_queue: u64,
+    /// Bytes queued after the connect.
+    first_queue: usize,
 }
 
 impl<'a> Driver<'a> {
@@ -76,6 +80,7 @@ impl<'a> Driver<'a> {
             state_in,
             loss_in,
             largest_queue,
+            first_queue: 0,
         }
     }
 
@@ -188,7 +193,7 @@ impl<'a> Driver<'a> {
             t,
             wave,
             here,
-            session: self.r.pick(&[0, 77, 255, 9]),
+            session: self.r.pick(&[0, 77, 255, 9, 1000]),
             db,
             echo,
             doppler,
@@ -241,6 +246,11 @@ impl<'a> Driver<'a> {
                     return (self.heard.0, self.heard.1, stored);
                 }
                 (0..n).fold(0, |m, i| m | ((self.r.unit() < chance) as u64) << i)
+            }
+            Far::Deaf => {
+                let got = if self.r.once_in(6) { self.r.next() & whole } else { 0 };
+                self.heard = (number, got);
+                return (number, got, !self.r.once_in(20));
             }
             Far::Hostile => match self.r.below(8) {
                 0 => return (self.r.below(4), self.r.next(), stored),
@@ -297,7 +307,7 @@ impl<'a> Driver<'a> {
         let n = self.r.pick(&[0, 1, 3, 4, 4, 4, 4, 4, 4, 4]);
         payload.extend(&report[..n]);
         if n == 4 && self.r.once_in(8) {
-            let more = self.r.within(1, 30) as usize;
+            let more = if self.r.once_in(10) { 300 } else { self.r.within(1, 30) as usize };
             payload.extend(self.r.bytes(more));
         }
         Call::Long {
@@ -577,6 +587,10 @@ impl<'a> Driver<'a> {
                 self.connect();
             }
         }
+        if self.first_queue > 0 {
+            let bytes = self.r.bytes(self.first_queue);
+            self.call(Call::Queue(bytes));
+        }
         while self.calls() + 1 < calls {
             self.step();
         }
@@ -815,6 +829,7 @@ fn lines(r: &mut Rng, calls: usize) -> Vec<Item> {
 pub fn list(seed: u64, index: u64, calls: usize, kind: &str) -> Vec<Item> {
     let r = &mut Rng::new(seed, index);
     made();
+    let mut queue = 0;
     let (profile, far) = match kind {
         "usual" | "ladder" => {
             let mut p = match r.below(12) {
@@ -827,7 +842,11 @@ pub fn list(seed: u64, index: u64, calls: usize, kind: &str) -> Vec<Item> {
             }
             (p, r.pick(&[Far::Honest, Far::Lossy, Far::Fading, Far::Fading]))
         }
-        "harq" => (profiles::harq(r), r.pick(&[Far::Lossy, Far::Lossy, Far::Fading, Far::Hostile])),
+        "harq" => {
+            let (p, most) = profiles::harq(r);
+            queue = most;
+            (p, r.pick(&[Far::Lossy, Far::Lossy, Far::Fading, Far::Hostile, Far::Deaf, Far::Deaf]))
+        }
         "merge" => (profiles::merge(r), r.pick(&[Far::Lossy, Far::Fading, Far::Hostile])),
         "many" => {
             many(r, calls);
@@ -852,7 +871,8 @@ pub fn list(seed: u64, index: u64, calls: usize, kind: &str) -> Vec<Item> {
             d.snr = 12.0;
             d.class_in = 40;
             d.loss_in = d.r.pick(&[2, 2, 3, 8]);
-            d.largest_queue = d.r.pick(&[500, 2000, 5000]);
+            d.largest_queue = queue;
+            d.first_queue = queue as usize;
         }
         "merge" => {
             d.class_in = d.r.pick(&[4, 30]);

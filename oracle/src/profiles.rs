@@ -106,7 +106,8 @@ pub fn usual(r: &mut Rng) -> Profile {
 }
 
 /// For held pieces: many frames in a burst, increments of all sizes, cues.
-pub fn harq(r: &mut Rng) -> Profile {
+/// Comes with how many bytes to queue at most.
+pub fn harq(r: &mut Rng) -> (Profile, u64) {
     let mut p = Profile::usual();
     settings(r, &mut p);
     p.values[ON][on::HARQ] = Value::Flag(true);
@@ -147,13 +148,15 @@ pub fn harq(r: &mut Rng) -> Profile {
     if r.flag() {
         set_whole(&mut p, PIN, 0, r.within(5, 16));
     }
-    match r.below(3) {
+    let mut queue = r.pick(&[20, 500, 2000]);
+    match r.below(5) {
         // More increments than fit, behind a cue.
         0 => {
             p.values[ON][on::CUE] = Value::Flag(true);
             p.values[ON][on::HARQ_PARTIAL] = Value::Flag(true);
             set_f32(&mut p, DBS, 2, 100.0);
             set_whole(&mut p, PIN, 0, r.within(7, 16));
+            queue = r.pick(&[500, 2000, 8000]);
             large_increments(r, &mut p);
         }
         // More than fit, without a cue.
@@ -161,31 +164,44 @@ pub fn harq(r: &mut Rng) -> Profile {
             p.values[ON][on::HARQ_STRETCH] = Value::Flag(!r.once_in(3));
             set_f32(&mut p, DBS, 2, -100.0);
             set_whole(&mut p, PIN, 0, r.within(5, 16));
+            queue = r.pick(&[500, 2000, 8000]);
             large_increments(r, &mut p);
+        }
+        // Pieces that stop being held soon, beside pieces that are.
+        2 => {
+            p.values[ON][on::MERGE_PIECES] = Value::Flag(true);
+            set_whole(&mut p, PIN, 0, r.within(5, 16));
+            let slot = p.whole(9, 0);
+            let mother = (slot * r.within(2, 4) / 2).clamp(1, 16384);
+            set_whole(&mut p, HARQ, 0, mother);
+            queue = 20;
         }
         _ => {}
     }
-    p
+    (p, queue)
 }
 
 /// Increments several times as long as a slot, of which a burst takes a few.
 fn large_increments(r: &mut Rng, p: &mut Profile) {
     let slot = r.within(16, 200);
-    let step = slot * r.within(1, 6) + r.within(0, 3);
+    let step = slot * r.within(2, 6) + r.within(0, 3);
     let mother = (6 * step).min(16384);
     set_whole(p, HARQ, 0, mother);
     for i in 1..7 {
         set_whole(p, HARQ, i, (slot + step * i as u64).min(16384));
     }
     let usual_s = p.f64(BURST, 0);
-    let fit = r.within(2, 40);
+    let all = r.once_in(3);
+    let fit = if all { r.pick(&[62, 63, 63, 64]) } else { r.within(1, 16) };
+    set_whole(p, FRAME_BYTES, 0, r.within(18, 20));
+    set_whole(p, FRAME_BYTES, 1, r.within(20, 40));
     for l in 0..17 {
         set_whole(p, l, 0, slot);
         set_f64(p, l, 1, 0.0);
         set_whole(p, l, 3, 0xFFFF_FFFF);
         set_f64(p, l, 2, ((step * fit) as f64 / usual_s).clamp(1.0, 100_000.0));
     }
-    set_f64(p, CUE_S, 0, r.pick(&[0.0, 0.125, 0.5]));
+    set_f64(p, CUE_S, 0, if all { 0.0 } else { r.pick(&[0.0, 0.125, 0.5]) });
 }
 
 /// For splitting and merging: any frame sizes, short levels within reach.

@@ -5,7 +5,7 @@ use std::time::{Duration, Instant};
 use crate::list::{Call, Item};
 use crate::profile::Profile;
 
-const TIME: Duration = Duration::from_secs(30);
+const TIME: Duration = Duration::from_secs(12);
 
 /// `shows` is true of `items`, and of the result.
 pub fn shrink(mut items: Vec<Item>, shows: &mut dyn FnMut(&[Item]) -> bool) -> Vec<Item> {
