@@ -89,7 +89,9 @@ impl Tally {
     }
 
     fn ack(&mut self, number: u8, bitmap: u64, short: bool) {
-        let Some((sent, frames)) = self.outstanding.take() else { return };
+        let Some((sent, frames)) = self.outstanding.take() else {
+            return;
+        };
         if sent != number {
             return;
         }
@@ -127,7 +129,12 @@ impl Tally {
     fn agrees(&self, h: &Harness) -> Check {
         let s = &h.station;
         let flying = self.flown.len() as u64 - self.acknowledged_count;
-        demand!(self.taken == h.taken, "taken is {}, by the tally {}", h.taken, self.taken);
+        demand!(
+            self.taken == h.taken,
+            "taken is {}, by the tally {}",
+            h.taken,
+            self.taken
+        );
         demand!(
             self.taken == self.waiting.len() as u64 + flying + self.acknowledged_count,
             "the tally's taken is not waiting + in flight + acknowledged"
@@ -185,7 +192,10 @@ pub fn sound(h: &Harness) -> Check {
     let twice = 2 * p.whole(HARQ, 0) as usize;
     for (i, &(offset, bits)) in s.at_peer.iter().enumerate() {
         demand!(s.inflight.contains_key(&offset), "held {offset} does not fly");
-        demand!(s.at_peer[..i].iter().all(|x| x.0 != offset), "held {offset} comes twice");
+        demand!(
+            s.at_peer[..i].iter().all(|x| x.0 != offset),
+            "held {offset} comes twice"
+        );
         demand!((1..twice).contains(&bits), "held {offset} has {bits} bits");
     }
     demand!(
@@ -198,14 +208,23 @@ pub fn sound(h: &Harness) -> Check {
         .map(|f| f.off)
         .chain(s.at_peer_rest.iter().map(|r| r.0))
         .collect();
-    demand!(together.len() <= 64, "{} offsets are outstanding or unsent", together.len());
+    demand!(
+        together.len() <= 64,
+        "{} offsets are outstanding or unsent",
+        together.len()
+    );
     for (i, offset) in together.iter().enumerate() {
         demand!(s.inflight.contains_key(offset), "outstanding {offset} does not fly");
         demand!(!together[..i].contains(offset), "outstanding {offset} comes twice");
     }
     for f in &s.last_burst {
         demand!((1..=16_384).contains(&f.bits), "frame {} has {} bits", f.off, f.bits);
-        demand!((f.bits..=49_151).contains(&f.held), "frame {} has {} held bits", f.off, f.held);
+        demand!(
+            (f.bits..=49_151).contains(&f.held),
+            "frame {} has {} held bits",
+            f.off,
+            f.held
+        );
     }
     demand!(s.out.len() <= WAITING_MOST, "{} bytes wait", s.out.len());
     demand!(h.taken <= TAKEN_MOST, "{} bytes are taken", h.taken);
@@ -223,16 +242,29 @@ pub fn sound(h: &Harness) -> Check {
         s.out.len(),
         h.acked()
     );
-    demand!(s.level <= 16 && s.target <= 16, "level {}, target {}", s.level, s.target);
+    demand!(
+        s.level <= 16 && s.target <= 16,
+        "level {}, target {}",
+        s.level,
+        s.target
+    );
     demand!(s.burst_id <= 3, "burst number {}", s.burst_id);
-    demand!(s.peer_heard.is_none_or(|n| n <= 3), "number last heard {:?}", s.peer_heard);
+    demand!(
+        s.peer_heard.is_none_or(|n| n <= 3),
+        "number last heard {:?}",
+        s.peer_heard
+    );
     for l in 0..17 {
         demand!(
             s.success[l].is_none_or(|x| (0.0..=1.0).contains(&x)),
             "level {l} has the share {:?}",
             s.success[l]
         );
-        demand!(s.success_at[l] <= LAST_SECOND, "level {l} has a share of {}", s.success_at[l]);
+        demand!(
+            s.success_at[l] <= LAST_SECOND,
+            "level {l} has a share of {}",
+            s.success_at[l]
+        );
         demand!(
             s.blocked_until[l] <= HOLD_END_MOST,
             "level {l} has a hold until {}",
@@ -242,7 +274,11 @@ pub fn sound(h: &Harness) -> Check {
     if s.connected() {
         demand!((1.0..=1000.0).contains(&s.burst_s), "burst seconds {}", s.burst_s);
     }
-    demand!(h.last_time.is_none_or(|t| t <= LAST_SECOND), "last time {:?}", h.last_time);
+    demand!(
+        h.last_time.is_none_or(|t| t <= LAST_SECOND),
+        "last time {:?}",
+        h.last_time
+    );
     let db = |x: f32| (-100.0..=308.0).contains(&x);
     demand!(s.aim_db.is_none_or(db), "aim {:?}", s.aim_db);
     demand!(s.last_report_db.is_none_or(db), "last report {:?}", s.last_report_db);
@@ -299,7 +335,14 @@ impl Allowance {
 
 /// A frame's bytes: kind, flags, offset, length, payload, fill, check sum.
 fn frame_bytes(size: usize, offset: u32, payload: &[u8]) -> Vec<u8> {
-    let mut b = vec![3, 0, offset as u8, (offset >> 8) as u8, (offset >> 16) as u8, payload.len() as u8];
+    let mut b = vec![
+        3,
+        0,
+        offset as u8,
+        (offset >> 8) as u8,
+        (offset >> 16) as u8,
+        payload.len() as u8,
+    ];
     b.extend(payload);
     b.resize(size - 4, 0);
     // V.42 bit by bit: the remainder of the bits, low first, first 32 inverted.
@@ -340,12 +383,19 @@ fn burst_holds(h: &Harness, before: &Allowance, b: &Burst, flown: &[u8], first_n
     demand!(s.last_burst.len() == b.frames.len(), "the outstanding burst is another");
     let (mut parity, mut bits, mut last_fresh) = (0, 0, None);
     for (f, sent) in b.frames.iter().zip(&s.last_burst) {
-        demand!(f.offset == sent.off && f.bits == sent.bits, "the outstanding frame is another");
+        demand!(
+            f.offset == sent.off && f.bits == sent.bits,
+            "the outstanding frame is another"
+        );
         let at = f.offset as usize;
         let Some(bytes) = flown.get(at..at + f.len) else {
             return Err(format!("frame {at}/{} reaches past the flown bytes", f.len));
         };
-        demand!((1..=payload).contains(&f.len), "frame {at} has {} bytes of payload", f.len);
+        demand!(
+            (1..=payload).contains(&f.len),
+            "frame {at} has {} bytes of payload",
+            f.len
+        );
         demand!(
             f.bytes == frame_bytes(size as usize, f.offset, bytes),
             "frame {at} does not carry the bytes taken there"
@@ -380,9 +430,10 @@ fn burst_holds(h: &Harness, before: &Allowance, b: &Burst, flown: &[u8], first_n
         parity += 1;
     }
     // Whole frames are the oldest pieces that are not held.
-    let mut others = s.inflight.keys().filter(|o| {
-        !s.at_peer_rest.iter().any(|r| r.0 == **o) && !s.last_burst[..parity].iter().any(|f| f.off == **o)
-    });
+    let mut others = s
+        .inflight
+        .keys()
+        .filter(|o| !s.at_peer_rest.iter().any(|r| r.0 == **o) && !s.last_burst[..parity].iter().any(|f| f.off == **o));
     demand!(
         s.last_burst[parity..].iter().all(|f| others.next() == Some(&f.off)),
         "an older piece is passed over"
@@ -460,7 +511,10 @@ impl Auditor {
             reached.count("bursts with a cue", b.cue);
             reached.count("bursts with increments", parity > 0);
             reached.count("bursts of increments only", parity > 0 && parity == b.frames.len());
-            reached.count("bursts of increments longer than usual", parity > 0 && d > before.burst_len_s);
+            reached.count(
+                "bursts of increments longer than usual",
+                parity > 0 && d > before.burst_len_s,
+            );
             reached.count("bursts that leave held pieces out", !s.at_peer_rest.is_empty());
             reached.count("bursts that drop the held list", !before.held.is_empty() && parity == 0);
             reached.count(
@@ -494,7 +548,10 @@ impl Auditor {
             "calls with a hold running",
             h.last_time.is_some_and(|t| s.blocked_until.iter().any(|&b| t < b)),
         );
-        reached.count("calls with a hold that leaves longer guards", s.hold_all.contains(&false));
+        reached.count(
+            "calls with a hold that leaves longer guards",
+            s.hold_all.contains(&false),
+        );
         reached.most("bytes in flight", h.flying());
         reached.most("pieces in flight", s.inflight.len());
         reached.most("pieces held", s.at_peer.len());

@@ -83,7 +83,9 @@ pub fn compare(program: &str, seconds: u64, seed: u64) -> Result<(), String> {
             println!("# the program:  {got}");
             println!("# seed {seed}, list {lists}, {length} calls, {kind}, shrunk");
             print!("{}", String::from_utf8_lossy(&list));
-            return Err(format!("a transcript differs, after {lists} lists and {calls} calls alike"));
+            return Err(format!(
+                "a transcript differs, after {lists} lists and {calls} calls alike"
+            ));
         }
         lists += 1;
         calls += calls_in(&items);

@@ -57,7 +57,14 @@ pub extern "C" fn expf(x: f32) -> f32 {
 /// Whether `f64::exp` and `f32::exp` are bitwise E: at the edges, around the
 /// ties of k, and on some thousands of values between.
 pub fn check() -> Result<(), String> {
-    let mut xs = vec![0.0, -0.0, f64::MIN_POSITIVE, -f64::MIN_POSITIVE, f64::INFINITY, f64::NEG_INFINITY];
+    let mut xs = vec![
+        0.0,
+        -0.0,
+        f64::MIN_POSITIVE,
+        -f64::MIN_POSITIVE,
+        f64::INFINITY,
+        f64::NEG_INFINITY,
+    ];
     for edge in [-708.0f64, 709.0, -745.0, 710.0, 88.0, -104.0, 1.0, -1.0, 0.5, -0.5] {
         xs.extend([edge.next_down(), edge, edge.next_up()]);
     }

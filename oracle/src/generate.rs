@@ -178,7 +178,8 @@ impl<'a> Driver<'a> {
 
     fn class(&mut self) -> (bool, bool) {
         if self.r.once_in(self.class_in) {
-            self.r.pick(&[(true, false), (false, true), (true, true), (true, false)])
+            self.r
+                .pick(&[(true, false), (false, true), (true, true), (true, false)])
         } else {
             (false, false)
         }
@@ -205,14 +206,21 @@ impl<'a> Driver<'a> {
 
     fn queue(&mut self) {
         let room = WAITING_MOST - self.h.station.out.len();
-        let most = self.r.pick(&[1, 30, self.largest_queue, self.largest_queue]).min(room as u64);
+        let most = self
+            .r
+            .pick(&[1, 30, self.largest_queue, self.largest_queue])
+            .min(room as u64);
         let n = match self.r.below(20) {
             0 => 0,
             1 => room.min(self.largest_queue as usize),
             2 => payload_of(self.h.profile.whole(FRAME_BYTES, 1)).min(room),
             _ => self.r.within(0, most) as usize,
         };
-        let bytes = if self.r.once_in(10) { vec![0; n] } else { self.r.bytes(n) };
+        let bytes = if self.r.once_in(10) {
+            vec![0; n]
+        } else {
+            self.r.bytes(n)
+        };
         self.call(Call::Queue(bytes));
     }
 
@@ -307,7 +315,11 @@ impl<'a> Driver<'a> {
         let n = self.r.pick(&[0, 1, 3, 4, 4, 4, 4, 4, 4, 4]);
         payload.extend(&report[..n]);
         if n == 4 && self.r.once_in(8) {
-            let more = if self.r.once_in(10) { 300 } else { self.r.within(1, 30) as usize };
+            let more = if self.r.once_in(10) {
+                300
+            } else {
+                self.r.within(1, 30) as usize
+            };
             payload.extend(self.r.bytes(more));
         }
         Call::Long {
@@ -346,7 +358,9 @@ impl<'a> Driver<'a> {
         let offset = match self.r.below(8) {
             0 => next,
             1 => 0xFFFF_FFFF,
-            2 => self.r.pick(&[1 << 32, u64::MAX, 1 << 32 | offsets.first().copied().unwrap_or(0)]),
+            2 => self
+                .r
+                .pick(&[1 << 32, u64::MAX, 1 << 32 | offsets.first().copied().unwrap_or(0)]),
             3 => self.r.below(next + 1),
             _ if offsets.is_empty() => 0,
             4 => self.r.pick(&offsets) + 1,
@@ -460,7 +474,11 @@ impl<'a> Driver<'a> {
                 self.call(call);
             }
             4 => {
-                let mut call = if self.h.station.connected() { self.short() } else { self.reply() };
+                let mut call = if self.h.station.connected() {
+                    self.short()
+                } else {
+                    self.reply()
+                };
                 let place = self.r.below(3);
                 match &mut call {
                     Call::Short { burst, .. } if place == 0 => *burst = self.r.pick(&[3, 4, 0, 256, u64::MAX]),
@@ -815,7 +833,9 @@ fn lines(r: &mut Rng, calls: usize) -> Vec<Item> {
             let whole = Profile::usual().to_string();
             let lines: Vec<&str> = whole.lines().skip(1).collect();
             let n = r.below(lines.len() as u64) as usize;
-            out.push(Item::Raw(lines[..n].iter().flat_map(|l| format!("{l}\n").into_bytes()).collect()));
+            out.push(Item::Raw(
+                lines[..n].iter().flat_map(|l| format!("{l}\n").into_bytes()).collect(),
+            ));
         }
     }
     if r.once_in(16) {
@@ -845,7 +865,10 @@ pub fn list(seed: u64, index: u64, calls: usize, kind: &str) -> Vec<Item> {
         "harq" => {
             let (p, most) = profiles::harq(r);
             queue = most;
-            (p, r.pick(&[Far::Lossy, Far::Lossy, Far::Fading, Far::Hostile, Far::Deaf, Far::Deaf]))
+            (
+                p,
+                r.pick(&[Far::Lossy, Far::Lossy, Far::Fading, Far::Hostile, Far::Deaf, Far::Deaf]),
+            )
         }
         "merge" => (profiles::merge(r), r.pick(&[Far::Lossy, Far::Fading, Far::Hostile])),
         "many" => {

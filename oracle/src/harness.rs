@@ -300,7 +300,9 @@ impl Harness {
             .collect();
         if !frames.is_empty() {
             let bits = frames.iter().map(|f| f.bits).sum();
-            self.airtime_ms = self.airtime_ms.saturating_add(airtime_ms(s.air.duration(out.wave, out.code, bits)));
+            self.airtime_ms = self
+                .airtime_ms
+                .saturating_add(airtime_ms(s.air.duration(out.wave, out.code, bits)));
         }
         Burst {
             wave: wave_rank(out.wave),

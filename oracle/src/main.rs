@@ -36,7 +36,9 @@ const USAGE: &str = "usage:
 fn read_list(name: &str) -> Result<Vec<u8>, String> {
     let mut text = Vec::new();
     if name == "-" {
-        io::stdin().read_to_end(&mut text).map_err(|e| format!("standard input: {e}"))?;
+        io::stdin()
+            .read_to_end(&mut text)
+            .map_err(|e| format!("standard input: {e}"))?;
     } else {
         text = fs::read(name).map_err(|e| format!("{name}: {e}"))?;
     }
@@ -62,10 +64,15 @@ fn run(args: &[&str]) -> Result<(), String> {
     exp::check().map_err(|e| format!("exp is not document 01's E here: {e}"))?;
     match args {
         ["transcript", list] => put(transcript::transcript(&read_list(list)?).as_bytes()),
-        ["generate", seed, lists, calls] => put(&generate::generate(number(seed)?, number(lists)?, count(calls)?, None)?),
-        ["generate", seed, lists, calls, kind] => {
-            put(&generate::generate(number(seed)?, number(lists)?, count(calls)?, Some(kind))?)
+        ["generate", seed, lists, calls] => {
+            put(&generate::generate(number(seed)?, number(lists)?, count(calls)?, None)?)
         }
+        ["generate", seed, lists, calls, kind] => put(&generate::generate(
+            number(seed)?,
+            number(lists)?,
+            count(calls)?,
+            Some(kind),
+        )?),
         ["audit"] => audit::audit(1, 4000, 80),
         ["audit", seed, lists, calls] => audit::audit(number(seed)?, number(lists)?, count(calls)?),
         ["compare", program, seconds, seed] => compare::compare(program, number(seconds)?, number(seed)?),

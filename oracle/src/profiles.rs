@@ -26,7 +26,10 @@ fn frame_sizes(r: &mut Rng, p: &mut Profile) {
         }
         4 => (r.within(18, 40), r.within(40, 200)),
         5 => (r.within(18, 512), r.within(18, 512)),
-        6 => (r.pick(&[18, 19, 26, 32, 263, 264, 265, 266]), r.pick(&[264, 265, 266, 511, 512])),
+        6 => (
+            r.pick(&[18, 19, 26, 32, 263, 264, 265, 266]),
+            r.pick(&[264, 265, 266, 511, 512]),
+        ),
         _ => (32, 180),
     };
     set_whole(p, FRAME_BYTES, 0, a.min(b));
@@ -119,19 +122,41 @@ pub fn harq(r: &mut Rng) -> (Profile, u64) {
     set_f32(&mut p, DBS, 2, r.pick(&[7.0, 30.0, 100.0, -20.0]));
     set_f64(&mut p, CUE_S, 0, r.pick(&[0.0, 0.25, 1.12, 1.5, 10.0]));
     let even = r.flag();
-    let usual_s = if even { r.pick(&[1.0, 2.0, 4.0, 8.0]) } else { r.between(1.0, 20.0) };
+    let usual_s = if even {
+        r.pick(&[1.0, 2.0, 4.0, 8.0])
+    } else {
+        r.between(1.0, 20.0)
+    };
     set_f64(&mut p, BURST, 0, usual_s);
     set_f64(&mut p, BURST, 1, usual_s * r.pick(&[1.0, 2.0, 4.0, 40.0]));
     let most = r.pick(&[1, 2, 4, 8, 20, 64, 90]);
     for l in 0..17 {
-        let slot = if even { r.pick(&[64, 128, 256, 1024]) } else { r.within(50, 3000) };
+        let slot = if even {
+            r.pick(&[64, 128, 256, 1024])
+        } else {
+            r.within(50, 3000)
+        };
         let frames = r.within(1, most) as f64;
         set_whole(&mut p, l, 0, slot);
-        set_f64(&mut p, l, 1, if even { r.pick(&[0.0, 0.25, 0.5]) } else { r.between(0.0, 1.0) });
+        set_f64(
+            &mut p,
+            l,
+            1,
+            if even {
+                r.pick(&[0.0, 0.25, 0.5])
+            } else {
+                r.between(0.0, 1.0)
+            },
+        );
         let rate = slot as f64 * frames / usual_s;
         set_f64(&mut p, l, 2, rate.clamp(1.0, 100_000.0));
         if r.once_in(6) {
-            set_whole(&mut p, l, 3, (slot * r.within(1, 20) + r.within(0, 2)).saturating_sub(1).max(1));
+            set_whole(
+                &mut p,
+                l,
+                3,
+                (slot * r.within(1, 20) + r.within(0, 2)).saturating_sub(1).max(1),
+            );
         }
     }
     let mother = r.pick(&[64, 256, 1000, 3000, 5760, 16384, 1]);
@@ -140,7 +165,9 @@ pub fn harq(r: &mut Rng) -> (Profile, u64) {
         let end = match r.below(4) {
             0 => r.within(1, 16384),
             1 => r.within(1, 2 * mother).min(16384),
-            2 => (p.whole(9, 0) * r.within(1, 3) + r.within(0, 2)).saturating_sub(1).clamp(1, 16384),
+            2 => (p.whole(9, 0) * r.within(1, 3) + r.within(0, 2))
+                .saturating_sub(1)
+                .clamp(1, 16384),
             _ => r.within(1, 400),
         };
         set_whole(&mut p, HARQ, i, end);
@@ -192,7 +219,11 @@ fn large_increments(r: &mut Rng, p: &mut Profile) {
     }
     let usual_s = p.f64(BURST, 0);
     let all = r.once_in(3);
-    let fit = if all { r.pick(&[62, 63, 63, 64]) } else { r.within(1, 16) };
+    let fit = if all {
+        r.pick(&[62, 63, 63, 64])
+    } else {
+        r.within(1, 16)
+    };
     set_whole(p, FRAME_BYTES, 0, r.within(18, 20));
     set_whole(p, FRAME_BYTES, 1, r.within(20, 40));
     for l in 0..17 {

@@ -78,7 +78,9 @@ pub fn shrink(mut items: Vec<Item>, shows: &mut dyn FnMut(&[Item]) -> bool) -> V
             if Instant::now() > until {
                 return items;
             }
-            let Item::Call(Call::Queue(bytes)) = &items[i] else { break };
+            let Item::Call(Call::Queue(bytes)) = &items[i] else {
+                break;
+            };
             let n = bytes.len();
             let mut shorter = None;
             for less in [n / 2, n.saturating_sub(1)] {
@@ -120,6 +122,10 @@ mod tests {
         };
         let small = shrink(items, &mut shows);
         assert_eq!(small.len(), 3);
-        assert!(small.iter().any(|i| matches!(i, Item::Call(Call::Queue(b)) if b.len() == 7)));
+        assert!(
+            small
+                .iter()
+                .any(|i| matches!(i, Item::Call(Call::Queue(b)) if b.len() == 7))
+        );
     }
 }

@@ -78,7 +78,9 @@ fn sha256(bytes: &[u8]) -> String {
             let (a, e) = (v[0], v[4]);
             let one = e.rotate_right(6) ^ e.rotate_right(11) ^ e.rotate_right(25);
             let choice = e & v[5] ^ !e & v[6];
-            let t = [v[7], one, choice, k[i], w[i]].into_iter().fold(0u32, u32::wrapping_add);
+            let t = [v[7], one, choice, k[i], w[i]]
+                .into_iter()
+                .fold(0u32, u32::wrapping_add);
             let two = a.rotate_right(2) ^ a.rotate_right(13) ^ a.rotate_right(22);
             let majority = a & v[1] ^ a & v[2] ^ v[1] & v[2];
             v.rotate_right(1);
@@ -107,7 +109,11 @@ fn compiled_is_the_original() {
     for (name, compiled, digest) in ORIGINALS {
         let file = fs::read(root.join(name)).unwrap();
         assert!(file == compiled, "{name} is not what was compiled");
-        assert_eq!(sha256(compiled), digest, "{name} is not the original of commit 1eb7dca018");
+        assert_eq!(
+            sha256(compiled),
+            digest,
+            "{name} is not the original of commit 1eb7dca018"
+        );
     }
 }
 
@@ -219,7 +225,10 @@ fn refused_profiles() {
         rows
     };
     let dbs = |line, at| {
-        let mut rows = vec![(line, at, Value::F32(-100.0), true), (line, at, Value::F32(100.0), true)];
+        let mut rows = vec![
+            (line, at, Value::F32(-100.0), true),
+            (line, at, Value::F32(100.0), true),
+        ];
         let out = [-100.00001, 100.00001, f32::NAN, f32::INFINITY, f32::NEG_INFINITY];
         rows.extend(out.map(|x| (line, at, Value::F32(x), false)));
         rows
@@ -260,7 +269,11 @@ fn refused_profiles() {
     for (line, at, value, fine) in rows {
         let mut p = Profile::usual();
         p.values[line][at] = value;
-        assert_eq!(p.refusal(), if fine { None } else { Some(1) }, "line {line}, {at}: {value:?}");
+        assert_eq!(
+            p.refusal(),
+            if fine { None } else { Some(1) },
+            "line {line}, {at}: {value:?}"
+        );
     }
     for (short, long, want) in [
         (18, 18, None),
@@ -283,7 +296,13 @@ fn refused_profiles() {
     assert_eq!(p.refusal(), Some(1));
     let mut h = Harness::new(p);
     h.call(&Call::Area(0));
-    for call in [connect(0.0, 0.0), Call::Queue(Vec::new()), Call::Burst, Call::Piece(0), long(0.0, 9, 0)] {
+    for call in [
+        connect(0.0, 0.0),
+        Call::Queue(Vec::new()),
+        Call::Burst,
+        Call::Piece(0),
+        long(0.0, 9, 0),
+    ] {
         assert_eq!(number(&mut h, call), 1);
     }
 }
@@ -291,7 +310,13 @@ fn refused_profiles() {
 #[test]
 fn refused_by_area_and_order_of_calls() {
     let mut h = Harness::new(Profile::usual());
-    for call in [Call::Burst, Call::Queue(vec![1]), Call::Piece(0), short(1.0, 0, 0), turn(f64::NAN, 9, 0.0, None)] {
+    for call in [
+        Call::Burst,
+        Call::Queue(vec![1]),
+        Call::Piece(0),
+        short(1.0, 0, 0),
+        turn(f64::NAN, 9, 0.0, None),
+    ] {
         assert_eq!(number(&mut h, call), 4);
     }
     for (bytes, want) in [(49_151, 3), (0, 3), (49_152, 4), (65_536, 4)] {
@@ -358,7 +383,9 @@ fn refused_by_bytes() {
     assert_eq!(number(&mut h, Call::Queue(vec![7; 5])), 0);
     assert_eq!(number(&mut h, Call::Queue(vec![0; 1])), 9);
     assert_eq!(number(&mut h, Call::Queue(vec![0; 16_385])), 8);
-    let Answer::Burst(b) = h.call(&Call::Burst) else { panic!() };
+    let Answer::Burst(b) = h.call(&Call::Burst) else {
+        panic!()
+    };
     assert_eq!((b.frames[0].offset, b.frames[0].len), (0xFFFF_FFFA, 5));
     assert_eq!(b.frames[0].bytes[2..5], [0xFA, 0xFF, 0xFF]);
 }
@@ -375,7 +402,11 @@ fn refused_by_output() {
 /// Answers of the calls of `lines` after the usual profile and a connect.
 fn answers(lines: &str) -> Vec<String> {
     let list = format!("{}{}\n{lines}", Profile::usual(), connect(1.0, 0.0));
-    transcript(list.as_bytes()).lines().skip(1).map(str::to_string).collect()
+    transcript(list.as_bytes())
+        .lines()
+        .skip(1)
+        .map(str::to_string)
+        .collect()
 }
 
 #[test]
@@ -390,9 +421,25 @@ fn lines_that_break_the_rules() {
     assert_eq!(transcript(b"profile\nprofile\n"), "error 2\n");
     let n = Profile::usual().to_string().lines().count() + 2;
     for line in [
-        "burst ", " burst", "burst  ", "burst 1", "bursts", "queue", "queue 0", "queue 0A", "queue --", "piece", "piece -1",
-        "piece 18446744073709551616", "area 65537", "out 32769", "turn 0x0 1 0x00000000 none", "queue\t00", "caf\u{e9}",
-        "# \u{e9}", "burst\r",
+        "burst ",
+        " burst",
+        "burst  ",
+        "burst 1",
+        "bursts",
+        "queue",
+        "queue 0",
+        "queue 0A",
+        "queue --",
+        "piece",
+        "piece -1",
+        "piece 18446744073709551616",
+        "area 65537",
+        "out 32769",
+        "turn 0x0 1 0x00000000 none",
+        "queue\t00",
+        "caf\u{e9}",
+        "# \u{e9}",
+        "burst\r",
     ] {
         assert_eq!(answers(&format!("{line}\nburst\n")), [format!("error {n}")], "{line:?}");
     }
@@ -411,8 +458,14 @@ fn lines_that_keep_them() {
     assert_eq!(answers("piece 000000000000000000000000000\n")[0], "piece none");
     assert_eq!(answers("piece 18446744073709551615\n")[0], "piece none");
     assert_eq!(answers("area 65536\nout 32768\n")[..2], ["area ok", "out ok"]);
-    assert_eq!(answers("turn 0x7FF8000000000000 1 0x00000000 none\n")[0], "turn refused 5");
-    assert_eq!(answers("turn 0x4000000000000000 1 0xffc00001 none\n")[0], "turn refused 6");
+    assert_eq!(
+        answers("turn 0x7FF8000000000000 1 0x00000000 none\n")[0],
+        "turn refused 5"
+    );
+    assert_eq!(
+        answers("turn 0x4000000000000000 1 0xffc00001 none\n")[0],
+        "turn refused 6"
+    );
     let profile = Profile::usual().to_string();
     let two = format!("{profile}{}\nqueue 01\nburst\n{profile}state\n", connect(0.0, -20.0));
     let out = transcript(two.as_bytes());
@@ -431,12 +484,17 @@ fn reckoned_pieces() {
     h.station.next_offset = 150;
     h.taken = 150;
     h.station.inflight.insert(100, (0..50).collect());
-    let Answer::Burst(b) = h.call(&Call::Burst) else { panic!() };
+    let Answer::Burst(b) = h.call(&Call::Burst) else {
+        panic!()
+    };
     let pieces: Vec<(u32, usize)> = h.station.inflight.iter().map(|(o, b)| (*o, b.len())).collect();
     assert_eq!(pieces, [(100, 22), (122, 22), (144, 6)]);
     assert!(!b.frames.is_empty());
 
-    for (held, want) in [(None, vec![(0, 80), (80, 40)]), (Some(40), vec![(0, 40), (40, 40), (80, 40)])] {
+    for (held, want) in [
+        (None, vec![(0, 80), (80, 40)]),
+        (Some(40), vec![(0, 40), (40, 40), (80, 40)]),
+    ] {
         let mut p = Profile::usual();
         p.values[FRAME_BYTES][1] = Value::Whole(110);
         p.values[PIN][0] = Value::Whole(9);
@@ -508,7 +566,9 @@ fn seven_frames_and_63() {
         let mut h = Harness::new(p);
         h.call(&connect(0.0, 30.0));
         h.call(&Call::Queue(vec![5; 170 * 8]));
-        let Answer::Burst(b) = h.call(&Call::Burst) else { panic!() };
+        let Answer::Burst(b) = h.call(&Call::Burst) else {
+            panic!()
+        };
         assert_eq!(b.frames.len(), 7);
         h.call(&short(1.0, b.number() as u64, bitmap));
         assert_eq!(h.acked(), want * 170);

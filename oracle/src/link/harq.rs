@@ -64,7 +64,10 @@ mod tests {
         active::set(&n, 0);
         assert_eq!(increment(2880, 2880), 1440);
         assert_eq!((increment(5760, 2880), start(5760)), (2880, 0));
-        assert_eq!((partial_field(3, 3), partial_field(3, 5), partial_field(62, 64)), (0, 4, 63));
+        assert_eq!(
+            (partial_field(3, 3), partial_field(3, 5), partial_field(62, 64)),
+            (0, 4, 63)
+        );
         assert_eq!(burst_check_bits(5, 4), 1);
         assert!(11519usize < H_MAX && !(11520usize < H_MAX));
     }
