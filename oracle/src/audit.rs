@@ -24,7 +24,9 @@ type Check = Result<(), String>;
 
 macro_rules! demand {
     ($holds:expr, $($why:tt)*) => {
-        if !$holds {
+        // A comparison with NaN is false, so it breaks the demand too.
+        let holds: bool = $holds;
+        if !holds {
             return Err(format!($($why)*));
         }
     };

@@ -50,6 +50,8 @@ struct Driver<'a> {
     class_in: u64,
     /// One in this many calls is a limit's neighbour.
     limit_in: u64,
+    /// One in this many replies stands where a decision tips.
+    tip_in: u64,
     /// One in this many calls is `state`.
     state_in: u64,
     loss_in: u64,
@@ -77,6 +79,7 @@ impl<'a> Driver<'a> {
             heard: (0, 0),
             class_in,
             limit_in: 25,
+            tip_in: 4,
             state_in,
             loss_in,
             largest_queue,
@@ -201,6 +204,11 @@ impl<'a> Driver<'a> {
             slot: self.r.below(3),
             cue: !self.r.once_in(4),
         };
+        let call = if self.r.once_in(self.tip_in) {
+            self.tipping(call)
+        } else {
+            call
+        };
         self.call(call);
     }
 
@@ -303,7 +311,7 @@ impl<'a> Driver<'a> {
         payload.extend(bitmap.to_le_bytes());
         payload.push(q(self.report()));
         payload.extend(self.r.bytes(3));
-        let mut report = vec![
+        let mut report = [
             echo as u8 | (doppler as u8) << 1 | (self.r.below(4) as u8) << 2 | self.r.pick(&[0, 0, 0x30]),
             q(self.report()),
             self.r.next() as u8,
@@ -333,10 +341,96 @@ impl<'a> Driver<'a> {
         }
     }
 
+    /// What the original makes of a call, by one of its consequences.
+    fn outcome(&self, call: &Call, which: u64) -> [u64; 3] {
+        let mut h = self.h.clone();
+        h.call(call);
+        let s = &h.station;
+        let fails = s.fails.iter().map(|&n| n as u64).sum();
+        let holds = s.hold_all.iter().fold(0, |m, &b| m << 1 | b as u64);
+        match which {
+            0 => [s.level as u64, 0, 0],
+            1 => [s.level as u64, s.target as u64, s.burst_s.to_bits()],
+            2 => [fails, holds, 0],
+            _ => match h.call(&Call::Burst) {
+                Answer::Burst(b) => [b.code as u64, b.frames.len() as u64, b.cue as u64],
+                _ => [0; 3],
+            },
+        }
+    }
+
+    /// The call with its dB or its time moved to where a consequence changes,
+    /// on one side or the other; as it is where none does.
+    fn tipping(&mut self, call: Call) -> Call {
+        let which = self.r.below(4);
+        let with_db = |x: f32| {
+            let mut c = call.clone();
+            match &mut c {
+                Call::Connect { db, .. } | Call::Short { db, .. } | Call::Turn { db: Some(db), .. } => *db = x,
+                _ => {}
+            }
+            c
+        };
+        let with_time = |x: f64| {
+            let mut c = call.clone();
+            match &mut c {
+                Call::Connect { t, .. } | Call::Short { t, .. } | Call::Long { t, .. } | Call::Turn { t, .. } => *t = x,
+                _ => {}
+            }
+            c
+        };
+        let by_time = matches!(call, Call::Long { .. } | Call::Turn { db: None, .. }) || self.r.once_in(3);
+        // Halves between two values until no other lies between.
+        let halves = |mut lo: i64, mut hi: i64, make: &dyn Fn(i64) -> Call, this: &Self| {
+            let first = this.outcome(&make(lo), which);
+            if first == this.outcome(&make(hi), which) {
+                return None;
+            }
+            while hi - lo > 1 {
+                let middle = lo + (hi - lo) / 2;
+                if this.outcome(&make(middle), which) == first {
+                    lo = middle;
+                } else {
+                    hi = middle;
+                }
+            }
+            Some((lo, hi))
+        };
+        // The order of floats as that of whole numbers.
+        let by_bits = |bits: i64| with_time(f64::from_bits(bits as u64));
+        let by_place = |n: i64| {
+            let x = f32::from_bits(n.unsigned_abs() as u32);
+            with_db(if n < 0 { -x } else { x })
+        };
+        let place = |x: f32| {
+            let n = x.abs().to_bits() as i64;
+            if x < 0.0 { -n } else { n }
+        };
+        let (lo, hi, make): (i64, i64, &dyn Fn(i64) -> Call) = if by_time {
+            let most = self.r.pick(&[50.0, 400.0, 3000.0]);
+            let from = self.t.abs();
+            let to = (from + most).min(LAST_SECOND);
+            (from.to_bits() as i64, to.to_bits() as i64, &by_bits)
+        } else {
+            let below = self.r.pick(&[4.0, 20.0]);
+            let above = self.r.pick(&[4.0, 20.0]);
+            (place(self.snr - below), place(self.snr + above), &by_place)
+        };
+        let found = halves(lo, hi, make, self);
+        let side = self.r.flag();
+        match found {
+            Some((lo, hi)) => make(if side { lo } else { hi }),
+            None => call,
+        }
+    }
+
     fn ack(&mut self) {
         let frames = self.last.as_ref().map_or(0, |b| b.frames.len());
         let short = if self.r.once_in(5) { self.r.flag() } else { frames <= 6 };
-        let call = if short { self.short() } else { self.long() };
+        let mut call = if short { self.short() } else { self.long() };
+        if self.r.once_in(self.tip_in) {
+            call = self.tipping(call);
+        }
         self.call(call);
     }
 
@@ -347,6 +441,11 @@ impl<'a> Driver<'a> {
             wave: self.wave(),
             here: self.here(),
             db: if self.r.once_in(3) { None } else { Some(report) },
+        };
+        let call = if self.r.once_in(self.tip_in) {
+            self.tipping(call)
+        } else {
+            call
         };
         self.call(call);
     }
@@ -901,6 +1000,7 @@ pub fn list(seed: u64, index: u64, calls: usize, kind: &str) -> Vec<Item> {
             d.class_in = d.r.pick(&[4, 30]);
             d.largest_queue = 2000;
         }
+        "usual" | "ladder" => d.tip_in = 2,
         "limits" => {
             d.limit_in = 2;
             d.largest_queue = 300;

@@ -46,6 +46,7 @@ pub enum Answer {
     Piece(Option<Vec<u8>>),
 }
 
+#[derive(Clone)]
 pub struct Harness {
     pub profile: Profile,
     refusal: Option<u8>,
@@ -100,7 +101,7 @@ impl Harness {
         if matches!(call, Call::Connect { .. }) == self.station.connected() {
             return Some(4);
         }
-        let late = |t: f64| !(0.0 <= t && t <= LAST_SECOND && self.last_time.is_none_or(|last| last <= t));
+        let timely = |t: f64| (0.0..=LAST_SECOND).contains(&t) && self.last_time.is_none_or(|last| last <= t);
         let db = |x: f32| (-100.0..=300.0).contains(&x);
         match *call {
             Call::Connect {
@@ -111,7 +112,7 @@ impl Harness {
                 slot,
                 ..
             } => {
-                if late(t) {
+                if !timely(t) {
                     return Some(5);
                 }
                 if !(wave <= 5 && db(here) && db(report) && slot <= 2) {
@@ -128,7 +129,7 @@ impl Harness {
                 slot,
                 ..
             } => {
-                if late(t) {
+                if !timely(t) {
                     return Some(5);
                 }
                 if !(wave <= 5 && db(here) && burst <= 3 && bitmap <= 63 && db(report) && slot <= 2) {
@@ -142,7 +143,7 @@ impl Harness {
                 ref payload,
                 ..
             } => {
-                if late(t) {
+                if !timely(t) {
                     return Some(5);
                 }
                 if !(wave <= 5 && db(here)) {
@@ -158,7 +159,7 @@ impl Harness {
                 here,
                 db: report,
             } => {
-                if late(t) {
+                if !timely(t) {
                     return Some(5);
                 }
                 if !(wave <= 5 && db(here) && report.is_none_or(db)) {

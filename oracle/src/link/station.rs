@@ -160,6 +160,7 @@ pub struct Stats {
     pub classes: Vec<(ChanClass, usize)>,
 }
 
+#[derive(Clone)]
 pub struct Station {
     pub cfg: Config,
     pub air: Air,
