@@ -528,6 +528,10 @@ impl Auditor {
             reached.count("bursts that split pieces", old > pieces);
             reached.count("bursts that merge pieces", old < pieces);
             reached.count("bursts with td_ease", b.td_ease);
+            reached.count(
+                "bursts longer than max_burst_s",
+                !b.frames.is_empty() && d > h.profile.f64(BURST, 0),
+            );
             reached.most("frames in a burst", b.frames.len());
         }
         let all = matches!((call, &answer, numbered), (Call::Short { burst, bitmap: 63, .. }, Answer::Ok, Some((n, 7..)))

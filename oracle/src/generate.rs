@@ -46,6 +46,8 @@ struct Driver<'a> {
     last: Option<Burst>,
     /// The last number and bitmap that the far station heard.
     heard: (u64, u64),
+    /// Reports stay the same, so that bursts grow.
+    steady: bool,
     /// One in this many replies has a class.
     class_in: u64,
     /// One in this many calls is a limit's neighbour.
@@ -77,6 +79,7 @@ impl<'a> Driver<'a> {
             snr,
             last: None,
             heard: (0, 0),
+            steady: false,
             class_in,
             limit_in: 25,
             tip_in: 4,
@@ -132,6 +135,9 @@ impl<'a> Driver<'a> {
 
     /// What the far station reports, dB.
     fn report(&mut self) -> f32 {
+        if self.steady && !self.r.once_in(10) {
+            return self.snr;
+        }
         let p = &self.h.profile;
         let (line, margin) = if p.on(on::EFF_SNR) {
             (EFF_THRESHOLDS, 1)
@@ -1000,7 +1006,17 @@ pub fn list(seed: u64, index: u64, calls: usize, kind: &str) -> Vec<Item> {
             d.class_in = d.r.pick(&[4, 30]);
             d.largest_queue = 2000;
         }
-        "usual" | "ladder" => d.tip_in = 2,
+        "usual" | "ladder" => {
+            d.tip_in = 2;
+            if d.r.once_in(3) {
+                d.steady = true;
+                d.far = Far::Honest;
+                d.class_in = 1000;
+                d.tip_in = 6;
+                d.largest_queue = 2000;
+                d.first_queue = 1000;
+            }
+        }
         "limits" => {
             d.limit_in = 2;
             d.largest_queue = 300;
