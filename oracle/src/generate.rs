@@ -356,7 +356,7 @@ impl<'a> Driver<'a> {
         let holds = s.hold_all.iter().fold(0, |m, &b| m << 1 | b as u64);
         match which {
             0 => [s.level as u64, 0, 0],
-            1 => [s.level as u64, s.target as u64, s.burst_s.to_bits()],
+            1 => [s.burst_s.to_bits(), 0, 0],
             2 => [fails, holds, 0],
             _ => match h.call(&Call::Burst) {
                 Answer::Burst(b) => [b.code as u64, b.frames.len() as u64, b.cue as u64],
