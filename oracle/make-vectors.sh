@@ -4,7 +4,7 @@
 set -eu
 here=$(cd "$(dirname "$0")" && pwd)
 vectors=$here/../vectors
-find "$vectors" -name '*-*-*.calls' -exec rm {} +
+find "$vectors" -name '*-[0-9]*-[0-9]*.calls' -exec rm {} +
 find "$vectors" -name '*.transcript' -exec rm {} +
 
 # vectors KIND CALLS SEED..

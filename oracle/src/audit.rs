@@ -604,6 +604,7 @@ pub fn audit(seed: u64, lists: u64, calls: usize) -> Result<(), String> {
         progress.show(|| format!("audit: {index} of {lists} lists, {} calls", reached.calls));
         // The generator drives the original too, and an edited one may panic there.
         let made = catch_unwind(|| generate::list(seed, index, calls, kind));
+        let whole = made.is_ok();
         let items = made.unwrap_or_else(|_| generate::made());
         if let Err((at, _)) = check(&items, &mut reached) {
             progress.done();
@@ -612,6 +613,11 @@ pub fn audit(seed: u64, lists: u64, calls: usize) -> Result<(), String> {
             println!("# seed {seed}, list {index}, {calls} calls, {kind}, shrunk");
             print!("{}", String::from_utf8_lossy(&text(&small)));
             return Err(format!("the audit failed: {why}"));
+        }
+        if !whole {
+            return Err(format!(
+                "list {index} of seed {seed}: the original panics, and the list alone does not show it"
+            ));
         }
     }
     progress.done();

@@ -349,20 +349,31 @@ impl<'a> Driver<'a> {
 
     /// What the original makes of a call, by one of its consequences.
     fn outcome(&self, call: &Call, which: u64) -> [u64; 3] {
+        // On the list while it runs, for the case that the original panics.
+        let push = |call: Call| MADE.with_borrow_mut(|made| made.push(Item::Call(call)));
+        let pop = || MADE.with_borrow_mut(|made| drop(made.pop()));
         let mut h = self.h.clone();
+        push(call.clone());
         h.call(call);
         let s = &h.station;
         let fails = s.fails.iter().map(|&n| n as u64).sum();
         let holds = s.hold_all.iter().fold(0, |m, &b| m << 1 | b as u64);
-        match which {
+        let outcome = match which {
             0 => [s.level as u64, 0, 0],
             1 => [s.burst_s.to_bits(), 0, 0],
             2 => [fails, holds, 0],
-            _ => match h.call(&Call::Burst) {
-                Answer::Burst(b) => [b.code as u64, b.frames.len() as u64, b.cue as u64],
-                _ => [0; 3],
-            },
-        }
+            _ => {
+                push(Call::Burst);
+                let burst = h.call(&Call::Burst);
+                pop();
+                match burst {
+                    Answer::Burst(b) => [b.code as u64, b.frames.len() as u64, b.cue as u64],
+                    _ => [0; 3],
+                }
+            }
+        };
+        pop();
+        outcome
     }
 
     /// The call with its dB or its time moved to where a consequence changes,
