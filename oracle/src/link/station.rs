@@ -350,9 +350,39 @@ fn incoming(rank: usize, snr_db: f32) -> Incoming {
     }
 }
 
+/// Parts of station.rs and audio.rs as published, to compare with.
+#[cfg(test)]
+#[allow(dead_code)]
+mod published {
+    use super::{FLOOR, Guard, LADDER, MfskMode, TINY_ACK_FRAMES, Wave};
+    include!(concat!(env!("OUT_DIR"), "/parts.rs"));
+}
+
 #[cfg(test)]
 mod tests {
     use super::*;
+
+    #[test]
+    fn stand_ins_do_as_published() {
+        for rank in 0..6 {
+            let w = wave_of_rank(rank);
+            assert_eq!(wave_rank(w), published::wave_rank(w));
+            assert_eq!(top_level_in(w), published::top_level_in(w));
+        }
+        for level in 0..LEVELS {
+            assert_eq!(air_code(level), published::air_code(level));
+            for session in [0, 1, 9, 77, 128, 255] {
+                for hi in 0..=255 {
+                    let want = published::user_bits(level, session, hi);
+                    assert_eq!(user_bits(level, session, hi), want);
+                }
+            }
+        }
+        assert_eq!(TINY, published::TINY);
+        assert_eq!(WINDOW_BYTES, published::WINDOW_BYTES);
+        assert_eq!(TINY_ALL, published::TINY_ALL);
+        assert_eq!(crate::link::audio::TD_EASE_DOPPLER_HZ, published::TD_EASE_DOPPLER_HZ);
+    }
 
     /// Document 01's reckoned examples P5, P6 and P10.
     #[test]
