@@ -69,6 +69,6 @@ mod tests {
             (0, 4, 63)
         );
         assert_eq!(burst_check_bits(5, 4), 1);
-        assert!(11519usize < H_MAX && !(11520usize < H_MAX));
+        assert!(11519usize < H_MAX && 11520usize >= H_MAX);
     }
 }
