@@ -1,0 +1,40 @@
+#!/bin/sh
+# Writes the generated part of vectors/ anew, and the transcripts of all of it.
+# Each list is named KIND-CALLS-SEED after the arguments that make it.
+set -eu
+here=$(cd "$(dirname "$0")" && pwd)
+vectors=$here/../vectors
+find "$vectors" -name '*-[0-9]*-[0-9]*.calls' -exec rm {} +
+find "$vectors" -name '*.transcript' -exec rm {} +
+
+# vectors KIND CALLS SEED..
+vectors() {
+    kind=$1
+    calls=$2
+    shift 2
+    for seed; do
+        "$here/run" generate "$seed" 1 "$calls" "$kind" >"$vectors/$kind-$calls-$seed.calls"
+    done
+}
+
+vectors usual 26 6 16 33 41 43 47 50 59 62 64 67 74 79
+vectors usual 30 411
+vectors ladder 26 1001 1007 1008 1019 1028 1035 1040 1045 1054 1056 1063 1070
+vectors harq 18 15 29 36 41 43 52 71 78
+vectors harq 20 1105 1125 1187
+vectors harq 26 403 415 418 423 436 451 481 484 492
+vectors merge 16 1 5 32 33 41 42 44 46
+vectors many 8 227
+vectors many 10 42
+vectors extreme 18 4 8 10 13 16 28 35 45 51 55
+vectors hostile 20 0 2 3 22 29 32 36
+vectors limits 12 39
+vectors limits 24 3
+vectors limits 30 36 41 46 47 88 105 106
+vectors profiles 24 3 4 5 8
+vectors lines 5 0 18 25 37 64 89 131 133 143 145 169 184 188 196 197 210 234 241 245 259 263 265 279 296 299 302 309 369 \
+    389 392
+
+for list in "$vectors"/*.calls; do
+    "$here/run" transcript "$list" >"${list%.calls}.transcript"
+done

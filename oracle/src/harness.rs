@@ -1,0 +1,323 @@
+//! One sender of the original with the refusals of document 01 around it.
+
+use crate::active::{self, Numbers};
+use crate::link::frame::{AckInfo, Frame, Kind, Tiny, caps, flags};
+use crate::link::report::ChanClass;
+use crate::link::station::{Awaiting, Station, wave_rank};
+use crate::list::{AREA_MOST, Call, OUT_MOST};
+use crate::profile::{FRAME_BYTES, Profile};
+
+pub const AREA_BYTES: u64 = 49_152;
+pub const WAITING_MOST: usize = 16_384;
+pub const TAKEN_MOST: u64 = 0xFFFF_FFFF;
+pub const LAST_SECOND: f64 = 1e9;
+
+#[derive(Clone, Debug)]
+pub struct SentFrame {
+    pub offset: u32,
+    pub len: usize,
+    pub start: usize,
+    pub bits: usize,
+    pub bytes: Vec<u8>,
+}
+
+#[derive(Clone, Debug)]
+pub struct Burst {
+    pub wave: usize,
+    pub code: usize,
+    pub user: u16,
+    pub extra: u16,
+    pub cue: bool,
+    pub td_ease: bool,
+    pub frames: Vec<SentFrame>,
+}
+
+impl Burst {
+    pub fn number(&self) -> u8 {
+        (self.user >> 12) as u8 & 3
+    }
+}
+
+#[derive(Clone, Debug)]
+pub enum Answer {
+    Ok,
+    Refused(u8),
+    Burst(Burst),
+    Piece(Option<Vec<u8>>),
+}
+
+#[derive(Clone)]
+pub struct Harness {
+    pub profile: Profile,
+    refusal: Option<u8>,
+    numbers: Numbers,
+    pub station: Station,
+    pub last_time: Option<f64>,
+    pub taken: u64,
+    pub airtime_ms: u64,
+    area: u64,
+    out: u64,
+}
+
+impl Harness {
+    /// A fresh sender under `profile`.
+    pub fn new(profile: Profile) -> Self {
+        Self {
+            refusal: profile.refusal(),
+            numbers: profile.numbers(),
+            station: Station::new(profile.config(), profile.air()),
+            profile,
+            last_time: None,
+            taken: 0,
+            airtime_ms: 0,
+            area: AREA_BYTES.min(AREA_MOST),
+            out: OUT_MOST,
+        }
+    }
+
+    pub fn flying(&self) -> usize {
+        self.station.inflight.values().map(Vec::len).sum()
+    }
+
+    pub fn acked(&self) -> u64 {
+        self.station.stats.bytes_acked
+    }
+
+    pub fn awaiting(&self) -> bool {
+        self.station.awaiting == Awaiting::Ack
+    }
+
+    /// The number by which document 01 turns the call down.
+    pub fn refuses(&self, call: &Call) -> Option<u8> {
+        if matches!(call, Call::State | Call::Area(_) | Call::Out(_)) {
+            return None;
+        }
+        if self.refusal.is_some() {
+            return self.refusal;
+        }
+        if self.area < AREA_BYTES {
+            return Some(3);
+        }
+        if matches!(call, Call::Connect { .. }) == self.station.connected() {
+            return Some(4);
+        }
+        let timely = |t: f64| (0.0..=LAST_SECOND).contains(&t) && self.last_time.is_none_or(|last| last <= t);
+        let db = |x: f32| (-100.0..=300.0).contains(&x);
+        match *call {
+            Call::Connect {
+                t,
+                wave,
+                here,
+                db: report,
+                slot,
+                ..
+            } => {
+                if !timely(t) {
+                    return Some(5);
+                }
+                if !(wave <= 5 && db(here) && db(report) && slot <= 2) {
+                    return Some(6);
+                }
+            }
+            Call::Short {
+                t,
+                wave,
+                here,
+                burst,
+                bitmap,
+                db: report,
+                slot,
+                ..
+            } => {
+                if !timely(t) {
+                    return Some(5);
+                }
+                if !(wave <= 5 && db(here) && burst <= 3 && bitmap <= 63 && db(report) && slot <= 2) {
+                    return Some(6);
+                }
+            }
+            Call::Long {
+                t,
+                wave,
+                here,
+                ref payload,
+                ..
+            } => {
+                if !timely(t) {
+                    return Some(5);
+                }
+                if !(wave <= 5 && db(here)) {
+                    return Some(6);
+                }
+                if payload.len() < 13 {
+                    return Some(7);
+                }
+            }
+            Call::Turn {
+                t,
+                wave,
+                here,
+                db: report,
+            } => {
+                if !timely(t) {
+                    return Some(5);
+                }
+                if !(wave <= 5 && db(here) && report.is_none_or(db)) {
+                    return Some(6);
+                }
+            }
+            Call::Queue(ref bytes) => {
+                if self.station.out.len() + bytes.len() > WAITING_MOST {
+                    return Some(8);
+                }
+                if self.taken + bytes.len() as u64 > TAKEN_MOST {
+                    return Some(9);
+                }
+            }
+            Call::Burst => {
+                if self.out < 64 * self.profile.whole(FRAME_BYTES, 1) {
+                    return Some(10);
+                }
+            }
+            Call::Piece(_) | Call::State | Call::Area(_) | Call::Out(_) => {}
+        }
+        None
+    }
+
+    pub fn call(&mut self, call: &Call) -> Answer {
+        if let Some(number) = self.refuses(call) {
+            return Answer::Refused(number);
+        }
+        active::set(&self.numbers, self.station.level);
+        let s = &mut self.station;
+        match *call {
+            Call::Connect {
+                t,
+                wave,
+                here,
+                session,
+                db,
+                echo,
+                doppler,
+                slot,
+                cue,
+            } => {
+                s.call(session as u8);
+                let answer = Tiny::ConnAck {
+                    snr_db: db,
+                    compress: false,
+                    class: ChanClass { echo, doppler },
+                    slot: slot as u8,
+                    caps: if cue { caps::CUE } else { 0 },
+                };
+                s.hear_tiny(wave as usize, here, answer, t);
+                self.last_time = Some(t);
+            }
+            Call::Queue(ref bytes) => {
+                s.out.extend(bytes);
+                self.taken += bytes.len() as u64;
+            }
+            Call::Short {
+                t,
+                wave,
+                here,
+                burst,
+                bitmap,
+                db,
+                want_turn,
+                want_disc,
+                stored,
+                echo,
+                doppler,
+                slot,
+            } => {
+                let ack = Tiny::Ack {
+                    burst: burst as u8,
+                    bitmap: bitmap as u8,
+                    snr_db: db,
+                    want_turn,
+                    want_disc,
+                    stored,
+                    class: ChanClass { echo, doppler },
+                    slot: slot as u8,
+                };
+                s.hear_tiny(wave as usize, here, ack, t);
+                self.last_time = Some(t);
+            }
+            Call::Long {
+                t,
+                wave,
+                here,
+                want_turn,
+                want_disc,
+                stored,
+                ref payload,
+            } => {
+                debug_assert!(AckInfo::from_bytes(payload).is_some());
+                let mut frame = Frame::new(Kind::Ack, 0);
+                for (on, bit) in [
+                    (want_turn, flags::WANT_TURN),
+                    (want_disc, flags::WANT_DISC),
+                    (stored, flags::STORED),
+                ] {
+                    if on {
+                        frame.flags |= bit;
+                    }
+                }
+                frame.payload = payload.clone();
+                s.hear_frame(wave as usize, here, frame, t);
+                self.last_time = Some(t);
+            }
+            Call::Turn { t, wave, here, db } => {
+                s.hear_tiny(wave as usize, here, Tiny::Turn { snr_db: db }, t);
+                self.last_time = Some(t);
+            }
+            Call::Burst => return Answer::Burst(self.burst()),
+            Call::Piece(offset) => {
+                let piece = u32::try_from(offset).ok().and_then(|o| s.inflight.get(&o).cloned());
+                return Answer::Piece(piece);
+            }
+            Call::State => {}
+            Call::Area(n) => self.area = n,
+            Call::Out(n) => self.out = n,
+        }
+        Answer::Ok
+    }
+
+    fn burst(&mut self) -> Burst {
+        let s = &mut self.station;
+        let out = s.send();
+        let frames: Vec<SentFrame> = (0..out.frames.len())
+            .map(|i| {
+                let offset = s.last_burst[i].off;
+                SentFrame {
+                    offset,
+                    len: s.inflight[&offset].len(),
+                    start: out.spans[i].0,
+                    bits: out.spans[i].1,
+                    bytes: out.frames[i].clone(),
+                }
+            })
+            .collect();
+        if !frames.is_empty() {
+            let bits = frames.iter().map(|f| f.bits).sum();
+            self.airtime_ms = self
+                .airtime_ms
+                .saturating_add(airtime_ms(s.air.duration(out.wave, out.code, bits)));
+        }
+        Burst {
+            wave: wave_rank(out.wave),
+            code: out.code,
+            user: out.user,
+            extra: out.extra,
+            cue: out.cue,
+            td_ease: out.td_ease,
+            frames,
+        }
+    }
+}
+
+/// A duration in whole milliseconds: times 1,000 rounded once, then up.
+fn airtime_ms(seconds: f64) -> u64 {
+    (seconds * 1000.0).ceil() as u64
+}

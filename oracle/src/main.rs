@@ -1,0 +1,93 @@
+//! Runs the original Rust sender on call lists. See README.md.
+
+use std::fs;
+use std::io::{self, Read, Write};
+use std::process::ExitCode;
+
+mod active;
+mod audit;
+mod chan;
+mod compare;
+mod exp;
+mod fec;
+mod generate;
+mod harness;
+mod link;
+mod list;
+mod phy;
+mod phy_mfsk;
+mod profile;
+mod profiles;
+mod progress;
+mod rng;
+mod shrink;
+#[cfg(test)]
+mod tests;
+mod transcript;
+
+include!(concat!(env!("OUT_DIR"), "/level_mod.rs"));
+
+const USAGE: &str = "usage:
+  oracle transcript LIST                     the original's transcript of a call list (- for standard input)
+  oracle generate SEED LISTS CALLS [KIND]    LISTS call lists of about CALLS calls each
+  oracle audit [SEED LISTS CALLS]            demand 3 and the sound record on generated lists
+  oracle compare PROGRAM SECONDS SEED        PROGRAM, which reads a list and writes its transcript, against the original";
+
+fn read_list(name: &str) -> Result<Vec<u8>, String> {
+    let mut text = Vec::new();
+    if name == "-" {
+        io::stdin()
+            .read_to_end(&mut text)
+            .map_err(|e| format!("standard input: {e}"))?;
+    } else {
+        text = fs::read(name).map_err(|e| format!("{name}: {e}"))?;
+    }
+    Ok(text)
+}
+
+fn put(bytes: &[u8]) -> Result<(), String> {
+    let mut out = io::stdout().lock();
+    out.write_all(bytes)
+        .and_then(|()| out.flush())
+        .map_err(|e| format!("standard output: {e}"))
+}
+
+fn number(word: &str) -> Result<u64, String> {
+    list::read_whole(word.as_bytes()).ok_or_else(|| format!("no whole number: {word}"))
+}
+
+fn count(word: &str) -> Result<usize, String> {
+    Ok(number(word)?.clamp(1, 1_000_000) as usize)
+}
+
+fn run(args: &[&str]) -> Result<(), String> {
+    exp::check().map_err(|e| format!("exp is not document 01's E here: {e}"))?;
+    match args {
+        ["transcript", list] => put(transcript::transcript(&read_list(list)?).as_bytes()),
+        ["generate", seed, lists, calls] => {
+            put(&generate::generate(number(seed)?, number(lists)?, count(calls)?, None)?)
+        }
+        ["generate", seed, lists, calls, kind] => put(&generate::generate(
+            number(seed)?,
+            number(lists)?,
+            count(calls)?,
+            Some(kind),
+        )?),
+        ["audit"] => audit::audit(1, 4000, 80),
+        ["audit", seed, lists, calls] => audit::audit(number(seed)?, number(lists)?, count(calls)?),
+        ["compare", program, seconds, seed] => compare::compare(program, number(seconds)?, number(seed)?),
+        _ => Err(USAGE.to_string()),
+    }
+}
+
+fn main() -> ExitCode {
+    let args: Vec<String> = std::env::args().skip(1).collect();
+    let args: Vec<&str> = args.iter().map(String::as_str).collect();
+    match run(&args) {
+        Ok(()) => ExitCode::SUCCESS,
+        Err(e) => {
+            eprintln!("{e}");
+            ExitCode::FAILURE
+        }
+    }
+}
