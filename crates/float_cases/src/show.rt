@@ -56,7 +56,7 @@ fn end() {
 }
 
 // narrow, floor, as u64, floor(x).max(1.0) as u64, milliseconds, E.
-pub fn one64(x: f64) {
+pub(crate) fn one64(x: f64) {
     io::write_all(1, b"one64");
     put64(x);
     put32(exp::narrow::narrowed(x));
@@ -69,7 +69,7 @@ pub fn one64(x: f64) {
 }
 
 // abs, E.
-pub fn one32(x: f32) {
+pub(crate) fn one32(x: f32) {
     io::write_all(1, b"one32");
     put32(x);
     put32(float::pick::abs32(x));
@@ -78,7 +78,7 @@ pub fn one32(x: f32) {
 }
 
 // min, max, total_cmp not Greater.
-pub fn two64(x: f64, y: f64) {
+pub(crate) fn two64(x: f64, y: f64) {
     io::write_all(1, b"two64");
     put64(x);
     put64(y);
@@ -89,7 +89,7 @@ pub fn two64(x: f64, y: f64) {
 }
 
 // min, max, total_cmp not Greater, the share x after a burst of which y came through.
-pub fn two32(x: f32, y: f32) {
+pub(crate) fn two32(x: f32, y: f32) {
     io::write_all(1, b"two32");
     put32(x);
     put32(y);
@@ -100,7 +100,7 @@ pub fn two32(x: f32, y: f32) {
     end();
 }
 
-pub fn median(a: f32, b: f32, c: f32) {
+pub(crate) fn median(a: f32, b: f32, c: f32) {
     io::write_all(1, b"median");
     put32(a);
     put32(b);
@@ -109,7 +109,7 @@ pub fn median(a: f32, b: f32, c: f32) {
     end();
 }
 
-pub fn clamp(x: f64, lo: f64, hi: f64) {
+pub(crate) fn clamp(x: f64, lo: f64, hi: f64) {
     io::write_all(1, b"clamp");
     put64(x);
     put64(lo);
@@ -118,7 +118,7 @@ pub fn clamp(x: f64, lo: f64, hi: f64) {
     end();
 }
 
-pub fn held(first: f64, n: u64, cap: f64)
+pub(crate) fn held(first: f64, n: u64, cap: f64)
     requires { ⌜ n < 1024 ⌝ }
 {
     io::write_all(1, b"held");
@@ -129,7 +129,7 @@ pub fn held(first: f64, n: u64, cap: f64)
     end();
 }
 
-pub fn seconds(pre: f64, rate: f64, bits: u64) {
+pub(crate) fn seconds(pre: f64, rate: f64, bits: u64) {
     io::write_all(1, b"seconds");
     put64(pre);
     put64(rate);
@@ -138,7 +138,7 @@ pub fn seconds(pre: f64, rate: f64, bits: u64) {
     end();
 }
 
-pub fn lost(got: u64, sent: u64)
+pub(crate) fn lost(got: u64, sent: u64)
     requires { ⌜ got ≤ sent ⌝ ∗ ⌜ sent ≤ 64 ⌝ }
 {
     io::write_all(1, b"lost");
@@ -148,7 +148,7 @@ pub fn lost(got: u64, sent: u64)
     end();
 }
 
-pub fn sum(a: u64, b: u64) {
+pub(crate) fn sum(a: u64, b: u64) {
     io::write_all(1, b"sum");
     put(a);
     put(b);
