@@ -7,6 +7,7 @@ import math
 import os
 import re
 import struct
+from functools import cmp_to_key
 from fractions import Fraction
 
 INF, NAN, TOP = math.inf, math.nan, 2**64 - 1
@@ -114,7 +115,6 @@ def le(x, y):
 
 
 def median(a, b, c):
-    from functools import cmp_to_key
     order = lambda x, y: 0 if le(x, y) and le(y, x) else (-1 if le(x, y) else 1)
     return sorted([a, b, c], key=cmp_to_key(order))[1]
 
@@ -125,7 +125,11 @@ def clamp(x, lo, hi):
 
 
 def op32(f, x, y):
-    return to32(f(Fraction(x), Fraction(y)))
+    """One operation on two f32 values: exact and rounded once, or as doubles have it where one is no finite number."""
+    if math.isfinite(x) and math.isfinite(y):
+        exact = f(Fraction(x), Fraction(y))
+        return to32(exact) if exact else f(x, y)
+    return f(x, y)
 
 
 def loss(got, sent):
@@ -140,26 +144,27 @@ def share(p, ok):
     return op32(lambda a, b: a + b, p, step)
 
 
-# for each case: how its arguments are written, the function, how its result is written
+# for each kind of case: how its arguments are written; the functions, each with how its result is written
 D, F, N, B = bits64, bits32, str, lambda b: str(b).lower()
 CASES = {
-    'narrow': (D, to32, F), 'floor': (D, floor, D), 'cut': (D, cut, N), 'count': (D, count, N), 'millis': (D, millis, N),
-    'sum': (N, lambda a, b: min(a + b, TOP), N), 'e64': (D, E, D), 'e32': (F, lambda x: to32(E(x)), F),
-    'le32': (F, le, B), 'le64': (D, le, B), 'median': (F, median, F), 'min_64': (D, smaller, D), 'max_64': (D, larger, D),
-    'min_32': (F, smaller, F), 'max_32': (F, larger, F), 'clamp_64': (D, clamp, D), 'abs_32': (F, math.fabs, F),
-    'held': ((D, N, D), lambda a, n, c: smaller(a * math.ldexp(1.0, n), c), D),
-    'seconds': ((D, D, N), lambda p, r, n: p + div(float(n), r), D),
-    'lost': (N, loss, F), 'kept': (F, share, F),
+    'one64': ([D], [(to32, F), (floor, D), (cut, N), (count, N), (millis, N), (E, D)]),
+    'one32': ([F], [(math.fabs, F), (lambda x: to32(E(x)), F)]),
+    'two64': ([D, D], [(smaller, D), (larger, D), (le, B)]),
+    'two32': ([F, F], [(smaller, F), (larger, F), (le, B), (share, F)]),
+    'median': ([F, F, F], [(median, F)]),
+    'clamp': ([D, D, D], [(clamp, D)]),
+    'held': ([D, N, D], [(lambda a, n, c: smaller(a * math.ldexp(1.0, n), c), D)]),
+    'seconds': ([D, D, N], [(lambda p, r, n: p + div(float(n), r), D)]),
+    'lost': ([N, N], [(loss, F)]),
+    'sum': ([N, N], [(lambda a, b: min(a + b, TOP), N)]),
 }
 
 here = os.path.dirname(os.path.abspath(__file__))
 names = {'inf': INF, '-inf': -INF, 'nan': NAN}
 for name, args in re.findall(r'^    (\w+)\((.+)\);$', open(os.path.join(here, 'src', 'main.rt')).read(), re.M):
-    shown, f, result = CASES[name]
-    words = [w.replace('inf64', 'inf').replace('nan64', 'nan') for w in args.split(', ')]
-    shown = shown if isinstance(shown, tuple) else [shown] * len(words)
+    shown, results = CASES[name]
     values = []
-    for w, s in zip(words, shown):
-        v = names[w] if w in names else (int(w) if s is N else float(w))
+    for word, s in zip(args.split(', '), shown):
+        v = names[word] if word in names else (int(word) if s is N else float(word))
         values.append(to32(v) if s is F else v)
-    print(name, *[s(v) for s, v in zip(shown, values)], result(f(*values)))
+    print(name, *[s(v) for s, v in zip(shown, values)], *[s(f(*values)) for f, s in results])

@@ -1,4 +1,4 @@
--- A hold that doubles with each failure, up to a cap (gear.rs, `judge`). Definitions only.
+-- A hold that doubles with each failure, up to a cap (gear.rs, `on_ack`). Definitions only.
 use Prim.Native.Nat.{ℕ}
 use lib.IntN.{pos}
 use lib.Ieee.{Float, binary64, mul}

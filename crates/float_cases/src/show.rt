@@ -55,76 +55,48 @@ fn end() {
     io::write_all(1, b"\n");
 }
 
-pub fn narrow(x: f64) {
-    io::write_all(1, b"narrow");
+// narrow, floor, as u64, floor(x).max(1.0) as u64, milliseconds, E.
+pub fn one64(x: f64) {
+    io::write_all(1, b"one64");
     put64(x);
     put32(exp::narrow::narrowed(x));
-    end();
-}
-
-pub fn floor(x: f64) {
-    io::write_all(1, b"floor");
-    put64(x);
     put64(whole::floor64(x));
-    end();
-}
-
-pub fn cut(x: f64) {
-    io::write_all(1, b"cut");
-    put64(x);
     put(whole::cut64(x));
-    end();
-}
-
-pub fn count(x: f64) {
-    io::write_all(1, b"count");
-    put64(x);
     put(whole::count_of(x));
-    end();
-}
-
-pub fn millis(x: f64) {
-    io::write_all(1, b"millis");
-    put64(x);
     put(whole::to_millis(x));
-    end();
-}
-
-pub fn sum(a: u64, b: u64) {
-    io::write_all(1, b"sum");
-    put(a);
-    put(b);
-    put(whole::capped_add(a, b));
-    end();
-}
-
-pub fn e64(x: f64) {
-    io::write_all(1, b"e64");
-    put64(x);
     put64(exp::exp64(x));
     end();
 }
 
-pub fn e32(x: f32) {
-    io::write_all(1, b"e32");
+// abs, E.
+pub fn one32(x: f32) {
+    io::write_all(1, b"one32");
     put32(x);
+    put32(float::pick::abs32(x));
     put32(exp::exp32(x));
     end();
 }
 
-pub fn le32(x: f32, y: f32) {
-    io::write_all(1, b"le32");
-    put32(x);
-    put32(y);
-    answer(order::total_le32(x, y));
+// min, max, total_cmp not Greater.
+pub fn two64(x: f64, y: f64) {
+    io::write_all(1, b"two64");
+    put64(x);
+    put64(y);
+    put64(float::pick::min64(x, y));
+    put64(float::pick::max64(x, y));
+    answer(order::total_le64(x, y));
     end();
 }
 
-pub fn le64(x: f64, y: f64) {
-    io::write_all(1, b"le64");
-    put64(x);
-    put64(y);
-    answer(order::total_le64(x, y));
+// min, max, total_cmp not Greater, the share x after a burst of which y came through.
+pub fn two32(x: f32, y: f32) {
+    io::write_all(1, b"two32");
+    put32(x);
+    put32(y);
+    put32(float::pick::min32(x, y));
+    put32(float::pick::max32(x, y));
+    answer(order::total_le32(x, y));
+    put32(float::gear::share(x, y));
     end();
 }
 
@@ -137,51 +109,12 @@ pub fn median(a: f32, b: f32, c: f32) {
     end();
 }
 
-pub fn min_64(x: f64, y: f64) {
-    io::write_all(1, b"min_64");
-    put64(x);
-    put64(y);
-    put64(float::pick::min64(x, y));
-    end();
-}
-
-pub fn max_64(x: f64, y: f64) {
-    io::write_all(1, b"max_64");
-    put64(x);
-    put64(y);
-    put64(float::pick::max64(x, y));
-    end();
-}
-
-pub fn min_32(x: f32, y: f32) {
-    io::write_all(1, b"min_32");
-    put32(x);
-    put32(y);
-    put32(float::pick::min32(x, y));
-    end();
-}
-
-pub fn max_32(x: f32, y: f32) {
-    io::write_all(1, b"max_32");
-    put32(x);
-    put32(y);
-    put32(float::pick::max32(x, y));
-    end();
-}
-
-pub fn clamp_64(x: f64, lo: f64, hi: f64) {
-    io::write_all(1, b"clamp_64");
+pub fn clamp(x: f64, lo: f64, hi: f64) {
+    io::write_all(1, b"clamp");
     put64(x);
     put64(lo);
     put64(hi);
     put64(float::pick::clamp64(x, lo, hi));
-    end();
-}
-
-pub fn abs_32(x: f32) {
-    io::write_all(1, b"abs_32");
-    put32(x);
-    put32(float::pick::abs32(x));
     end();
 }
 
@@ -215,10 +148,10 @@ pub fn lost(got: u64, sent: u64)
     end();
 }
 
-pub fn kept(p: f32, ok: f32) {
-    io::write_all(1, b"kept");
-    put32(p);
-    put32(ok);
-    put32(float::gear::share(p, ok));
+pub fn sum(a: u64, b: u64) {
+    io::write_all(1, b"sum");
+    put(a);
+    put(b);
+    put(whole::capped_add(a, b));
     end();
 }

@@ -8,7 +8,7 @@ use Rattle.float.specs.Gear.{weight}
 use Rattle.float.specs.Pick.{minF, maxF}
 use Rattle.ranges.proofs.Intervals.{var, lit, plus, less, times, over, least, most, none, more, within}
 
--- now + hold, of judge: times and holds of a sound record
+-- now + hold, of on_ack: times and holds of a sound record
 pub hold-end : (now hold : Float) → In (w64 0) (w64 1000000000) now → In (w64 0) (w64 1000000) hold → In (w64 0) (w64 1001000000) (add binary64 now hold)
 unfolding le lt add ofInt
 hold-end now hold i j =
@@ -28,7 +28,12 @@ doubled-in burst long usual i j k =
     within ((w64 1, w64 1000) ∷ (w64 1, w64 1000) ∷ (w64 1, w64 1000) ∷ []) (burst ∷ long ∷ usual ∷ [])
     (least (times binary64 (var 0) (lit (w64 2))) (most (var 1) (var 2))) (w64 1) (w64 1000) (more i (more j (more k none))) tt
 
--- a share times 1 - 0.3, of channel_failed
+-- 1.0 - loss, of on_ack
+pub came-in : (loss : Float) → In (w32 0) (w32 1) loss → In (w32 0) (w32 1) (sub binary32 (w32 1) loss)
+unfolding le lt sub ofInt
+came-in loss i = within ((w32 0, w32 1) ∷ []) (loss ∷ []) (less binary32 (lit (w32 1)) (var 0)) (w32 0) (w32 1) (more i none) tt
+
+-- a share times 1.0 - SUCCESS_WEIGHT, of channel_failed
 pub faded-in : (p : Float) → In (w32 0) (w32 1) p → In (w32 0) (w32 1) (mul binary32 p (sub binary32 (w32 1) weight))
 unfolding le lt sub mul ofInt ofBits
 faded-in p i = within ((w32 0, w32 1) ∷ []) (p ∷ []) (times binary32 (var 0) (less binary32 (lit (w32 1)) (lit weight))) (w32 0) (w32 1) (more i none) tt
@@ -54,7 +59,7 @@ room-in aim air th margin i j k l =
     (over binary32 (less binary32 (lit (w32 0)) (plus binary32 (less binary32 (less binary32 (plus binary32 (var 0) (var 1)) (var 2)) (var 3)) (lit (fin false 1 (negsuc 0))))) (lit (fin false 1 (negsuc 1)))) (neg (w32 2802)) (w32 2798)
     (more i (more j (more k (more l none)))) tt
 
--- w * s + (1 - w) * prior, of score, for a weight as `weight-in` has it: crude, and enough to know that it is finite
+-- w * s + (1 - w) * prior, of pick_by_goodput, for a weight as `weight-in` has it: crude, and enough to know that it is finite
 pub blend-in : (w s prior : Float) → In (w32 0) (w32 1) w → In (w32 0) (w32 1) s → In (w32 0) (w32 1) prior → In (w32 0) (w32 2) (add binary32 (mul binary32 w s) (mul binary32 (sub binary32 (w32 1) w) prior))
 unfolding le lt add sub mul ofInt
 blend-in w s prior i j k =

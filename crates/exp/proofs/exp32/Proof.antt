@@ -1,3 +1,4 @@
+-- `exp::exp32` meets its contract: the three calls in a row. Assumes nothing.
 use borrow.Author.Needs.{needs}
 use Rattle.exp.proofs.exp32.Statement.{statement}
 use Rattle.exp.proofs.exp32.Tie as tie

@@ -1,3 +1,4 @@
+-- `whole::to_millis` meets its contract: the product, then `ceil_to_u64`. Assumes nothing.
 use lib.Ieee.{ofInt, ofBits}
 use borrow.Author.Needs.{needs}
 use Rattle.whole.proofs.to_millis.Statement.{statement}
