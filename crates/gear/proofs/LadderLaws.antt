@@ -1,0 +1,47 @@
+-- Each decision names a level of the ladder. Assumes nothing.
+use Prim.Native.Nat.{ℕ, _+_, _<_, _≤_, min, max}
+use native.Mathlib.Omega.{arith}
+use mathlib.Core.Bool.{Bool, true, false, cond, _&&_}
+use lib.Ieee.{Float}
+use Rattle.laws.specs.Steps.{highest, highest-lt, either}
+use Rattle.laws.specs.Span.{first-lt, last-lt, count-le}
+use Rattle.level.specs.Ladder.{longFrame}
+use Rattle.config.specs.declared.Marks.{Marks}
+use Rattle.config.specs.declared.MaybeLevel.{MaybeLevel}
+use Rattle.gear.specs.declared.record.Class.{Class}
+use Rattle.gear.specs.declared.record.Holds.{Holds}
+use Rattle.gear.specs.Ladders.{familyOk, enough, levelFor, usable, usableBelow, climbs, climbAbove, allowedBelow, nthBelow, lowestLong, stepDown}
+use Rattle.gear.specs.Memory.{holding, others}
+
+pub allowed-lt : (c : Class) (at : ℕ) → at < 17 → allowedBelow c at < 17
+unfolding allowedBelow
+allowed-lt c at h = highest-lt (familyOk c) at 0 17 (omega arith) (omega arith)
+
+pub level-for-lt : (m : Marks) (power : ℕ) (c : Class) (top : ℕ) (db : Float) → top < 17 → levelFor m power c top db < 17
+unfolding levelFor
+level-for-lt m power c top db h = highest-lt (λ l. enough m power c l db) (top + 1) 0 17 (omega arith) (omega arith)
+
+pub usable-below-lt : (h : Holds) (c : Class) (pin : MaybeLevel) (l : ℕ) (now : Float) → pin .level < 17 → l < 17 → usableBelow h c pin l now < 17
+unfolding usableBelow
+usable-below-lt h c pin l now p q = either (λ (x : ℕ). x < 17) (pin .set) (pin .level) (highest (usable h c now) (l + 1) 0) p (highest-lt (usable h c now) (l + 1) 0 17 (omega arith) (omega arith))
+
+nth-lt : (c : Class) (at : ℕ) (second : Bool) → at < 17 → nthBelow c at second < 17
+unfolding nthBelow
+nth-lt c at second h = either (λ (x : ℕ). x < 17) second (allowedBelow c (allowedBelow c at)) (allowedBelow c at) (allowed-lt c (allowedBelow c at) (allowed-lt c at h)) (allowed-lt c at h)
+
+lowest-lt : (c : Class) (at : ℕ) → at < 17 → lowestLong c at < 17
+unfolding lowestLong
+lowest-lt c at h = first-lt (λ l. familyOk c l && longFrame l) 0 at 17 (omega arith) (omega arith)
+
+pub step-down-lt : (c : Class) (at : ℕ) (second : Bool) → at < 17 → stepDown c at second < 17
+unfolding stepDown
+step-down-lt c at second h =
+    either (λ (x : ℕ). x < 17) (longFrame at) (max (nthBelow c at second) (lowestLong c at)) (nthBelow c at second) (omega (arith, nth-lt c at second h, lowest-lt c at h)) (nth-lt c at second h)
+
+pub climb-lt : (h : Holds) (c : Class) (skip : Bool) (at n : ℕ) (now : Float) → at < 17 → climbAbove h c skip at n now < 17
+unfolding climbAbove
+climb-lt h c skip at n now k = last-lt (climbs h c skip now) n at (at + 1) 17 (omega arith) k
+
+pub others-le : (h : Holds) (at : ℕ) (now : Float) → others h at now ≤ 17
+unfolding others
+others-le h at now = count-le (holding h at now) 0 17

@@ -1,0 +1,34 @@
+-- The gear's part of the sound record. Definitions only.
+use mathlib.Core.Path.{_≡_}
+use Prim.Native.Nat.{ℕ, _<_, _≤_}
+use mathlib.Core.Bool.{false, not}
+use lib.Dec.{T}
+use lib.ListN.{getD}
+use lib.Ieee.{Float, nan, binary32, fits, le}
+use Rattle.ieee.specs.Range.{In, w32, w64}
+use Rattle.gear.specs.declared.record.Gear.{Gear}
+use Rattle.gear.specs.declared.judge.Outcome.{Outcome}
+
+-- a share: a value of an f32, from 0 to 1
+abbrev pub Share : Float → Type 0
+Share x = T (fits binary32 x) × In (w32 0) (w32 1) x
+
+-- a hold's end: at most 1,001,000,000, from minus infinity on
+abbrev pub End : Float → Type 0
+End x = T (le x (w64 1001000000))
+
+pub record SoundGear (g : Gear) : Type 0 where
+  pub level : g .level < 17
+  pub target : g .target < 17
+  pub burst : In (w64 1) (w64 1000) (g .«burst_s»)
+  pub shares : (k : ℕ) → k < 17 → Share (getD (g .tries .success) k nan)
+  pub ends : (k : ℕ) → k < 17 → End (getD (g .holds .«blocked_until») k nan)
+
+-- a reply's counts and time
+pub record Counts (o : Outcome) : Type 0 where
+  pub some : o .empty ≡ false → 0 < o .sent
+  pub got : o .got ≤ o .sent
+  pub sent : o .sent ≤ 64
+
+abbrev pub Time : Float → Type 0
+Time now = In (w64 0) (w64 1000000000) now
