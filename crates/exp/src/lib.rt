@@ -8,7 +8,7 @@ ghost use Rattle.ieee.specs.Range.{In, w64};
 ghost use Rattle.exp.specs.Exp.{horner, shifted, reduced, E, E32};
 
 // Powers of two.
-pub mod power;
+mod power;
 
 // f64 to f32.
 pub mod narrow;

@@ -1,10 +1,10 @@
 -- In a profile whose numbers are in range no count of frames passes 34,001,000, so the bits of a burst fit. Assumes nothing.
-use mathlib.Core.Path.{_≡_, refl, subst}
+use mathlib.Core.Path.{_≡_, refl, sym, subst}
 use mathlib.Core.List.{[], _∷_}
 use Prim.Native.Nat.{ℕ, _+_, _*_, _/_, _≤_, _<_, _^_}
 use native.Mathlib.Nat.{div-le-of-le-mul, le-trans, mul-le-mul-right, mul-le-mul-left}
 use native.Mathlib.Omega.{arith}
-use mathlib.Core.Bool.{Bool, true, false, cond}
+use mathlib.Core.Bool.{Bool, true, false, cond, not}
 use lib.ListN.{getD}
 use lib.Dec.{T}
 use lib.Ieee.{Float, nan, inf, fin, binary64, up, down, le, lt, add, div, neg, ofInt, ofBits, toUnsigned, fits, isNan}
@@ -12,7 +12,7 @@ use lib.Ieee.Fits.{div-fits}
 use Rattle.ieee.specs.Range.{In, w64}
 use Rattle.whole.specs.Floor.{countOf}
 use Rattle.ieee.proofs.Value
-use Rattle.ieee.proofs.Value.{le→Le, lt-of-not}
+use Rattle.ieee.proofs.Value.{le→Le}
 use Rattle.ieee.proofs.Bounds.{in-no-nan}
 use Rattle.whole.proofs.FloorLaws.{count-large, count-one}
 use Rattle.ranges.proofs.Durations.{whole-in}
@@ -40,7 +40,7 @@ cut-le (fin false m e) h = omega (arith, cut (m * up e) (down e) (le→Le (fin f
 -- the count of a fraction that an f64 holds, in that range
 pub count-le : (x : Float) → T (fits binary64 x) → In (neg (w64 66000000)) (w64 largest) x → countOf x ≤ largest
 unfolding ofInt neg
-count-le x F i = go (le (w64 1) x) (λ t. count-large x F t) (λ t. count-one x (lt-of-not x (w64 1) (in-no-nan {lo = neg (w64 66000000)} {hi = w64 largest} {x = x} tt tt i) (unfold isNan in tt) (λ u. subst (λ (b : Bool). T b) t u)))
+count-le x F i = go (le (w64 1) x) (λ t. count-large x F t) (λ t. count-one x (subst (λ (b : Bool). T (not b)) (sym t) tt))
   where
     go : (b : Bool) → (T b → toUnsigned 64 x ≡ countOf x) → (b ≡ false → 1 ≡ countOf x) → countOf x ≤ largest
     go true f g = subst (λ (n : ℕ). n ≤ largest) (f tt) (cut-le x (i .high))
@@ -50,7 +50,7 @@ count-le x F i = go (le (w64 1) x) (λ t. count-large x F t) (λ t. count-one x 
 module _ (p : Profile) (k : Ranged p) (l : ℕ) (h : l < 17) where
   cue-in : (cue : Bool) → In (w64 0) (w64 10) (cond cue (p .air .«cue_s») (ofBits binary64 0))
   unfolding ofInt ofBits le lt
-  cue-in true = k .cue
+  cue-in true = k .air .cue
   cue-in false = record { low = tt; high = tt }
 
   data-in : (bits : ℕ) (cue : Bool) → bits ≤ 32768 → In (w64 0) (w64 33000) (dataS (p .air) l bits cue)
@@ -61,7 +61,7 @@ module _ (p : Profile) (k : Ranged p) (l : ℕ) (h : l < 17) where
       let c = cond cue (p .air .«cue_s») (ofBits binary64 0) in
       within ((w64 0, w64 60) ∷ (w64 0, w64 32768) ∷ (w64 1, w64 100000) ∷ (w64 0, w64 10) ∷ []) (pre ∷ w64 bits ∷ rate ∷ c ∷ [])
       (plus binary64 (plus binary64 (var 0) (over binary64 (var 1) (var 2))) (var 3)) (w64 0) (w64 33000)
-      (more (k .pre l h) (more (whole-in bits 32768 b) (more (k .rate l h) (more (cue-in cue) none)))) tt
+      (more (k .air .level l h .pre) (more (whole-in bits 32768 b) (more (k .air .level l h .rate) (more (cue-in cue) none)))) tt
 
   -- the frames of a burst
   pub frames-le : (cue : Bool) → countOf (framesOf (p .lengths .«max_burst_s») (dataS (p .air) l (slotAt (p .air) l) cue) (dataS (p .air) l (2 * slotAt (p .air) l) cue)) ≤ largest
@@ -71,7 +71,7 @@ module _ (p : Profile) (k : Ranged p) (l : ℕ) (h : l < 17) where
       let one = dataS (p .air) l slot cue in
       let two = dataS (p .air) l (2 * slot) cue in
       count-le (framesOf (p .lengths .«max_burst_s») one two) (div-fits binary64 _ _)
-      (frames-in (p .lengths .«max_burst_s») one two (k .usual) (data-in slot cue (omega (arith, k .slot l h))) (data-in (2 * slot) cue (omega (arith, k .slot l h))))
+      (frames-in (p .lengths .«max_burst_s») one two (k .lengths .usual) (data-in slot cue (omega (arith, k .air .level l h .slot .1))) (data-in (2 * slot) cue (omega (arith, k .air .level l h .slot .1))))
 
 -- and their bits
 pub bits-fit : (n slot : ℕ) → n ≤ largest → slot ≤ 16384 → n * slot < 2 ^ 64

@@ -26,9 +26,13 @@ use Rattle.goodput.specs.declared.Gear.{Gear}
 unfoldable pub priorOf : Float → Float
 priorOf room = div binary32 (w32 1) (add binary32 (w32 1) (E32 (div binary32 (neg (add binary32 room (ofBits binary32 0x3f00_0000))) (ofBits binary32 0x3e80_0000))))
 
--- `w`: e^(-(now - at) / memory), with a memory of 180 s, doubled for each of at most four failures
+-- `memory`: GOODPUT_MEMORY_S * 2f64.powi(fails.min(4))
+unfoldable pub memoryS : ℕ → Float
+memoryS fails = mul binary64 (w64 180) (power (pos (min fails 4)))
+
+-- `w`: e^(-(now - at) / memory)
 unfoldable pub remembered : Float → Float → ℕ → Float
-remembered now at fails = narrow (E (div binary64 (neg (sub binary64 now at)) (mul binary64 (w64 180) (power (pos (min fails 4))))))
+remembered now at fails = narrow (E (div binary64 (neg (sub binary64 now at)) (memoryS fails)))
 
 -- `p`: w * s + (1 - w) * prior where the level was tried, else the prior
 unfoldable pub chanceOf : Tries → ℕ → Float → Float → Float

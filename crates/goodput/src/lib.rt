@@ -11,7 +11,7 @@ ghost use lib.ListN.{getD};
 ghost use lib.Ieee.{inf};
 ghost use Rattle.limits.specs.Ranged.{Ranged};
 ghost use Rattle.goodput.specs.Rates.{framesOf, levelRate, payloadBits};
-ghost use Rattle.goodput.specs.Goodput.{priorOf, remembered, chanceOf, marksOf, cueFor, roomOf, scoreOf, barOf, worthOf, inReach, candidate, over, noBest, weighed, pickByGoodput};
+ghost use Rattle.goodput.specs.Goodput.{priorOf, memoryS, remembered, chanceOf, marksOf, cueFor, roomOf, scoreOf, barOf, worthOf, inReach, candidate, over, noBest, weighed, pickByGoodput};
 
 // The gear record.
 pub struct Gear {
@@ -77,18 +77,28 @@ fn prior(room: f32) -> f32
     1.0 / (1.0 + exp::exp32(-(room + 0.5) / 0.25))
 }
 
-fn at_most_four(n: u8) -> u64
-    ensures { λ r. ⌜ r ≡ min n 4 ⌝ }
+// 180 s, doubled for each of at most four failures.
+fn memory_s(fails: u8) -> f64
+    ensures { λ r. ⌜ r ≡ memoryS fails ⌝ }
 {
-    if n < 4 { n as u64 } else { 4 }
+    if fails == 0 {
+        180.0
+    } else if fails == 1 {
+        360.0
+    } else if fails == 2 {
+        720.0
+    } else if fails == 3 {
+        1440.0
+    } else {
+        2880.0
+    }
 }
 
-// How much an observed share still counts: each whole-burst loss, up to four, doubles how long it is remembered.
+// How much an observed share still counts.
 fn remembered(now: f64, at: f64, fails: u8) -> f32
     ensures { λ r. ⌜ r ≡ remembered now at fails ⌝ }
 {
-    let memory = 180.0 * exp::power::power_at(at_most_four(fails) + 1023);
-    exp::narrow::narrowed(exp::exp64(-(now - at) / memory))
+    exp::narrow::narrowed(exp::exp64(-(now - at) / memory_s(fails)))
 }
 
 // A level's chance: what was observed, blended with the prior.

@@ -1,7 +1,8 @@
 -- Each decision names a level of the ladder. Assumes nothing.
-use Prim.Native.Nat.{ℕ, _+_, _<_, max}
+use mathlib.Core.Path.{_≡_, refl}
+use Prim.Native.Nat.{ℕ, _+_, _<_, _≤_, max}
 use native.Mathlib.Omega.{arith}
-use mathlib.Core.Bool.{Bool, _&&_}
+use mathlib.Core.Bool.{Bool, true, false, cond, _&&_}
 use lib.Ieee.{Float}
 use Rattle.laws.specs.Steps.{highest}
 use Rattle.laws.proofs.Steps.{highest-lt}
@@ -22,9 +23,13 @@ pub level-for-lt : (m : Marks) (power : ℕ) (c : ChanClass) (top : ℕ) (db : F
 unfolding levelFor
 level-for-lt m power c top db h = highest-lt (λ l. enough m power c l db) (top + 1) 0 17 (omega arith) (omega arith)
 
-pub usable-below-lt : (h : Holds) (c : ChanClass) (pin : MaybeLevel) (l : ℕ) (now : Float) → pin .level < 17 → l < 17 → usableBelow h c pin l now < 17
+pub usable-below-lt : (h : Holds) (c : ChanClass) (pin : MaybeLevel) (l : ℕ) (now : Float) → (pin .set ≡ true → pin .level ≤ 16) → l < 17 → usableBelow h c pin l now < 17
 unfolding usableBelow
-usable-below-lt h c pin l now p q = either (λ (x : ℕ). x < 17) (pin .set) (pin .level) (highest (usable h c now) (l + 1) 0) p (highest-lt (usable h c now) (l + 1) 0 17 (omega arith) (omega arith))
+usable-below-lt h c pin l now p q = go (pin .set) p
+  where
+    go : (b : Bool) → (b ≡ true → pin .level ≤ 16) → cond b (pin .level) (highest (usable h c now) (l + 1) 0) < 17
+    go true f = omega (arith, f refl)
+    go false f = highest-lt (usable h c now) (l + 1) 0 17 (omega arith) (omega arith)
 
 nth-lt : (c : ChanClass) (at : ℕ) (second : Bool) → at < 17 → nthBelow c at second < 17
 unfolding nthBelow

@@ -9,11 +9,14 @@ use Rattle.goodput.proofs.level_rate.Tie as tie
 slot-requires : tie.Need-slot-requires
 slot-requires c κs = search needs
 
+cast-slot : tie.Need-cast-slot
+cast-slot c = omega (arith, c .before .pre .1 .air .level (c .before .args .l) (c .before .pre .0) .slot .1, c .slot .ensures)
+
 data-s-requires : tie.Need-data-s-requires
 data-s-requires c κs = search needs
 
 mul-data-s : tie.Need-mul-data-s
-mul-data-s c = let s = c .before .before in omega (arith, s .pre .1 .slot (s .args .l) (s .pre .0), c .before .slot .ensures)
+mul-data-s c = let s = c .before .before in omega (arith, s .pre .1 .air .level (s .args .l) (s .pre .0) .slot .1, c .before .slot .ensures)
 
 data-s-requires-2 : tie.Need-data-s-requires-2
 data-s-requires-2 c κs = search needs
@@ -30,7 +33,7 @@ mul-data-s-2 c =
     record {
       fits =
           rw (c .count-of .ensures, c .before .frames-of .ensures, c .before .before .data-s2 .ensures, c .before .before .before .data-s .ensures, c .before .before .before .before .slot .ensures)
-          (bits-fit _ _ (frames-le (s .args .cfg) (s .pre .1) (s .args .l) (s .pre .0) (s .args .cue)) (s .pre .1 .slot (s .args .l) (s .pre .0)))
+          (bits-fit _ _ (frames-le (s .args .cfg) (s .pre .1) (s .args .l) (s .pre .0) (s .args .cue)) (s .pre .1 .air .level (s .args .l) (s .pre .0) .slot .1))
     }
 
 data-s-requires-3 : tie.Need-data-s-requires-3
@@ -60,4 +63,4 @@ returns c =
     a .data-s3 .ensures, a .before .count-of .ensures, a .before .before .frames-of .ensures, a .before .before .before .data-s2 .ensures, a .before .before .before .before .data-s .ensures, b .slot .ensures)
 
 pub level-rate-spec : {M : Type 1} → statement M
-level-rate-spec = tie.close (tie.spec slot-requires data-s-requires mul-data-s data-s-requires-2 frames-of-requires count-of-requires mul-data-s-2 data-s-requires-3 payload-bits-requires nearest-u64-to-f64-requires floor64-requires max64-requires max64-requires-2 returns)
+level-rate-spec = tie.close (tie.spec slot-requires cast-slot data-s-requires mul-data-s data-s-requires-2 frames-of-requires count-of-requires mul-data-s-2 data-s-requires-3 payload-bits-requires nearest-u64-to-f64-requires floor64-requires max64-requires max64-requires-2 returns)

@@ -1,18 +1,11 @@
 use Rattle.goodput.specs.Goodput.{remembered}
 use lib.Ieee.{ofInt, ofBits}
-use Rattle.ieee.proofs.Power.{power-whole}
 use borrow.Author.Needs.{needs}
 use Rattle.goodput.proofs.remembered.Statement.{statement}
 use Rattle.goodput.proofs.remembered.Tie as tie
 
-at-most-four-requires : tie.Need-at-most-four-requires
-at-most-four-requires c κs = search needs
-
-add-power-at : tie.Need-add-power-at
-add-power-at c = search needs
-
-power-at-requires : tie.Need-power-at-requires
-power-at-requires c κs = search needs
+memory-s-requires : tie.Need-memory-s-requires
+memory-s-requires c κs = search needs
 
 exp64-requires : tie.Need-exp64-requires
 exp64-requires c κs = search needs
@@ -22,7 +15,7 @@ narrowed-requires c κs = search needs
 
 returns : tie.Need-returns
 unfolding remembered ofInt ofBits
-returns c = simp (c .narrowed .ensures, c .before .exp64 .ensures, c .before .before .power-at .ensures, power-whole, c .before .before .before .at-most-four .ensures)
+returns c = simp (c .narrowed .ensures, c .before .exp64 .ensures, c .before .before .memory-s .ensures)
 
 pub remembered-spec : {M : Type 1} → statement M
-remembered-spec = tie.close (tie.spec at-most-four-requires add-power-at power-at-requires exp64-requires narrowed-requires returns)
+remembered-spec = tie.close (tie.spec memory-s-requires exp64-requires narrowed-requires returns)
