@@ -3,12 +3,13 @@ use mathlib.Core.Path.{_≡_, refl}
 use Prim.Native.Nat.{_<_}
 use lib.Ieee.{Float, lt}
 use Prim.Native.Nat.{ℕ}
-use Rattle.laws.specs.Steps.{either}
+use Rattle.laws.specs.Steps.{steps, highest}
+use Rattle.laws.proofs.Picks.{either}
 use Rattle.config.specs.declared.Profile.{Profile}
 use Rattle.limits.specs.Ranged.{Ranged}
-use Rattle.gear.specs.declared.record.Gear.{Gear}
+use Rattle.goodput.specs.declared.Gear.{Gear}
 use Rattle.gear.specs.Judging.{heavy, whole, aimed, held}
-use Rattle.gear.proofs.LadderLaws.{level-for-lt}
+use Rattle.ladder.proofs.Laws.{level-for-lt}
 
 pub aimed-level : (p : Profile) (g : Gear) (snr : Float) → aimed p g snr .level ≡ g .level
 unfolding aimed

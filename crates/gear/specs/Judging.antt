@@ -7,19 +7,19 @@ use lib.Ieee.{Float, nan, binary32, binary64, add, sub, mul, le, lt, eq, ofBits}
 use Rattle.ieee.specs.Range.{w32}
 use Rattle.float.specs.Gear.{lossOf}
 use Rattle.exp.specs.Hold.{holdOf}
-use Rattle.laws.specs.Span.{upto, every}
+use Rattle.laws.specs.Span.{from, upto, fold, every, first, count, lastOf}
 use Rattle.level.specs.Ladder.{waveRank, isStep}
 use Rattle.config.specs.declared.Profile.{Profile}
-use Rattle.gear.specs.declared.record.Class.{Class}
-use Rattle.gear.specs.declared.record.Tries.{Tries}
-use Rattle.gear.specs.declared.record.Gear.{Gear}
-use Rattle.gear.specs.declared.judge.Outcome.{Outcome}
-use Rattle.gear.specs.Setters.{some, withLevel, withBurst, withAim, withTries, withHolds}
-use Rattle.gear.specs.Ladders.{airDb, heeded, familyOk, levelFor, usableBelow, climbAbove, stepDown}
-use Rattle.gear.specs.Rates.{levelRate}
-use Rattle.gear.specs.Goodput.{marksOf, cueFor, pickByGoodput}
-use Rattle.gear.specs.Bursts.{adapted}
-use Rattle.gear.specs.Memory.{pushed, aimOf, noted, failed, cleared, channelFailed, others, heldUntil}
+use Rattle.frame.specs.declared.ChanClass.{ChanClass}
+use Rattle.memory.specs.declared.Tries.{Tries}
+use Rattle.goodput.specs.declared.Gear.{Gear}
+use Rattle.gear.specs.declared.Outcome.{Outcome}
+use Rattle.goodput.specs.Setters.{some, withLevel, withBurst, withAim, withTries, withHolds}
+use Rattle.ladder.specs.Ladders.{airDb, heeded, familyOk, levelFor, usableBelow, climbAbove, stepDown}
+use Rattle.goodput.specs.Rates.{levelRate}
+use Rattle.goodput.specs.Goodput.{marksOf, cueFor, pickByGoodput}
+use Rattle.bursts.specs.Bursts.{adapted}
+use Rattle.memory.specs.Memory.{pushed, aimOf, noted, failed, cleared, channelFailed, others, heldUntil}
 
 -- 0.3, 0.99 and CHANNEL_FAIL_DB
 abbrev pub heavy : Float
@@ -31,7 +31,7 @@ whole = ofBits binary32 0x3f7d_70a4
 abbrev pub channelFail : Float
 channelFail = ofBits binary32 0x4080_0000
 
-abbrev pub classOf : Profile → Gear → Class
+abbrev pub classOf : Profile → Gear → ChanClass
 classOf p g = heeded (p .«pick_family») (g .«peer_class»)
 
 -- the report as a steady carrier would read it is kept, aimed by, and gives the target
@@ -118,9 +118,14 @@ judged p at loss snr now g =
     let h = withTries g (noted (g .tries) at (sub binary32 (w32 1) loss) now) in
     adapted p at loss snr (cond (p .goodput) (byGoodput p at loss snr now h) (byLadder p at loss snr now h))
 
+-- `got`: a reply with another number is for an older burst, and nothing of the last one arrived
+unfoldable pub arrived : Outcome → ℕ
+arrived o = cond (o .matched) (o .got) 0
+
+-- `on_ack`
 unfoldable pub onAck : Profile → Gear → Outcome → Float → Float → Gear
 onAck p g o snr now =
     let h = aimed p g snr in
     cond (o .empty) h
     (cond (not (o .fresh) && o .matched) (incrementsOnly p h now)
-    (judged p (g .level) (lossOf (o .got) (o .sent)) snr now h))
+    (judged p (g .level) (lossOf (arrived o) (o .sent)) snr now h))

@@ -6,8 +6,8 @@ use lib.Dec.{T}
 use lib.ListN.{getD}
 use lib.Ieee.{Float, nan, binary32, fits, le}
 use Rattle.ieee.specs.Range.{In, w32, w64}
-use Rattle.gear.specs.declared.record.Gear.{Gear}
-use Rattle.gear.specs.declared.judge.Outcome.{Outcome}
+use Rattle.goodput.specs.declared.Gear.{Gear}
+use Rattle.gear.specs.declared.Outcome.{Outcome}
 
 -- a share: a value of an f32, from 0 to 1
 abbrev pub Share : Float → Type 0
