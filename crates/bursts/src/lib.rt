@@ -1,5 +1,7 @@
 // The length of bursts (gear.rs).
-use config::{Marks, MaybeDb, Profile};
+use config::Marks;
+use config::MaybeDb;
+use config::Profile;
 use goodput::Gear;
 ghost use mathlib.Core.Path.{_≡_};
 ghost use mathlib.Core.Bool.{false};

@@ -1,6 +1,7 @@
 -- What a transition leaves of the level and the target. Assumes nothing.
 use mathlib.Core.Path.{_≡_, refl}
 use Prim.Native.Nat.{_<_}
+use native.Mathlib.Omega.{arith}
 use lib.Ieee.{Float, lt}
 use Prim.Native.Nat.{ℕ}
 use Rattle.laws.specs.Steps.{steps, highest}
@@ -17,7 +18,7 @@ aimed-level p g snr = refl
 
 pub aimed-target : (p : Profile) (g : Gear) (snr : Float) → Ranged p → aimed p g snr .target < 17
 unfolding aimed
-aimed-target p g snr k = level-for-lt _ _ _ _ _ (k .top)
+aimed-target p g snr k = level-for-lt _ _ _ _ _ (omega (arith, k .top))
 
 pub held-target : (p : Profile) (at : ℕ) (loss snr now : Float) (g : Gear) → held p at loss snr now g .target ≡ g .target
 unfolding held

@@ -1,9 +1,15 @@
 // Gear::Goodput of gear.rs: the gear record, what a level is worth, and the level expected to move the most.
-use config::{Marks, MaybeDb, Profile};
+use config::Marks;
+use config::MaybeDb;
+use config::Profile;
 use frame::ChanClass;
-use ladder::{air_db, family_ok, heeded, Holds};
+use ladder::Holds;
+use ladder::air_db;
+use ladder::family_ok;
+use ladder::heeded;
 use level::FLOOR;
-use memory::{Reports, Tries};
+use memory::Reports;
+use memory::Tries;
 ghost use mathlib.Core.Path.{_≡_};
 ghost use mathlib.Core.Bool.{false};
 ghost use Prim.Native.Nat.{_+_, _*_, _<_, _≤_, min};
@@ -187,7 +193,12 @@ impl Gear {
         requires { ⌜ l < 17 ⌝ ∗ ⌜ Ranged cfg ⌝ }
         ensures { λ r. ⌜ r ≡ scoreOf cfg self aim now l ⌝ }
     {
-        let chance = chance(self.tries, l, prior(room(marks(cfg), cfg.power, l, aim)), now);
+        let chance = chance(
+            self.tries,
+            l,
+            prior(room(marks(cfg), cfg.power, l, aim)),
+            now,
+        );
         std::num::f32_to_f64_with_nan(chance) * level_rate(cfg, l, self.cue_for(cfg, l))
     }
 
@@ -232,7 +243,12 @@ impl Gear {
             best = self.weigh(cfg, aim, now, best, l);
         }
         if best.found {
-            return self.holds.usable_below(heeded(self.peer_class, cfg.pick_family), cfg.pin_level, best.level, infinity());
+            return self.holds.usable_below(
+                heeded(self.peer_class, cfg.pick_family),
+                cfg.pin_level,
+                best.level,
+                infinity(),
+            );
         }
         FLOOR
     }

@@ -2,7 +2,8 @@
 ghost use mathlib.Core.Path.{_≡_};
 ghost use Prim.Native.Nat.{_+_, _<_, _≤_, min, max};
 ghost use Rattle.ladder.specs.Ladders.{airDb, heeded, familyOk, enough, levelFor, passes, usable, usableBelow, climbs, climbAbove, allowedBelow, lowestLong, nthBelow, stepDown};
-use config::{Marks, MaybeLevel};
+use config::Marks;
+use config::MaybeLevel;
 use frame::ChanClass;
 use level::FLOOR;
 
@@ -200,7 +201,11 @@ pub fn nth_below(class: ChanClass, at: usize, second: bool) -> usize
     ensures { λ r. ⌜ r ≡ nthBelow class at second ⌝ }
 {
     let one = allowed_below(class, at);
-    if second { allowed_below(class, one) } else { one }
+    if second {
+        allowed_below(class, one)
+    } else {
+        one
+    }
 }
 
 // One level below `at`, or two: from a long-frame level no further than the lowest allowed one with long frames.

@@ -31,7 +31,7 @@ noted t k ok now =
       tried = set (t .tried) k true;
       success = set (t .success) k (shareAfter (getD (t .tried) k false) (getD (t .success) k nan) ok);
       «success_at» = set (t .«success_at») k now;
-      fails = t .fails
+      fails = t .fails;
     }
 
 -- fails[k].saturating_add(1), and 0
@@ -56,7 +56,7 @@ marked at now t k =
       tried = set (t .tried) k true;
       success = set (t .success) k (faded (getD (t .tried) k false) (getD (t .success) k nan));
       «success_at» = set (t .«success_at») k now;
-      fails = set (t .fails) k (min (getD (t .fails) k 0 + 1) 255)
+      fails = set (t .fails) k (min (getD (t .fails) k 0 + 1) 255);
     })
     t
 

@@ -173,7 +173,10 @@ fn holding(h: Holds, at: usize, now: f64, k: usize) -> bool
     requires { ⌜ k < 17 ⌝ ∗ ⌜ at < 17 ⌝ }
     ensures { λ r. ⌜ r ≡ holding h at now k ⌝ }
 {
-    (k != at) & (now < h.blocked_until[k]) & !h.hold_all[k] & (level::wave_rank(k) != level::wave_rank(at))
+    (k != at)
+        & (now < h.blocked_until[k])
+        & !h.hold_all[k]
+        & (level::wave_rank(k) != level::wave_rank(at))
 }
 
 // How many of them there are.

@@ -1,5 +1,5 @@
 use Rattle.bursts.specs.Bursts.{nextEntry}
-use Rattle.laws.specs.Span.{from, upto, fold, every, first, count, lastOf}
+use Rattle.laws.specs.Span.{upto, fold}
 use Rattle.laws.proofs.Span.{fold-turn, fold-done}
 use Rattle.config.specs.Entries.{entryAt}
 use Rattle.float.specs.Pick.{minF}

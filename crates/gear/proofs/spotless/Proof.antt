@@ -1,5 +1,5 @@
 use Rattle.gear.specs.Judging.{spotless}
-use Rattle.laws.specs.Span.{from, upto, fold, every, first, count, lastOf}
+use Rattle.laws.specs.Span.{upto, every}
 use Rattle.laws.proofs.Span.{every-pass, every-fail, every-end}
 use borrow.Author.Tests.{eq-eqb, ne-eqb}
 use lib.ListN.{getD}

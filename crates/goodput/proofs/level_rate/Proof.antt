@@ -33,7 +33,7 @@ mul-data-s-2 c =
     record {
       fits =
           rw (c .count-of .ensures, c .before .frames-of .ensures, c .before .before .data-s2 .ensures, c .before .before .before .data-s .ensures, c .before .before .before .before .slot .ensures)
-          (bits-fit _ _ (frames-le (s .args .cfg) (s .pre .1) (s .args .l) (s .pre .0) (s .args .cue)) (s .pre .1 .air .level (s .args .l) (s .pre .0) .slot .1))
+          (bits-fit _ _ (frames-le (s .args .cfg) (s .pre .1) (s .args .l) (s .pre .0) (s .args .cue)) (s .pre .1 .air .level (s .args .l) (s .pre .0) .slot .1));
     }
 
 data-s-requires-3 : tie.Need-data-s-requires-3
@@ -59,8 +59,19 @@ unfolding levelRate ofInt ofBits
 returns c =
     let a = c .before .before .before .before .before in
     let b = a .before .before .before .before .before in
-    simp (c .max642 .ensures, c .before .max64 .ensures, c .before .before .floor64 .ensures, c .before .before .before .nearest-u64-to-f64 .ensures, c .before .before .before .before .payload-bits .ensures,
-    a .data-s3 .ensures, a .before .count-of .ensures, a .before .before .frames-of .ensures, a .before .before .before .data-s2 .ensures, a .before .before .before .before .data-s .ensures, b .slot .ensures)
+    simp (
+      c .max642 .ensures,
+      c .before .max64 .ensures,
+      c .before .before .floor64 .ensures,
+      c .before .before .before .nearest-u64-to-f64 .ensures,
+      c .before .before .before .before .payload-bits .ensures,
+      a .data-s3 .ensures,
+      a .before .count-of .ensures,
+      a .before .before .frames-of .ensures,
+      a .before .before .before .data-s2 .ensures,
+      a .before .before .before .before .data-s .ensures,
+      b .slot .ensures,
+    )
 
 pub level-rate-spec : {M : Type 1} → statement M
 level-rate-spec = tie.close (tie.spec slot-requires cast-slot data-s-requires mul-data-s data-s-requires-2 frames-of-requires count-of-requires mul-data-s-2 data-s-requires-3 payload-bits-requires nearest-u64-to-f64-requires floor64-requires max64-requires max64-requires-2 returns)

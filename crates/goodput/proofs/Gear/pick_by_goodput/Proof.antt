@@ -31,7 +31,7 @@ loop-less : tie.Need-loop-less Inv-loop μ-loop
 loop-less c = search needs
 
 loop-again : tie.Need-loop-again Inv-loop μ-loop
-loop-again c = 
+loop-again c =
     let s = c .before .before .before .before in
     let i = c .before .before .loop in
     (fold-turn _ _ _ _ _ _ (i .inv .0) (omega arith) (c .weigh .ensures), omega arith, i .inv .2, rw (c .weigh .ensures) (weighed-lt _ _ _ _ _ _ (i .inv .3) (omega (arith, s .pre .1 .top))))
@@ -47,13 +47,13 @@ usable-below-requires c κs = c .before .before .before .before .loop .inv .3
 
 returns : tie.Need-returns Inv-loop μ-loop
 unfolding pickByGoodput
-returns c = 
+returns c =
     let e = fold-done _ _ _ _ _ (c .before .before .before .before .before .loop .inv .0) (omega arith) in
     simp (e, c .before .before .before .if1 .taken, c .usable-below .ensures, c .before .infinity .ensures, c .before .before .heeded .ensures)
 
 returns-2 : tie.Need-returns-2 Inv-loop μ-loop
 unfolding pickByGoodput
-returns-2 c = 
+returns-2 c =
     let e = fold-done _ _ _ _ _ (c .before .before .loop .inv .0) (omega arith) in
     simp (e, c .if1 .left)
 
