@@ -35,7 +35,7 @@ pub struct Gear {
 }
 
 // A level's payload bits a frame.
-pub fn payload_bits(cfg: Profile, l: usize) -> u64
+fn payload_bits(cfg: Profile, l: usize) -> u64
     requires { ⌜ l < 17 ⌝ }
     ensures { λ r. ⌜ r ≡ payloadBits cfg l ⌝ }
 {

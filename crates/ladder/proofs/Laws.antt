@@ -23,6 +23,20 @@ pub level-for-lt : (m : Marks) (power : ℕ) (c : ChanClass) (top : ℕ) (db : F
 unfolding levelFor
 level-for-lt m power c top db h = highest-lt (λ l. enough m power c l db) (top + 1) 0 17 (omega arith) (omega arith)
 
+-- and none above the top
+pub level-for-le : (m : Marks) (power : ℕ) (c : ChanClass) (top : ℕ) (db : Float) → levelFor m power c top db ≤ top
+unfolding levelFor
+level-for-le m power c top db = let h = highest-lt (λ l. enough m power c l db) (top + 1) 0 (top + 1) (omega arith) (omega arith) in omega (arith, h)
+
+-- `usable_below` names the pinned level, and without one a level at or below l
+pub usable-below-pin : (h : Holds) (c : ChanClass) (pin : MaybeLevel) (l : ℕ) (now : Float) → pin .set ≡ true → usableBelow h c pin l now ≡ pin .level
+unfolding usableBelow
+usable-below-pin h c pin l now e = rw e refl
+
+pub usable-below-le : (h : Holds) (c : ChanClass) (pin : MaybeLevel) (l : ℕ) (now : Float) → pin .set ≡ false → usableBelow h c pin l now ≤ l
+unfolding usableBelow
+usable-below-le h c pin l now e = let k = highest-lt (usable h c now) (l + 1) 0 (l + 1) (omega arith) (omega arith) in rw e (omega (arith, k))
+
 pub usable-below-lt : (h : Holds) (c : ChanClass) (pin : MaybeLevel) (l : ℕ) (now : Float) → (pin .set ≡ true → pin .level ≤ 16) → l < 17 → usableBelow h c pin l now < 17
 unfolding usableBelow
 usable-below-lt h c pin l now p q = go (pin .set) p

@@ -57,7 +57,7 @@ pub fn family_ok(class: ChanClass, l: usize) -> bool
 }
 
 // Whether an SNR, moved to what level l would see, is enough for it.
-pub fn enough(marks: Marks, power: u8, class: ChanClass, l: usize, snr_db: f32) -> bool
+fn enough(marks: Marks, power: u8, class: ChanClass, l: usize, snr_db: f32) -> bool
     requires { ⌜ l < 17 ⌝ }
     ensures { λ r. ⌜ r ≡ enough marks power class l «snr_db» ⌝ }
 {
@@ -81,7 +81,7 @@ pub fn level_for(marks: Marks, power: u8, class: ChanClass, top: usize, snr_db: 
 
 impl Holds {
     // Level k does not keep level l from being used: its hold is over, or it failed by the channel and l's guard is longer.
-    pub fn passes(self, k: usize, l: usize, now: f64) -> bool
+    fn passes(self, k: usize, l: usize, now: f64) -> bool
         requires { ⌜ k < 17 ⌝ ∗ ⌜ l < 17 ⌝ }
         ensures { λ r. ⌜ r ≡ passes self l now k ⌝ }
     {
@@ -90,7 +90,7 @@ impl Holds {
     }
 
     // Whether level l may be used at `now`.
-    pub fn usable(self, class: ChanClass, l: usize, now: f64) -> bool
+    fn usable(self, class: ChanClass, l: usize, now: f64) -> bool
         requires { ⌜ l < 17 ⌝ }
         ensures { λ r. ⌜ r ≡ usable self class now l ⌝ }
     {
@@ -124,7 +124,7 @@ impl Holds {
     }
 
     // A level that climb_above may name: usable, and no slow step where these are left out.
-    pub fn climbs(self, class: ChanClass, skip: bool, now: f64, k: usize) -> bool
+    fn climbs(self, class: ChanClass, skip: bool, now: f64, k: usize) -> bool
         requires { ⌜ k < 17 ⌝ }
         ensures { λ r. ⌜ r ≡ climbs self class skip now k ⌝ }
     {
@@ -156,7 +156,7 @@ impl Holds {
 }
 
 // The highest level below `at` whose waveform the class allows, or the floor.
-pub fn allowed_below(class: ChanClass, at: usize) -> usize
+fn allowed_below(class: ChanClass, at: usize) -> usize
     requires { ⌜ at < 17 ⌝ }
     ensures { λ r. ⌜ r ≡ allowedBelow class at ⌝ }
 {
@@ -171,7 +171,7 @@ pub fn allowed_below(class: ChanClass, at: usize) -> usize
 }
 
 // The lowest level below `at` that the class allows and that has long frames, or the floor.
-pub fn lowest_long(class: ChanClass, at: usize) -> usize
+fn lowest_long(class: ChanClass, at: usize) -> usize
     requires { ⌜ at < 17 ⌝ }
     ensures { λ r. ⌜ r ≡ lowestLong class at ⌝ }
 {
@@ -196,7 +196,7 @@ pub fn smaller(a: usize, b: usize) -> usize
 }
 
 // The first allowed level below `at`, or the second.
-pub fn nth_below(class: ChanClass, at: usize, second: bool) -> usize
+fn nth_below(class: ChanClass, at: usize, second: bool) -> usize
     requires { ⌜ at < 17 ⌝ }
     ensures { λ r. ⌜ r ≡ nthBelow class at second ⌝ }
 {

@@ -24,7 +24,7 @@ pub struct Reports {
 }
 
 // Saturating: a count stops at 255.
-pub fn bump(n: u8) -> u8
+fn bump(n: u8) -> u8
     ensures { λ r. ⌜ r ≡ min (n + 1) 255 ⌝ }
 {
     if n < 255 { n + 1 } else { 255 }
@@ -123,7 +123,7 @@ impl Tries {
     }
 
     // The level's part of channel_failed: a share of 0.7 of what it was, or 0, and one failure more.
-    pub fn mark(mut self, k: usize, at: usize, now: f64) -> Tries
+    fn mark(mut self, k: usize, at: usize, now: f64) -> Tries
         requires { ⌜ k < 17 ⌝ ∗ ⌜ at < 17 ⌝ }
         ensures { λ r. ⌜ r ≡ marked at now self k ⌝ }
     {
@@ -159,7 +159,7 @@ fn faded(tried: bool, p: f32) -> f32
 }
 
 // Another OFDM level in the same waveform, or a faster one whose guard is no longer.
-pub fn hits(k: usize, at: usize) -> bool
+fn hits(k: usize, at: usize) -> bool
     requires { ⌜ k < 17 ⌝ ∗ ⌜ at < 17 ⌝ }
     ensures { λ r. ⌜ r ≡ hits at k ⌝ }
 {

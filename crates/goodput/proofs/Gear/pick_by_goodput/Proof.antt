@@ -34,7 +34,7 @@ loop-again : tie.Need-loop-again Inv-loop μ-loop
 loop-again c =
     let s = c .before .before .before .before in
     let i = c .before .before .loop in
-    (fold-turn _ _ _ _ _ _ (i .inv .0) (omega arith) (c .weigh .ensures), omega arith, i .inv .2, rw (c .weigh .ensures) (weighed-lt _ _ _ _ _ _ (i .inv .3) (omega (arith, s .pre .1 .top))))
+    (fold-turn _ _ _ _ _ _ (i .inv .0) (omega arith) (c .weigh .ensures), omega arith, i .inv .2, rw (c .weigh .ensures) (weighed-lt 17 _ _ _ _ _ _ (i .inv .3) (omega (arith, s .pre .1 .top))))
 
 heeded-requires : tie.Need-heeded-requires Inv-loop μ-loop
 heeded-requires c κs = search needs
