@@ -222,6 +222,10 @@ module _ (p : Profile) (k : Ranged p) where
           (judged-sound (g .level) (lossOf (arrived o) (o .sent)) snr now (aimed p g snr) (s .level) (loss-in (arrived o) (o .sent) (arrived-le o n) (f refl) (n .sent)) r t h)
 
   -- so does a connect answer
+  start-lt : (x : Gear) (aim now : Float) → startLevel p x aim now < 17
+  unfolding startLevel
+  start-lt x aim now = either (λ (l : ℕ). l < 17) (p .«start_margin_db» .set) _ 0 (capped-lt p x _ now k) (omega arith)
+
   pub connected-sound : (g : Gear) (class : ChanClass) (cue : Bool) (snr now : Float) → Report snr → SoundGear g → SoundGear (connected p g class cue snr now)
   unfolding connected
   connected-sound g class cue snr now i s =
@@ -238,10 +242,6 @@ module _ (p : Profile) (k : Ranged p) where
         shares = s .shares;
         ends = s .ends
       }
-    where
-      start-lt : (x : Gear) (aim now : Float) → startLevel p x aim now < 17
-      unfolding startLevel
-      start-lt x aim now = either (λ (l : ℕ). l < 17) (p .«start_margin_db» .set) _ 0 (capped-lt p x _ now k) (omega arith)
 
   -- and a turn
   turned-sound : (g : Gear) (w : ℕ) → SoundGear g → SoundGear (turned p g w)
