@@ -5,14 +5,14 @@ use Prim.Native.Nat.{ℕ, _≤_, min}
 use native.Mathlib.Omega.{arith}
 use lib.Dec.{eqb}
 use lib.Ieee.{Float, lt}
-use Rattle.float.specs.Gear.{lossOf}
+use Rattle.float.specs.Gear.{lossOf, weight}
 use Rattle.laws.proofs.Picks.{either}
 use Rattle.config.specs.declared.Profile.{Profile}
 use Rattle.frame.specs.declared.ChanClass.{ChanClass}
 use Rattle.goodput.specs.declared.Gear.{Gear}
 use Rattle.gear.specs.declared.Outcome.{Outcome}
 use Rattle.bursts.specs.Bursts.{adapted}
-use Rattle.gear.specs.Judging.{heavy, classOf, aimed, capped, incrementsOnly, byGoodput, worthKeeping, held, nextAllowed, byLadder, judged, arrived, onAck}
+use Rattle.gear.specs.Judging.{classOf, aimed, capped, incrementsOnly, byGoodput, worthKeeping, held, nextAllowed, byLadder, judged, arrived, onAck}
 use Rattle.gear.specs.Meeting.{startLevel, connected, turned, missed, onTurn}
 use Rattle.ladder.proofs.Laws.{usable-below-pin, usable-below-le}
 use Rattle.goodput.proofs.GoodputLaws.{pick-le}
@@ -42,7 +42,7 @@ module _ (p : Profile) (e : p .«pin_level» .set ≡ false) where
   unfolding byLadder
   ladder-low at loss snr now g =
       let x = held p at loss snr now g in
-      either Low (lt heavy loss && worthKeeping p g at now) _ _ (capped-le g at now) (capped-le x (nextAllowed p x at loss now) now)
+      either Low (lt weight loss && worthKeeping p g at now) _ _ (capped-le g at now) (capped-le x (nextAllowed p x at loss now) now)
 
   judged-low : (at : ℕ) (loss snr now : Float) (g : Gear) → Low (judged p at loss snr now g)
   unfolding judged adapted

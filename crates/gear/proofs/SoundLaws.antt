@@ -11,7 +11,7 @@ use lib.ListN.{getD, set}
 use lib.Ieee.{Float, nan, binary32, binary64, add, sub, le, lt, eq, ofInt, neg}
 use lib.Ieee.Fits.{add-fits, sub-fits, mul-fits, ofInt-fits}
 use Rattle.ieee.specs.Range.{In, w32, w64}
-use Rattle.float.specs.Gear.{lossOf, weight}
+use Rattle.float.specs.Gear.{lossOf, weight, most}
 use Rattle.float.specs.Pick.{maxF}
 use Rattle.order.specs.Total.{medianF}
 use Rattle.ieee.proofs.Value
@@ -38,7 +38,7 @@ use Rattle.memory.specs.Memory.{pushed, aimOf, shareAfter, noted, failed, clear
 use Rattle.goodput.specs.Setters.{some, withLevel, withBurst, withTries, withHolds}
 use Rattle.goodput.specs.Goodput.{marksOf}
 use Rattle.bursts.specs.Bursts.{adapted}
-use Rattle.gear.specs.Judging.{heavy, whole, classOf, aimed, capped, incrementsOnly, blamed, counted, byGoodput, worthKeeping, failHold, held, nextAllowed, byLadder, judged, arrived, onAck}
+use Rattle.gear.specs.Judging.{classOf, aimed, capped, incrementsOnly, blamed, counted, byGoodput, worthKeeping, failHold, held, nextAllowed, byLadder, judged, arrived, onAck}
 use Rattle.gear.specs.Meeting.{withPeer, startLevel, connected, turned, missed, onTurn}
 use Rattle.gear.specs.Sound.{Share, End, Kept, SoundReports, SoundGear, Counts, Report, Time}
 use Rattle.ladder.proofs.Laws.{level-for-lt, usable-below-lt}
@@ -92,7 +92,7 @@ channel-shares t at now s = fold-keep Shares (marked at now) t 0 17 (λ k x h q.
 counted-shares : (at : ℕ) (loss : Float) (channel : Bool) (now : Float) (t : Tries) → Shares t → Shares (counted at loss channel now t)
 unfolding counted
 counted-shares at loss channel now t s =
-    either Shares (lt whole loss) _ _
+    either Shares (lt most loss) _ _
     (either Shares channel _ _ (channel-shares (failed t at) at now (failed-shares t at s)) (failed-shares t at s))
     (either Shares (eq loss (w32 0)) _ _ (cleared-shares t at s) s)
 
@@ -180,16 +180,16 @@ module _ (p : Profile) (k : Ranged p) where
       let channel = blamed p at snr in
       let f = heldUntil (g .holds) at (add binary64 now (failHold p g at channel now)) (not channel) in
       let e = heldUntil (g .holds) at (add binary64 now (p .«hold_times» .«loss_hold_s»)) true in
-      either SoundGear (lt whole loss) _ _
+      either SoundGear (lt most loss) _ _
       (with-tries (withHolds g f) _ (failed-shares (g .tries) at (s .shares)) (with-holds g f (held-ends (g .holds) at _ _ h (s .ends) (fail-end p g at channel now k t)) s))
-      (either SoundGear (lt heavy loss) _ _ (with-holds g e (held-ends (g .holds) at _ _ h (s .ends) (hold-end now _ t (k .holds .loss) .high)) s)
+      (either SoundGear (lt weight loss) _ _ (with-holds g e (held-ends (g .holds) at _ _ h (s .ends) (hold-end now _ t (k .holds .loss) .high)) s)
       (with-tries g _ (cleared-shares (g .tries) at (s .shares)) s))
 
   ladder-sound : (at : ℕ) (loss snr now : Float) (g : Gear) → at < 17 → Time now → SoundGear g → SoundGear (byLadder p at loss snr now g)
   unfolding byLadder
   ladder-sound at loss snr now g h t s =
       let x = held p at loss snr now g in
-      either SoundGear (lt heavy loss && worthKeeping p g at now) _ _ (at-level g (capped p g at now) (capped-lt p g at now k) s)
+      either SoundGear (lt weight loss && worthKeeping p g at now) _ _ (at-level g (capped p g at now) (capped-lt p g at now k) s)
       (at-level x (capped p x (nextAllowed p x at loss now) now) (capped-lt p x (nextAllowed p x at loss now) now k) (held-sound at loss snr now g h t s))
 
   ok-share : (loss : Float) → In (w32 0) (w32 1) loss → Share (sub binary32 (w32 1) loss)
@@ -240,7 +240,7 @@ module _ (p : Profile) (k : Ranged p) where
         last = s .last;
         reports = s .reports;
         shares = s .shares;
-        ends = s .ends
+        ends = s .ends;
       }
 
   -- and a turn
