@@ -1,15 +1,14 @@
 -- A burst's seconds lie between the usual ones and the longer of the usual and the long ones. Assumes nothing.
 use mathlib.Core.List.{[], _∷_}
-use mathlib.Core.Bool.{Bool, true, false, cond, not, _&&_}
+use mathlib.Core.Bool.{Bool, cond, not, _&&_}
 use Prim.Native.Nat.{ℕ, _<_}
 use native.Mathlib.Omega.{arith}
 use lib.Dec.{T, eqb}
 use lib.ListN.{getD}
-use lib.Ieee.{Float, nan, binary64, le, lt, eq, neg, add, sub, mul, div, ofInt, ofBits, isNan}
+use lib.Ieee.{Float, nan, binary64, le, lt, eq, neg, add, mul, div, ofInt, ofBits, isNan}
 use Rattle.ieee.specs.Range.{In, w32, w64}
 use Rattle.ieee.proofs.Value.{le-refl, le-trans, le-no-nan}
 use Rattle.ieee.proofs.Bounds.{in-no-nan}
-use Rattle.float.specs.Gear.{duration}
 use Rattle.float.specs.Pick.{minF, maxF}
 use Rattle.laws.proofs.Picks.{either}
 use Rattle.ranges.proofs.Durations.{whole-in}
@@ -19,8 +18,9 @@ use Rattle.ranges.proofs.GearRanges.{clean-in, doubled-in}
 use Rattle.level.specs.Ladder.{waveRank}
 use Rattle.level.proofs.Laws.{wave-lt}
 use Rattle.config.specs.declared.Profile.{Profile}
-use Rattle.config.specs.Durations.{ackAt, durationAt, dataS}
+use Rattle.config.specs.Durations.{durationAt, dataS}
 use Rattle.limits.specs.Ranged.{Ranged}
+use Rattle.goodput.proofs.RateLaws.{cue-in}
 use Rattle.goodput.specs.declared.Gear.{Gear}
 use Rattle.goodput.specs.Goodput.{cueFor}
 use Rattle.bursts.specs.Bursts.{cleanBurst, burstLen, steady, far, adapted}
@@ -40,11 +40,6 @@ module _ (p : Profile) (k : Ranged p) where
   usual-le = max-ge (p .lengths .«max_burst_long_s») usual (no-nan (p .lengths .«max_burst_long_s») (k .lengths .long)) (no-nan usual (k .lengths .usual)) .1
 
   module _ (l : ℕ) (h : l < 17) where
-    cue-in : (cue : Bool) → In (w64 0) (w64 10) (cond cue (p .air .«cue_s») (ofBits binary64 0))
-    unfolding ofInt ofBits le lt
-    cue-in true = k .air .cue
-    cue-in false = record { low = tt; high = tt }
-
     -- a burst of one bit
     one-in : (cue : Bool) → In (w64 0) (w64 71) (dataS (p .air) l 1 cue)
     unfolding ofInt le lt add div dataS durationAt
@@ -52,7 +47,7 @@ module _ (p : Profile) (k : Ranged p) where
         within ((w64 0, w64 60) ∷ (w64 0, w64 1) ∷ (w64 1, w64 100000) ∷ (w64 0, w64 10) ∷ [])
         (getD (p .air .«pre_s») l nan ∷ w64 1 ∷ getD (p .air .rate) l nan ∷ cond cue (p .air .«cue_s») (ofBits binary64 0) ∷ [])
         (plus binary64 (plus binary64 (var 0) (over binary64 (var 1) (var 2))) (var 3)) (w64 0) (w64 71)
-        (more (k .air .level l h .pre) (more (whole-in 1 1 (omega arith)) (more (k .air .level l h .rate) (more (cue-in cue) none)))) tt
+        (more (k .air .level l h .pre) (more (whole-in 1 1 (omega arith)) (more (k .air .level l h .rate) (more (cue-in p k l h cue) none)))) tt
 
     turn-in : In (w64 0) (w64 120) (mul binary64 (w64 2) (p .lengths .«turnaround_s»))
     unfolding ofInt le lt mul

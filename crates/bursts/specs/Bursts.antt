@@ -1,11 +1,11 @@
 -- The length of bursts. Definitions only.
 use Prim.Native.Nat.{ℕ, _+_}
-use mathlib.Core.Bool.{Bool, true, false, cond, not, _&&_, _||_}
+use mathlib.Core.Bool.{Bool, false, cond, not, _&&_, _||_}
 use lib.Dec.{eqb}
 use lib.Ieee.{Float, inf, binary32, binary64, add, sub, mul, div, le, lt, eq}
 use Rattle.ieee.specs.Range.{w32, w64}
 use Rattle.float.specs.Pick.{minF, maxF, clampF, absF}
-use Rattle.laws.specs.Span.{from, upto, fold, every, first, count, lastOf}
+use Rattle.laws.specs.Span.{upto, fold}
 use Rattle.level.specs.Ladder.{waveRank}
 use Rattle.config.specs.Entries.{entryAt}
 use Rattle.config.specs.declared.Marks.{Marks}

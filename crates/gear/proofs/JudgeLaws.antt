@@ -1,11 +1,9 @@
 -- What a transition leaves of the level and the target. Assumes nothing.
 use mathlib.Core.Path.{_≡_, refl}
-use Prim.Native.Nat.{_<_}
+use Prim.Native.Nat.{_<_, ℕ}
 use native.Mathlib.Omega.{arith}
 use lib.Ieee.{Float, lt}
-use Prim.Native.Nat.{ℕ}
 use Rattle.float.specs.Gear.{weight, most}
-use Rattle.laws.specs.Steps.{steps, highest}
 use Rattle.laws.proofs.Picks.{either}
 use Rattle.config.specs.declared.Profile.{Profile}
 use Rattle.limits.specs.Ranged.{Ranged}

@@ -1,13 +1,13 @@
 -- `on_ack`: what a reply does to the gear. Definitions only.
 use Prim.Native.Nat.{ℕ, _+_, _-_, _/_, min, max}
-use mathlib.Core.Bool.{Bool, true, false, cond, not, _&&_, _||_}
+use mathlib.Core.Bool.{Bool, true, false, cond, not, _&&_}
 use lib.ListN.{getD}
 use lib.Dec.{ltb, leb, eqb}
 use lib.Ieee.{Float, nan, binary32, binary64, add, sub, mul, le, lt, eq, ofBits}
 use Rattle.ieee.specs.Range.{w32}
 use Rattle.float.specs.Gear.{lossOf, weight, most}
 use Rattle.exp.specs.Hold.{holdOf}
-use Rattle.laws.specs.Span.{from, upto, fold, every, first, count, lastOf}
+use Rattle.laws.specs.Span.{upto, every}
 use Rattle.level.specs.Ladder.{waveRank, isStep}
 use Rattle.config.specs.declared.Profile.{Profile}
 use Rattle.frame.specs.declared.ChanClass.{ChanClass}

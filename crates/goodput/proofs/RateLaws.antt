@@ -7,13 +7,12 @@ use native.Mathlib.Omega.{arith}
 use mathlib.Core.Bool.{Bool, true, false, cond, not}
 use lib.ListN.{getD}
 use lib.Dec.{T}
-use lib.Ieee.{Float, nan, inf, fin, binary64, up, down, le, lt, add, div, neg, ofInt, ofBits, toUnsigned, fits, isNan}
+use lib.Ieee.{Float, nan, inf, fin, binary64, up, down, le, lt, add, div, neg, ofInt, ofBits, toUnsigned, fits}
 use lib.Ieee.Fits.{div-fits}
 use Rattle.ieee.specs.Range.{In, w64}
 use Rattle.whole.specs.Floor.{countOf}
 use Rattle.ieee.proofs.Value
 use Rattle.ieee.proofs.Value.{le→Le}
-use Rattle.ieee.proofs.Bounds.{in-no-nan}
 use Rattle.whole.proofs.FloorLaws.{count-large, count-one}
 use Rattle.ranges.proofs.Durations.{whole-in}
 use Rattle.ranges.proofs.Intervals.{var, plus, over, none, more, within}
@@ -48,7 +47,7 @@ count-le x F i = go (le (w64 1) x) (λ t. count-large x F t) (λ t. count-one x 
 
 -- a burst of at most two slots
 module _ (p : Profile) (k : Ranged p) (l : ℕ) (h : l < 17) where
-  cue-in : (cue : Bool) → In (w64 0) (w64 10) (cond cue (p .air .«cue_s») (ofBits binary64 0))
+  pub cue-in : (cue : Bool) → In (w64 0) (w64 10) (cond cue (p .air .«cue_s») (ofBits binary64 0))
   unfolding ofInt ofBits le lt
   cue-in true = k .air .cue
   cue-in false = record { low = tt; high = tt }

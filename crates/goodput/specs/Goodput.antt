@@ -2,14 +2,13 @@
 use Prim.Native.Nat.{ℕ, _+_, min}
 use mathlib.Core.Bool.{Bool, true, false, cond, not, _&&_, _||_, Bool·beq}
 use lib.ListN.{getD}
-use lib.Dec.{ltb, leb, eqb}
+use lib.Dec.{leb, eqb}
 use lib.IntN.{pos}
-use lib.Ieee.{Float, nan, inf, binary32, binary64, add, sub, mul, div, neg, le, lt, ne, ofBits, isNan}
+use lib.Ieee.{Float, nan, inf, binary32, binary64, add, sub, mul, div, neg, le, lt, ofBits}
 use Rattle.ieee.specs.Range.{w32, w64}
-use Rattle.exp.specs.Exp.{E}
+use Rattle.exp.specs.Exp.{E, E32}
 use Rattle.ieee.specs.Power.{power}
 use Rattle.exp.specs.Narrow.{narrow}
-use Rattle.exp.specs.Exp.{E32}
 use Rattle.order.specs.Total.{totalLe}
 use Rattle.config.specs.Entries.{entryAt}
 use Rattle.config.specs.declared.Marks.{Marks}

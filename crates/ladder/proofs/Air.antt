@@ -1,11 +1,11 @@
 -- A level's mean power lies from -8 to 0 dB. Assumes nothing.
-use mathlib.Core.Bool.{Bool, true, false, _&&_}
+use mathlib.Core.Bool.{Bool, _&&_}
 use mathlib.Core.List.{List, [], _∷_}
 use Prim.Native.Nat.{ℕ, zero, suc, _<_}
 use native.Mathlib.Omega.{arith}
 use lib.Dec.{T, eqb}
 use lib.ListN.{getD, length}
-use lib.Ieee.{Float, nan, binary32, le, lt, neg, ofInt, ofBits}
+use lib.Ieee.{Float, nan, le, lt, neg, ofInt, ofBits}
 use lib.Ieee.Fits.{and-l, and-r}
 use Rattle.ieee.specs.Range.{In, w32}
 use Rattle.laws.proofs.Tables.{passes}

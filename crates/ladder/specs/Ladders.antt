@@ -2,7 +2,7 @@
 use Prim.Native.Nat.{ℕ, _+_, max}
 use mathlib.Core.Bool.{Bool, true, false, cond, not, _&&_, _||_}
 use lib.ListN.{getD}
-use lib.Dec.{ltb, leb, eqb}
+use lib.Dec.{ltb, eqb}
 use lib.Ieee.{Float, nan, binary32, add, le, ofBits}
 use Rattle.laws.specs.Steps.{highest}
 use Rattle.laws.specs.Span.{upto, every, first, lastOf}

@@ -3,7 +3,7 @@ use Prim.Native.Nat.{ℕ, _+_, min}
 use mathlib.Core.Bool.{Bool, true, false, cond, not, _&&_, _||_}
 use lib.ListN.{getD, set}
 use lib.Dec.{ltb, leb, eqb}
-use lib.Ieee.{Float, nan, binary32, add, sub, mul, lt}
+use lib.Ieee.{Float, nan, binary32, sub, mul, lt}
 use Rattle.ieee.specs.Range.{w32}
 use Rattle.float.specs.Gear.{weight, share}
 use Rattle.float.specs.Pick.{minF, maxF}
