@@ -1,2 +1,3 @@
 pub mod Durations
+pub mod Entries
 pub mod Default

@@ -3,6 +3,7 @@ use harq::Harq;
 ghost use mathlib.Core.Path.{_≡_};
 ghost use Prim.Native.Nat.{_*_, _<_};
 ghost use Rattle.config.specs.Durations.{slotAt, frameBits, maxBitsAt, durationAt, ackAt, dataS, frameBytes};
+ghost use Rattle.config.specs.Entries.{entryAt};
 
 pub mod default;
 
@@ -143,6 +144,16 @@ impl Air {
             return s + self.cue_s;
         }
         s + 0.0
+    }
+}
+
+impl Marks {
+    // The SNR from which level l is aimed at: its threshold and the margin.
+    pub fn entry(self, l: usize) -> f32
+        requires { ⌜ l < 17 ⌝ }
+        ensures { λ r. ⌜ r ≡ entryAt self l ⌝ }
+    {
+        self.thresholds_db[l] + self.margin_db
     }
 }
 

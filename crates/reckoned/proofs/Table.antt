@@ -1,19 +1,29 @@
 -- Document 01's reckoned examples marked P as one table: a field for each, proved from the definitions by computation.
--- P11 is the gear's and comes with it. Assumes nothing.
+-- Assumes nothing.
 use mathlib.Core.Path.{_≡_, refl}
-use mathlib.Core.Bool.{true}
+use mathlib.Core.Bool.{true, false}
+use lib.Ieee.{binary32, ofBits, add, le}
 use mathlib.Core.List.{List, [], _∷_}
 use Prim.Native.Nat.{ℕ, _+_, _*_}
 use Rattle.laws.specs.Steps.{highest}
-use Rattle.level.specs.Ladder.{waveRank, airCode, userBits, topLevelIn, nextBurstId}
+use Rattle.level.specs.Ladder.{thresholds, waveRank, airCode, userBits, topLevelIn, nextBurstId}
 use Rattle.harq.specs.Held.{above, smallest, upTo, incrementOf, startOf, partialField, checkBits, burstCheckBits}
 use Rattle.harq.specs.declared.Harq.{Harq}
+use Rattle.config.specs.Entries.{entryAt}
+use Rattle.config.specs.declared.Marks.{Marks}
+use Rattle.frame.specs.declared.ChanClass.{ChanClass}
+use Rattle.ladder.specs.Ladders.{airDb, familyOk, enough, levelFor}
 use Rattle.ledger.specs.Ledger.{split, mergeInflight}
 use Rattle.ledger.proofs.Examples.{spans, piece, P7, P8, P9}
 
 -- "Rate ends 5760, 4320, 2880, 2160, 1920, 1728, mother 5760, slot 2880."
 abbrev pub codes : Harq
 codes = record { mother = 5760; ends = 5760 ∷ 4320 ∷ 2880 ∷ 2160 ∷ 1920 ∷ 1728 ∷ [] }
+
+-- `level_for` of P11 at a dB given by its bits
+abbrev pub levelAt : ℕ → ℕ
+levelAt db =
+    levelFor (record { «thresholds_db» = thresholds; «margin_db» = ofBits binary32 0 }) 0 (record { echo = false; doppler = false }) 16 (ofBits binary32 db)
 
 pub record Cases : Type 0 where
   -- P1 held 2880: increment 1440
@@ -36,11 +46,13 @@ pub record Cases : Type 0 where
   pub p9 : spans (mergeInflight (40 ∷ []) 100 (piece 0 40 ∷ piece 40 40 ∷ piece 80 40 ∷ [])) ≡ 0 ∷ 40 ∷ 40 ∷ 40 ∷ 80 ∷ 40 ∷ []
   -- P10 top_level_in for waves of rank 0 to 5: 0, 0, 4, 6, 8, 16
   pub p10 : (topLevelIn 0 ≡ 0) × (topLevelIn 1 ≡ 0) × (topLevelIn 2 ≡ 4) × (topLevelIn 3 ≡ 6) × (topLevelIn 4 ≡ 8) × (topLevelIn 5 ≡ 16)
+  -- P11 plain thresholds, margin 0, max level 16, no power table, every family: 6.0 dB gives 10, 2.5 gives 9, -20 gives 0
+  pub p11 : (levelAt 0x40c0_0000 ≡ 10) × (levelAt 0x4020_0000 ≡ 9) × (levelAt 0xc1a0_0000 ≡ 0)
   -- P12 number 3, last heard 0: next is 1
   pub p12 : nextBurstId 3 true 0 ≡ 1
 
 pub cases : Cases
-unfolding highest waveRank airCode userBits topLevelIn nextBurstId above smallest upTo incrementOf startOf partialField checkBits burstCheckBits
+unfolding levelFor enough familyOk airDb entryAt ofBits add le highest waveRank airCode userBits topLevelIn nextBurstId above smallest upTo incrementOf startOf partialField checkBits burstCheckBits
 cases =
     record {
       p1 = refl;
@@ -53,5 +65,6 @@ cases =
       p8 = refl;
       p9 = refl;
       p10 = (refl, refl, refl, refl, refl, refl);
+      p11 = (refl, refl, refl);
       p12 = refl;
     }

@@ -1,9 +1,12 @@
 // Document 01's reckoned examples, run through the code: a line each, as the paper words it, with what came out.
+use config::Marks;
+use frame::ChanClass;
 use harq::Harq;
 use harq::burst_check_bits;
 use harq::partial_field;
 use io::print_decimal;
 use io::write_all;
+use ladder::level_for;
 use level::air_code;
 use level::next_burst_id;
 use level::top_level_in;
@@ -59,7 +62,31 @@ fn level_cases() {
     );
 }
 
+fn gear_cases() {
+    let plain = Marks {
+        thresholds_db: level::thresholds_db(),
+        margin_db: 0.0,
+    };
+    let class = ChanClass {
+        echo: false,
+        doppler: false,
+    };
+    say(
+        b"P11 6.0 dB, level ",
+        level_for(plain, 0, class, 16, 6.0) as u64,
+    );
+    say(
+        b"P11 2.5 dB, level ",
+        level_for(plain, 0, class, 16, 2.5) as u64,
+    );
+    say(
+        b"P11 -20 dB, level ",
+        level_for(plain, 0, class, 16, -20.0) as u64,
+    );
+}
+
 fn main() {
     held_cases();
     level_cases();
+    gear_cases();
 }

@@ -1,0 +1,14 @@
+use Rattle.bursts.specs.Bursts.{steady}
+use borrow.Author.Needs.{needs}
+use Rattle.bursts.proofs.steady.Statement.{statement}
+use Rattle.bursts.proofs.steady.Tie as tie
+
+abs32-requires : tie.Need-abs32-requires
+abs32-requires c κs = search needs
+
+returns : tie.Need-returns
+unfolding steady
+returns c = simp (c .before .before .abs32 .ensures)
+
+pub steady-spec : {M : Type 1} → statement M
+steady-spec = tie.close (tie.spec abs32-requires returns)

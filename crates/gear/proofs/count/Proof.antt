@@ -1,0 +1,36 @@
+use Rattle.gear.specs.Judging.{counted}
+use lib.Ieee.{ofInt, ofBits}
+use borrow.Author.Needs.{needs}
+use Rattle.gear.proofs.count.Statement.{statement}
+use Rattle.gear.proofs.count.Tie as tie
+
+fail-requires : tie.Need-fail-requires
+fail-requires c κs = search needs
+
+channel-failed-requires : tie.Need-channel-failed-requires
+channel-failed-requires c κs = search needs
+
+returns : tie.Need-returns
+unfolding counted
+returns c = simp (c .before .before .before .if1 .taken, c .before .before .if2 .taken, c .channel-failed .ensures, c .before .fail .ensures)
+
+fail-requires-2 : tie.Need-fail-requires-2
+fail-requires-2 c κs = search needs
+
+returns-2 : tie.Need-returns-2
+unfolding counted
+returns-2 c = simp (c .before .before .if1 .taken, c .before .if2 .left, c .fail2 .ensures)
+
+clear-requires : tie.Need-clear-requires
+clear-requires c κs = search needs
+
+returns-3 : tie.Need-returns-3
+unfolding counted ofInt ofBits
+returns-3 c = simp (c .before .before .if1 .left, c .before .if3 .taken, c .clear .ensures)
+
+returns-4 : tie.Need-returns-4
+unfolding counted ofInt ofBits
+returns-4 c = simp (c .before .if1 .left, c .if3 .left)
+
+pub count-spec : {M : Type 1} → statement M
+count-spec = tie.close (tie.spec fail-requires channel-failed-requires returns fail-requires-2 returns-2 clear-requires returns-3 returns-4)

@@ -1,0 +1,41 @@
+-- `max_by` names a level of the ladder. Assumes nothing.
+use mathlib.Core.Path.{_≡_}
+use Prim.Native.Nat.{ℕ, _+_, _<_, _≤_}
+use native.Mathlib.Omega.{arith}
+use mathlib.Core.Bool.{not, _&&_, true, false}
+use lib.Ieee.{Float, inf}
+use Rattle.order.specs.Total.{totalLe}
+use Rattle.laws.proofs.Picks.{either}
+use Rattle.laws.proofs.Span.{fold-keep}
+use Rattle.ladder.specs.Ladders.{heeded}
+use Rattle.ladder.proofs.Laws.{usable-below-lt, usable-below-le}
+use Rattle.limits.specs.Ranged.{Ranged}
+use Rattle.config.specs.declared.Profile.{Profile}
+use Rattle.goodput.specs.declared.Gear.{Gear}
+use Rattle.goodput.specs.declared.Best.{Best}
+use Rattle.goodput.specs.Goodput.{candidate, worthOf, over, noBest, weighed, bestOf, pickByGoodput}
+
+pub weighed-lt : (n : ℕ) (p : Profile) (g : Gear) (aim now : Float) (b : Best) (l : ℕ) → b .level < n → l < n → weighed p g aim now b l .level < n
+unfolding weighed over
+weighed-lt n p g aim now b l h k =
+    let w = worthOf p g aim now l in
+    let Q : Best → Type 0 = λ x. x .level < n in
+    either Q (candidate p g aim l) (over b l w) b (either Q (b .found && not (totalLe (b .worth) w)) b (record { found = true; level = l; worth = w }) h k) h
+
+best-lt : (n : ℕ) (p : Profile) (g : Gear) (aim now : Float) → p .«max_level» < n → bestOf p g aim now .level < n
+best-lt n p g aim now h = fold-keep (λ (x : Best). x .level < n) (weighed p g aim now) noBest 0 (p .«max_level» + 1) (λ l x i q. weighed-lt n p g aim now x l q (omega (arith, i, h))) (omega (arith, h))
+
+-- the level picked is one of the ladder, and without a pinned level none above max_level
+pub pick-lt : (p : Profile) (g : Gear) (aim now : Float) → Ranged p → pickByGoodput p g aim now < 17
+unfolding pickByGoodput
+pick-lt p g aim now k =
+    let b = bestOf p g aim now in
+    either (λ (x : ℕ). x < 17) (b .found) _ 0 (usable-below-lt (g .holds) (heeded (p .«pick_family») (g .«peer_class»)) (p .«pin_level») (b .level) (inf false) (k .pin) (best-lt 17 p g aim now (omega (arith, k .top)))) (omega arith)
+
+pub pick-le : (p : Profile) (g : Gear) (aim now : Float) → p .«pin_level» .set ≡ false → pickByGoodput p g aim now ≤ p .«max_level»
+unfolding pickByGoodput
+pick-le p g aim now e =
+    let b = bestOf p g aim now in
+    let h = best-lt (p .«max_level» + 1) p g aim now (omega arith) in
+    let u = usable-below-le (g .holds) (heeded (p .«pick_family») (g .«peer_class»)) (p .«pin_level») (b .level) (inf false) e in
+    either (λ (x : ℕ). x ≤ p .«max_level») (b .found) _ 0 (omega (arith, h, u)) (omega arith)

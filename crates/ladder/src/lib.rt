@@ -1,0 +1,222 @@
+// Which levels may be used: channel class, holds, steps up and down.
+ghost use mathlib.Core.Path.{_≡_};
+ghost use Prim.Native.Nat.{_+_, _<_, _≤_, min, max};
+ghost use Rattle.ladder.specs.Ladders.{airDb, heeded, familyOk, enough, levelFor, passes, usable, usableBelow, climbs, climbAbove, allowedBelow, lowestLong, nthBelow, stepDown};
+use config::Marks;
+use config::MaybeLevel;
+use frame::ChanClass;
+use level::FLOOR;
+
+// Per level: the time until which it is held off, and whether the hold rules out every faster level.
+pub struct Holds {
+    pub blocked_until: [f64; 17],
+    pub hold_all: [bool; 17],
+}
+
+// Mean power of level l on the air against the carrier, dB, by the profile's power table.
+pub fn air_db(power: u8, l: usize) -> f32
+    requires { ⌜ l < 17 ⌝ }
+    ensures { λ r. ⌜ r ≡ airDb power l ⌝ }
+{
+    if power == 1 {
+        level::air_mean_db(l)
+    } else if power == 2 {
+        level::air_mean_td_db(l)
+    } else {
+        0.0
+    }
+}
+
+// The class that the gear goes by: without pick_family, none.
+pub fn heeded(class: ChanClass, pick_family: bool) -> ChanClass
+    ensures { λ r. ⌜ r ≡ heeded «pick_family» class ⌝ }
+{
+    if pick_family {
+        class
+    } else {
+        ChanClass {
+            echo: false,
+            doppler: false,
+        }
+    }
+}
+
+// Whether the channel class allows level l's waveform.
+pub fn family_ok(class: ChanClass, l: usize) -> bool
+    requires { ⌜ l < 17 ⌝ }
+    ensures { λ r. ⌜ r ≡ familyOk class l ⌝ }
+{
+    let w = level::wave_rank(l);
+    if w < 3 {
+        true
+    } else if w == 4 {
+        !class.doppler
+    } else {
+        !class.doppler & !class.echo
+    }
+}
+
+// Whether an SNR, moved to what level l would see, is enough for it.
+fn enough(marks: Marks, power: u8, class: ChanClass, l: usize, snr_db: f32) -> bool
+    requires { ⌜ l < 17 ⌝ }
+    ensures { λ r. ⌜ r ≡ enough marks power class l «snr_db» ⌝ }
+{
+    family_ok(class, l) & (snr_db + air_db(power, l) >= marks.entry(l))
+}
+
+// The highest level that an SNR allows, in a waveform that the channel class allows.
+pub fn level_for(marks: Marks, power: u8, class: ChanClass, top: usize, snr_db: f32) -> usize
+    requires { ⌜ top < 17 ⌝ }
+    ensures { λ r. ⌜ r ≡ levelFor marks power class top «snr_db» ⌝ }
+{
+    let mut l = top + 1;
+    while l > 0 {
+        l -= 1;
+        if enough(marks, power, class, l, snr_db) {
+            return l;
+        }
+    }
+    FLOOR
+}
+
+impl Holds {
+    // Level k does not keep level l from being used: its hold is over, or it failed by the channel and l's guard is longer.
+    fn passes(self, k: usize, l: usize, now: f64) -> bool
+        requires { ⌜ k < 17 ⌝ ∗ ⌜ l < 17 ⌝ }
+        ensures { λ r. ⌜ r ≡ passes self l now k ⌝ }
+    {
+        let longer = level::guard_ms(level::wave_rank(l)) > level::guard_ms(level::wave_rank(k));
+        (now >= self.blocked_until[k]) | ((k != l) & !self.hold_all[k] & longer)
+    }
+
+    // Whether level l may be used at `now`.
+    fn usable(self, class: ChanClass, l: usize, now: f64) -> bool
+        requires { ⌜ l < 17 ⌝ }
+        ensures { λ r. ⌜ r ≡ usable self class now l ⌝ }
+    {
+        if !family_ok(class, l) {
+            return false;
+        }
+        for k in 0..l + 1 {
+            if !self.passes(k, l, now) {
+                return false;
+            }
+        }
+        true
+    }
+
+    // The pinned level, else the highest usable level at or below l, else the floor.
+    pub fn usable_below(self, class: ChanClass, pin: MaybeLevel, l: usize, now: f64) -> usize
+        requires { ⌜ l < 17 ⌝ }
+        ensures { λ r. ⌜ r ≡ usableBelow self class pin l now ⌝ }
+    {
+        if pin.set {
+            return pin.level;
+        }
+        let mut k = l + 1;
+        while k > 0 {
+            k -= 1;
+            if self.usable(class, k, now) {
+                return k;
+            }
+        }
+        FLOOR
+    }
+
+    // A level that climb_above may name: usable, and no slow step where these are left out.
+    fn climbs(self, class: ChanClass, skip: bool, now: f64, k: usize) -> bool
+        requires { ⌜ k < 17 ⌝ }
+        ensures { λ r. ⌜ r ≡ climbs self class skip now k ⌝ }
+    {
+        self.usable(class, k, now) & !(skip & level::is_step(k))
+    }
+
+    // The n-th level to climb to above `at`: the last there is, or `at` if there is none.
+    pub fn climb_above(self, class: ChanClass, skip: bool, at: usize, n: usize, now: f64) -> usize
+        requires { ⌜ at < 17 ⌝ }
+        ensures { λ r. ⌜ r ≡ climbAbove self class skip at n now ⌝ }
+    {
+        let mut to = at;
+        let mut left = n;
+        let mut k = at + 1;
+        while k < 17 {
+            if left == 0 {
+                return to;
+            }
+            if self.climbs(class, skip, now, k) {
+                to = k;
+                left -= 1;
+                k += 1;
+            } else {
+                k += 1;
+            }
+        }
+        to
+    }
+}
+
+// The highest level below `at` whose waveform the class allows, or the floor.
+fn allowed_below(class: ChanClass, at: usize) -> usize
+    requires { ⌜ at < 17 ⌝ }
+    ensures { λ r. ⌜ r ≡ allowedBelow class at ⌝ }
+{
+    let mut k = at;
+    while k > 0 {
+        k -= 1;
+        if family_ok(class, k) {
+            return k;
+        }
+    }
+    FLOOR
+}
+
+// The lowest level below `at` that the class allows and that has long frames, or the floor.
+fn lowest_long(class: ChanClass, at: usize) -> usize
+    requires { ⌜ at < 17 ⌝ }
+    ensures { λ r. ⌜ r ≡ lowestLong class at ⌝ }
+{
+    for k in 0..at {
+        if family_ok(class, k) & level::long_frame(k) {
+            return k;
+        }
+    }
+    FLOOR
+}
+
+pub fn larger(a: usize, b: usize) -> usize
+    ensures { λ r. ⌜ r ≡ max a b ⌝ }
+{
+    if a < b { b } else { a }
+}
+
+pub fn smaller(a: usize, b: usize) -> usize
+    ensures { λ r. ⌜ r ≡ min a b ⌝ }
+{
+    if b < a { b } else { a }
+}
+
+// The first allowed level below `at`, or the second.
+fn nth_below(class: ChanClass, at: usize, second: bool) -> usize
+    requires { ⌜ at < 17 ⌝ }
+    ensures { λ r. ⌜ r ≡ nthBelow class at second ⌝ }
+{
+    let one = allowed_below(class, at);
+    if second {
+        allowed_below(class, one)
+    } else {
+        one
+    }
+}
+
+// One level below `at`, or two: from a long-frame level no further than the lowest allowed one with long frames.
+pub fn step_down(class: ChanClass, at: usize, second: bool) -> usize
+    requires { ⌜ at < 17 ⌝ }
+    ensures { λ r. ⌜ r ≡ stepDown class at second ⌝ }
+{
+    let to = nth_below(class, at, second);
+    if level::long_frame(at) {
+        larger(to, lowest_long(class, at))
+    } else {
+        to
+    }
+}
