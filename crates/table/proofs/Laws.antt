@@ -91,3 +91,11 @@ table-kept a b i n h = ap (overwrite a (place i)) (table-rows a b i n h) ∙ ove
 pub small-rows : (a : List ℕ) → Bytes a → (i n : ℕ) → Small (rowsFrom a i n)
 small-rows a b i zero = tt
 small-rows a b i (suc n) = (load-small a b (place i), load-small a b (place i + 4), small-rows a b (i + 1) n)
+
+-- ---- a turn of a loop over the rows
+
+pub rows-turn : (a : List ℕ) (i n : ℕ) (r : Row) → i < n → r ≡ rowAt a i → rowsFrom a i (n - i) ≡ r ∷ rowsFrom a (i + 1) (n - (i + 1))
+rows-turn a i n r h e = rows-step a i n h ∙ ap (λ (x : Row). x ∷ rowsFrom a (i + 1) (n - (i + 1))) (sym e)
+
+pub rows-none : (a : List ℕ) (i n : ℕ) → n ≤ i → rowsFrom a i (n - i) ≡ []
+rows-none a i n h = ap (rowsFrom a i) (let e : n - i ≡ 0 = omega arith in e)
