@@ -23,7 +23,7 @@ abbrev pub rowOffs : List Row → List ℕ
 rowOffs [] = []
 rowOffs (r ∷ rs) = r .off ∷ rowOffs rs
 
--- and the rows have `flying` bytes together, and shorts of them number 2,048 at most
+-- the rows ascend, have `flying` bytes together, and make 2,048 pieces at most when cut to the short payload
 unfoldable pub tableOk : ℕ → ℕ → ℕ → ℕ → List Row → Bool
 tableOk short long next flying rs = ascends long next 0 rs && (eqb (total rs) flying && leb (shortFramesOf short rs) maxPieces)
 
