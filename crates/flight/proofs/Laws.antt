@@ -1,0 +1,219 @@
+-- Laws of marks, and of pieces that leave in one pass.
+-- Assumes nothing.
+use mathlib.Core.Path.{_≡_, refl, sym, ap, ap₂, _∙_}
+use mathlib.Core.List.{List, [], _∷_, _++_}
+use mathlib.Core.Bool.{Bool, true, false, cond, _||_}
+use Prim.Native.Nat.{ℕ, suc, _+_, _-_, _≤_, _<_, suc-le-suc}
+use native.Mathlib.Nat.{zero-add, sub-zero, le-refl}
+use native.Mathlib.Omega.{arith}
+use native.Mathlib.Numerals.{add-one}
+use lib.ListN.{length, take, drop, getD, set, length-append, length-take, length-drop}
+use lib.Seq.{drop-cons, getD-set-same, getD-set-other, take-take, drop-at}
+use lib.Dec.{eqb}
+use borrow.Author.Tests.{ne-eqb, eqb-true, eqb-false}
+use Rattle.laws.specs.Bytes.{overwrite, part}
+use Rattle.laws.proofs.Bytes.{length-over, over-nil, over-cat, over-comm, part-before, part-after, part-add, length-part}
+use Rattle.table.specs.Layout.{place, streamBytes, areaBytes}
+use Rattle.table.specs.Table.{rowAt, rowsFrom, tableBytes, total}
+use Rattle.table.specs.declared.Row.{Row}
+use Rattle.table.proofs.Laws.{rows-turn, rows-none, rows-after}
+use Rattle.laws.specs.Lists.{listed}
+use Rattle.flight.specs.Flight.{markCount, markPlace, Marked, keptRows, keptBytes}
+
+-- ---- marks
+
+pub listed-turn : (o : ℕ) (xs : List ℕ) (i : ℕ) → i < length xs → listed o (drop i xs) ≡ (eqb o (getD xs i 0) || listed o (drop (i + 1) xs))
+listed-turn o xs i h = ap (listed o) (drop-cons xs i 0 h ∙ ap (λ (k : ℕ). getD xs i 0 ∷ drop k xs) (sym (add-one i)))
+
+pub listed-none : (o : ℕ) (xs : List ℕ) → ((j : ℕ) → j < length xs → getD xs j 0 ≡ o → ⊥) → listed o xs ≡ false
+listed-none o [] f = refl
+listed-none o (x ∷ xs) f =
+    rw (ne-eqb o x (λ e. f 0 (omega arith) (sym e)), listed-none o xs (λ j h e. f (suc j) (suc-le-suc h) e))
+
+pub unmarked : (marks xs : List ℕ) (o k : ℕ) → k ≡ markPlace o → Marked marks xs → getD marks k 0 ≡ 0 → listed o xs ≡ false
+unmarked marks xs o k p m z = listed-none o xs (λ j h e. let q : _≡_ {A = ℕ} 0 1 = sym z ∙ ap (λ (i : ℕ). getD marks i 0) (p ∙ ap markPlace (sym e)) ∙ m .set j h in omega arith)
+
+-- one mark more
+pub mark-turn : (marks xs : List ℕ) (i k : ℕ) → length marks ≡ markCount → k ≡ markPlace (getD xs i 0) → k < markCount → ((j : ℕ) → j < i → getD marks (markPlace (getD xs j 0)) 0 ≡ 1)
+    → (j : ℕ) → j < i + 1 → getD (set marks k 1) (markPlace (getD xs j 0)) 0 ≡ 1
+mark-turn marks xs i k l e h f j b = go (eqb (markPlace (getD xs j 0)) k) refl
+  where
+    go : (t : Bool) → eqb (markPlace (getD xs j 0)) k ≡ t → getD (set marks k 1) (markPlace (getD xs j 0)) 0 ≡ 1
+    go true q = ap (λ (m : ℕ). getD (set marks k 1) m 0) (eqb-true _ _ q) ∙ (getD-set-same marks k 1 0 (omega arith))
+    go false q =
+        let n : markPlace (getD xs j 0) ≡ k → ⊥ = eqb-false _ _ q in
+        getD-set-other marks k (markPlace (getD xs j 0)) 1 0 n ∙ f j (lt j i b (λ (z : j ≡ i). n (ap (λ (a : ℕ). markPlace (getD xs a 0)) z ∙ sym e)))
+      where
+        lt : (j i : ℕ) → j < i + 1 → (j ≡ i → ⊥) → j < i
+        lt j i b n = omega (arith, n)
+
+-- ---- one pass
+
+part-take : (a : List ℕ) (at n m : ℕ) → n ≤ m → take n (part a at m) ≡ part a at n
+part-take a at n m h = take-take n m (drop at a) h
+
+part-drop : (a : List ℕ) (at n m : ℕ) → at + m ≤ length a → n ≤ m → drop n (part a at m) ≡ part a (at + n) (m - n)
+part-drop a at n m l h =
+    let e : m ≡ n + (m - n) = omega arith in
+    ap (λ (k : ℕ). drop n (part a at k)) e ∙ ap (drop n) (part-add a at n (m - n)) ∙ drop-at (part a at n) (part a (at + n) (m - n)) n (length-part a at n (omega arith))
+
+-- the rest of the stream after a piece
+pub part-rest : (a : List ℕ) (from len used : ℕ) → used ≤ length a → from + len ≤ used → drop len (part a from (used - from)) ≡ part a (from + len) (used - (from + len))
+part-rest a from len used l h =
+    part-drop a from len (used - from) (omega arith) (omega arith) ∙ ap (part a (from + len)) (let q : used - from - len ≡ used - (from + len) = omega arith in q)
+
+pub kept-short : (xs : List ℕ) (rs : List Row) (st : List ℕ) → length (keptBytes xs rs st) ≤ length st
+unfolding keptBytes
+kept-short xs [] st = le-refl _
+kept-short xs (r ∷ rs) st = go (listed (r .off) xs) (kept-short xs rs (drop (r .len) st))
+  where
+    go : (b : Bool) → length (keptBytes xs rs (drop (r .len) st)) ≤ length (drop (r .len) st) → length (cond b (keptBytes xs rs (drop (r .len) st)) (take (r .len) st ++ keptBytes xs rs (drop (r .len) st))) ≤ length st
+    go true k = omega (arith, length-drop (r .len) st)
+    go false k = omega (arith, length-drop (r .len) st, length-take (r .len) st, length-append (take (r .len) st) (keptBytes xs rs (drop (r .len) st)))
+
+-- what is left to do, from row i on
+abbrev pub removed : List ℕ → ℕ → ℕ → List ℕ → ℕ → ℕ → ℕ → ℕ → List ℕ
+removed a n used gone from to w i =
+    overwrite (overwrite a to (keptBytes gone (rowsFrom a i (n - i)) (part a from (used - from)))) (place w) (tableBytes (keptRows gone (rowsFrom a i (n - i))))
+
+pub record Removing (a₀ : List ℕ) (n used : ℕ) (gone a : List ℕ) (from to w i : ℕ) : Type 0 where
+  pub low : w ≤ i
+  pub high : i ≤ n
+  pub back : to ≤ from
+  pub fits : from + total (rowsFrom a i (n - i)) ≤ used
+  pub long : length a ≡ length a₀
+  pub rows : length (keptRows gone (rowsFrom a₀ 0 n)) ≡ w + length (keptRows gone (rowsFrom a i (n - i)))
+  pub bytes : total (keptRows gone (rowsFrom a₀ 0 n)) ≡ to + total (keptRows gone (rowsFrom a i (n - i)))
+  pub same : removed a₀ n used gone 0 0 0 0 ≡ removed a n used gone from to w i
+
+pub removing-start : (a : List ℕ) (n used : ℕ) (gone : List ℕ) → total (rowsFrom a 0 n) ≤ used → Removing a n used gone a 0 0 0 0
+removing-start a n used gone h = record {
+  low = le-refl 0;
+  high = omega arith;
+  back = le-refl 0;
+  fits = rw (sub-zero, zero-add) h;
+  long = refl;
+  rows = simp (sub-zero, zero-add);
+  bytes = simp (sub-zero, zero-add);
+  same = refl;
+}
+
+module _ (a₀ : List ℕ) (n used : ℕ) (gone a : List ℕ) (from to w i : ℕ) (r : Row) (s : Removing a₀ n used gone a from to w i) (h : i < n) (e : r ≡ rowAt a i) (u : used ≤ streamBytes) (l : areaBytes ≤ length a₀) where
+  rest : List Row
+  rest = rowsFrom a (i + 1) (n - (i + 1))
+
+  m : ℕ
+  m = used - (from + r .len)
+
+  at-row : rowsFrom a i (n - i) ≡ r ∷ rest
+  unfolding rest
+  at-row = rows-turn a i n r h e
+
+  turn-total : total (rowsFrom a i (n - i)) ≡ r .len + total rest
+  unfolding total
+  turn-total = ap total at-row
+
+  pub row-fits : from + r .len ≤ used
+  row-fits = omega (arith, turn-total, s .fits)
+
+  rest-bytes : drop (r .len) (part a from (used - from)) ≡ part a (from + r .len) m
+  unfolding m
+  rest-bytes = part-rest a from (r .len) used (omega (arith, s .long)) row-fits
+
+  first-bytes : take (r .len) (part a from (used - from)) ≡ part a from (r .len)
+  first-bytes = part-take a from (r .len) (used - from) (omega (arith, row-fits))
+
+  kept-turn : (b : Bool) → listed (r .off) gone ≡ b → keptRows gone (rowsFrom a i (n - i)) ≡ cond b (keptRows gone rest) (r ∷ keptRows gone rest)
+  unfolding keptRows
+  kept-turn b t = ap (keptRows gone) at-row ∙ ap (λ (x : Bool). cond x (keptRows gone rest) (r ∷ keptRows gone rest)) t
+
+  bytes-turn : (b : Bool) → listed (r .off) gone ≡ b → keptBytes gone (rowsFrom a i (n - i)) (part a from (used - from))
+      ≡ cond b (keptBytes gone rest (part a (from + r .len) m)) (part a from (r .len) ++ keptBytes gone rest (part a (from + r .len) m))
+  unfolding keptBytes
+  bytes-turn b t =
+      ap (λ (x : List Row). keptBytes gone x (part a from (used - from))) at-row
+      ∙ ap (λ (x : Bool). cond x (keptBytes gone rest (drop (r .len) (part a from (used - from)))) (take (r .len) (part a from (used - from)) ++ keptBytes gone rest (drop (r .len) (part a from (used - from))))) t
+      ∙ ap₂ (λ (x y : List ℕ). cond b (keptBytes gone rest x) (y ++ keptBytes gone rest x)) rest-bytes first-bytes
+
+  -- the piece goes
+  pub removing-gone : listed (r .off) gone ≡ true → Removing a₀ n used gone a (from + r .len) to w (i + 1)
+  unfolding rest m
+  removing-gone t = record {
+    low = omega (arith, s .low);
+    high = omega arith;
+    back = omega (arith, s .back);
+    fits = omega (arith, turn-total, s .fits);
+    long = s .long;
+    rows = s .rows ∙ ap (λ (x : List Row). w + length x) (kept-turn true t);
+    bytes = s .bytes ∙ ap (λ (x : List Row). to + total x) (kept-turn true t);
+    same = s .same ∙ ap₂ (λ (x : List ℕ) (y : List Row). overwrite (overwrite a to x) (place w) (tableBytes y)) (bytes-turn true t) (kept-turn true t);
+  }
+
+  -- the piece stays: its bytes move down, and its row too
+  moved : List ℕ
+  moved = overwrite (overwrite a to (part a from (r .len))) (place w) (tableBytes (r ∷ []))
+
+  rows-moved : rowsFrom moved (i + 1) (n - (i + 1)) ≡ rest
+  unfolding moved rest
+  rows-moved =
+      let q = length-part a from (r .len) (omega (arith, row-fits, s .long)) in
+      rows-after (overwrite a to (part a from (r .len))) (place w) (tableBytes (r ∷ [])) (i + 1) (n - (i + 1)) (omega (arith, s .low))
+      ∙ rows-after a to (part a from (r .len)) (i + 1) (n - (i + 1)) (omega (arith, row-fits, s .back))
+
+  bytes-moved : part moved (from + r .len) m ≡ part a (from + r .len) m
+  unfolding moved m
+  bytes-moved =
+      let q = length-part a from (r .len) (omega (arith, row-fits, s .long)) in
+      part-before (overwrite a to (part a from (r .len))) (place w) (tableBytes (r ∷ [])) (from + r .len) (used - (from + r .len)) (omega (arith, row-fits))
+      ∙ part-after a to (part a from (r .len)) (from + r .len) (used - (from + r .len)) (omega (arith, s .back))
+
+  removed-kept : listed (r .off) gone ≡ false → removed a n used gone from to w i ≡ removed moved n used gone (from + r .len) (to + r .len) (w + 1) (i + 1)
+  unfolding m moved
+  removed-kept t =
+      let x = part a from (r .len) in
+      let kb = keptBytes gone rest (part a (from + r .len) m) in
+      let t1 = tableBytes (r ∷ []) in
+      let t2 = tableBytes (keptRows gone rest) in
+      let b = overwrite a to x in
+      let q = length-part a from (r .len) (omega (arith, row-fits, s .long)) in
+      let short : to + r .len + length kb ≤ place w = short-is in
+      ap₂ (λ (y : List ℕ) (z : List Row). overwrite (overwrite a to y) (place w) (tableBytes z)) (bytes-turn false t) (kept-turn false t)
+      ∙ ap (λ (y : List ℕ). overwrite y (place w) (t1 ++ t2)) (sym (over-cat a to x kb) ∙ ap (λ (k : ℕ). overwrite b (to + k) kb) q)
+      ∙ sym (over-cat (overwrite b (to + r .len) kb) (place w) t1 t2)
+      ∙ ap₂ (λ (y : List ℕ) (k : ℕ). overwrite y k t2) (over-comm b (to + r .len) kb (place w) t1 short) (let p : place w + 8 ≡ place (w + 1) = omega arith in p)
+      ∙ last
+    where
+      short-is : to + r .len + length (keptBytes gone rest (part a (from + r .len) m)) ≤ place w
+      short-is = omega (arith, kept-short gone rest (part a (from + r .len) m), length-part a (from + r .len) m (omega (arith, row-fits, s .long)), row-fits, s .back)
+
+      last : overwrite (overwrite moved (to + r .len) (keptBytes gone rest (part a (from + r .len) m))) (place (w + 1)) (tableBytes (keptRows gone rest))
+          ≡ removed moved n used gone (from + r .len) (to + r .len) (w + 1) (i + 1)
+      last =
+          ap₂ (λ (y : List ℕ) (z : List Row). overwrite (overwrite moved (to + r .len) (keptBytes gone z y)) (place (w + 1)) (tableBytes (keptRows gone z))) (sym bytes-moved) (sym rows-moved)
+
+  pub removing-kept : (d : List ℕ) → listed (r .off) gone ≡ false → d ≡ overwrite (overwrite a to (part a from (r .len))) (place w) (tableBytes (r ∷ []))
+      → Removing a₀ n used gone d (from + r .len) (to + r .len) (w + 1) (i + 1)
+  unfolding moved total
+  removing-kept d t p = rw p (record {
+    low = omega (arith, s .low);
+    high = omega arith;
+    back = omega (arith, s .back);
+    fits = omega (arith, turn-total, s .fits, ap total rows-moved);
+    long = length-over (overwrite a to (part a from (r .len))) (place w) (tableBytes (r ∷ [])) ∙ length-over a to (part a from (r .len)) ∙ s .long;
+    rows = omega (arith, s .rows, ap length (kept-turn false t), ap (λ (x : List Row). length (keptRows gone x)) rows-moved);
+    bytes = omega (arith, s .bytes, ap total (kept-turn false t), ap (λ (x : List Row). total (keptRows gone x)) rows-moved);
+    same = s .same ∙ removed-kept t;
+  })
+
+-- the loop's end, and the waiting bytes move down
+pub removing-end : (a₀ : List ℕ) (n used : ℕ) (gone a : List ℕ) (from to w i : ℕ) → Removing a₀ n used gone a from to w i → n ≤ i
+    → (w ≡ length (keptRows gone (rowsFrom a₀ 0 n))) × (to ≡ total (keptRows gone (rowsFrom a₀ 0 n)))
+    × (overwrite a to (part a from (used - from)) ≡ overwrite (overwrite a₀ 0 (keptBytes gone (rowsFrom a₀ 0 n) (part a₀ 0 used))) (place 0) (tableBytes (keptRows gone (rowsFrom a₀ 0 n))))
+unfolding keptRows keptBytes total
+removing-end a₀ n used gone a from to w i s h =
+    let z = rows-none a i n h in
+    let zr : keptRows gone (rowsFrom a i (n - i)) ≡ [] = ap (keptRows gone) z in (
+      omega (arith, s .rows, ap length zr),
+      omega (arith, s .bytes, ap total zr),
+      sym (s .same ∙ ap (λ (x : List Row). overwrite (overwrite a to (keptBytes gone x (part a from (used - from)))) (place w) (tableBytes (keptRows gone x))) z ∙ over-nil _ _) ∙ simp sub-zero,
+    )

@@ -1,0 +1,93 @@
+// Offsets looked for by marks, and pieces that leave the work area in one pass.
+use moves::shift_left;
+use table::load_row;
+use table::store_row;
+ghost use mathlib.Core.Path.{_≡_};
+ghost use Prim.Native.Nat.{_≤_, _<_};
+ghost use lib.ListN.{length};
+ghost use Rattle.laws.specs.Bytes.{overwrite, part};
+ghost use Rattle.laws.specs.Lists.{listed};
+ghost use Rattle.ledger.specs.Limits.{maxPieces};
+ghost use Rattle.table.specs.Layout.{areaBytes, streamBytes, place};
+ghost use Rattle.table.specs.Table.{rowsFrom, tableBytes, total};
+ghost use Rattle.flight.specs.Flight.{markCount, markPlace, Marked, keptRows, keptBytes};
+
+fn mark_place(off: u32) -> usize
+    ensures { λ r. ⌜ (r ≡ markPlace off) × (r < markCount) ⌝ }
+{
+    (off as u64 * 2654435761 / 2097152 % 2048) as usize
+}
+
+// Marks each offset of `offs`.
+pub fn mark(marks: &mut [u8], offs: &[u32])
+    requires { ⌜ length (now marks) ≡ markCount ⌝ }
+    ensures { λ _. ⌜ Marked (now (marks .exit)) (now (offs .entry)) ⌝ }
+{
+    let mut i = 0;
+    while i < offs.len() {
+        let k = mark_place(offs[i]);
+        marks[k] = 1;
+        i += 1;
+    }
+}
+
+// Whether `off` is among `offs`.
+pub fn contains(offs: &[u32], off: u32) -> bool
+    ensures { λ r. ⌜ r ≡ listed off (now (offs .entry)) ⌝ }
+{
+    let mut i = 0;
+    while i < offs.len() {
+        if off == offs[i] {
+            return true;
+        }
+        i += 1;
+    }
+    false
+}
+
+// The same, where most offsets that are not there have no mark.
+pub fn contains_marked(marks: &[u8], offs: &[u32], off: u32) -> bool
+    requires { ⌜ Marked (now marks) (now offs) ⌝ }
+    ensures { λ r. ⌜ r ≡ listed off (now (offs .entry)) ⌝ }
+{
+    let k = mark_place(off);
+    if marks[k] == 0 {
+        return false;
+    }
+    contains(offs, off)
+}
+
+// How many rows stay, and how many bytes they have.
+pub struct Kept {
+    pub rows: usize,
+    pub bytes: usize,
+}
+
+// Takes out each of n pieces whose offset is listed; the first `used` bytes of the stream are in use.
+pub fn remove_pieces(a: &mut [u8], n: usize, used: usize, marks: &[u8], gone: &[u32]) -> Kept
+    requires { ⌜ (n ≤ maxPieces) × (areaBytes ≤ length (now a)) × (used ≤ streamBytes) × (total (rowsFrom (now a) 0 n) ≤ used) × Marked (now marks) (now gone) ⌝ }
+    ensures { λ r. ⌜ (r .rows ≡ length (keptRows (now (gone .entry)) (rowsFrom (now (a .entry)) 0 n))) × (r .bytes ≡ total (keptRows (now (gone .entry)) (rowsFrom (now (a .entry)) 0 n))) × (now (a .exit) ≡ overwrite (overwrite (now (a .entry)) 0 (keptBytes (now (gone .entry)) (rowsFrom (now (a .entry)) 0 n) (part (now (a .entry)) 0 used))) (place 0) (tableBytes (keptRows (now (gone .entry)) (rowsFrom (now (a .entry)) 0 n)))) ⌝ }
+{
+    let mut from: usize = 0;
+    let mut to: usize = 0;
+    let mut w: usize = 0;
+    let mut i = 0;
+    while i < n {
+        let r = load_row(a, i);
+        let off = r.off;
+        let len = r.len as usize;
+        if contains_marked(marks, gone, off) {
+            from = from + len;
+            i += 1;
+        } else {
+            shift_left(a, from, to, len);
+            store_row(a, w, r);
+            from = from + len;
+            to = to + len;
+            w += 1;
+            i += 1;
+        }
+    }
+    shift_left(a, from, to, used - from);
+    Kept { rows: w, bytes: to }
+}

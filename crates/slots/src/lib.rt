@@ -1,0 +1,196 @@
+// The frames of a burst: which pieces go, and where their bytes lie (`slots` of `data_burst`, sender.rs).
+use flight::contains_marked;
+use harq::Harq;
+use lookup::find;
+use table::Row;
+use table::load_row;
+use table::store_row;
+ghost use mathlib.Core.Path.{_≡_};
+ghost use mathlib.Core.List.{[]};
+ghost use Prim.Native.Nat.{ℕ, _+_, _≤_, _<_, min};
+ghost use lib.ListN.{length, take, getD};
+ghost use Rattle.laws.specs.Bytes.{overwrite};
+ghost use Rattle.harq.specs.Held.{incrementOf};
+ghost use Rattle.ledger.specs.Limits.{maxPieces, maxSlots, maxHeld, maxTaken};
+ghost use Rattle.table.specs.Layout.{areaBytes, streamBytes, place};
+ghost use Rattle.table.specs.Table.{rowsFrom, tableBytes, total};
+ghost use Rattle.flight.specs.Flight.{Marked};
+ghost use Rattle.slots.specs.Slots.{pushed, pushAll, incrementSlots, unheldSlots, chunkRows};
+
+// A frame: the piece's offset, the bits that go, the bits that the peer then holds, and where the bytes lie in the stream.
+pub struct Slot {
+    pub off: u32,
+    pub bits: u32,
+    pub held: u32,
+    pub start: u32,
+    pub len: u32,
+}
+
+// The frames of a burst; n of them.
+pub struct Slots {
+    pub off: [u32; 64],
+    pub bits: [u32; 64],
+    pub held: [u32; 64],
+    pub start: [u32; 64],
+    pub len: [u32; 64],
+    pub n: usize,
+}
+
+fn push(mut s: Slots, x: Slot) -> Slots
+    requires { ⌜ s .n < maxSlots ⌝ }
+    ensures { λ r. ⌜ r ≡ pushed s x ⌝ }
+{
+    let n = s.n;
+    s.off[n] = x.off;
+    s.bits[n] = x.bits;
+    s.held[n] = x.held;
+    s.start[n] = x.start;
+    s.len[n] = x.len;
+    s.n = n + 1;
+    s
+}
+
+// The increments of the pieces at `offs`, of which the peer holds `bits`.
+pub fn increments(
+    q: Harq,
+    slot: u32,
+    a: &[u8],
+    n: usize,
+    offs: &[u32],
+    bits: &[u32],
+    given: Slots,
+) -> Slots
+    requires { ⌜ (n ≤ maxPieces) × (areaBytes ≤ length (now a)) × (total (rowsFrom (now a) 0 n) ≤ streamBytes) × (given .n + length (now offs) ≤ maxSlots) × (length (now bits) ≡ length (now offs)) × ((j : ℕ) → j < length (now bits) → getD (now bits) j 0 + incrementOf q (getD (now bits) j 0) slot ≤ maxHeld) ⌝ }
+    ensures { λ r. ⌜ r ≡ pushAll given (incrementSlots q slot (rowsFrom (now (a .entry)) 0 n) (now (offs .entry)) (now (bits .entry))) ⌝ }
+{
+    let mut s = given;
+    let mut i = 0;
+    while i < offs.len() {
+        let off = offs[i];
+        let h = bits[i];
+        let more = q.increment(h, slot);
+        let p = find(a, n, off);
+        let start = p.start as u32;
+        let len = p.len as u32;
+        s = push(
+            s,
+            Slot {
+                off,
+                bits: more,
+                held: h + more,
+                start,
+                len,
+            },
+        );
+        i += 1;
+    }
+    s
+}
+
+// The oldest pieces that are not held, at most `room`, whole.
+pub fn old_pieces(
+    a: &[u8],
+    n: usize,
+    marks: &[u8],
+    held: &[u32],
+    room: usize,
+    bits: u32,
+    given: Slots,
+) -> Slots
+    requires { ⌜ (n ≤ maxPieces) × (areaBytes ≤ length (now a)) × (total (rowsFrom (now a) 0 n) ≤ streamBytes) × (given .n + room ≤ maxSlots) × Marked (now marks) (now held) ⌝ }
+    ensures { λ r. ⌜ r ≡ pushAll given (take room (unheldSlots (now (held .entry)) bits 0 (rowsFrom (now (a .entry)) 0 n))) ⌝ }
+{
+    let mut s = given;
+    let mut left = room;
+    let mut start: u32 = 0;
+    let mut i = 0;
+    while i < n {
+        if left == 0 {
+            return s;
+        }
+        let r = load_row(a, i);
+        let off = r.off;
+        let len = r.len;
+        if contains_marked(marks, held, off) {
+            start = start + len;
+            i += 1;
+        } else {
+            s = push(
+                s,
+                Slot {
+                    off,
+                    bits,
+                    held: bits,
+                    start,
+                    len,
+                },
+            );
+            left = left - 1;
+            start = start + len;
+            i += 1;
+        }
+    }
+    s
+}
+
+fn smaller(a: u32, b: u32) -> u32
+    ensures { λ r. ⌜ r ≡ min a b ⌝ }
+{
+    if a < b {
+        return a;
+    }
+    b
+}
+
+// The slots with the new pieces, how many rows there are then, and how many waiting bytes went.
+pub struct Added {
+    pub slots: Slots,
+    pub rows: usize,
+    pub bytes: usize,
+}
+
+// New pieces behind n rows, at most `room`, of at most max bytes each, of the w waiting bytes that lie from `at` on.
+pub fn new_pieces(
+    a: &mut [u8],
+    n: usize,
+    room: usize,
+    max: u32,
+    next: u32,
+    at: u32,
+    w: u32,
+    bits: u32,
+    given: Slots,
+) -> Added
+    requires { ⌜ (n + room ≤ maxPieces) × (areaBytes ≤ length (now a)) × (given .n + room ≤ maxSlots) × (1 ≤ max) × (next + w ≤ maxTaken) × (at + w ≤ streamBytes) ⌝ }
+    ensures { λ r. ⌜ (r .slots ≡ pushAll given (unheldSlots [] bits at (chunkRows room max next w))) × (r .rows ≡ n + length (chunkRows room max next w)) × (r .bytes ≡ total (chunkRows room max next w)) × (now (a .exit) ≡ overwrite (now (a .entry)) (place n) (tableBytes (chunkRows room max next w))) ⌝ }
+{
+    let mut s = given;
+    let mut left = room;
+    let mut done: u32 = 0;
+    let mut i = n;
+    while (0 < left) & (done < w) {
+        let rest = w - done;
+        let len = smaller(max, rest);
+        let off = next + done;
+        let start = at + done;
+        store_row(a, i, Row { off, len });
+        s = push(
+            s,
+            Slot {
+                off,
+                bits,
+                held: bits,
+                start,
+                len,
+            },
+        );
+        done = done + len;
+        left = left - 1;
+        i += 1;
+    }
+    Added {
+        slots: s,
+        rows: i,
+        bytes: done as usize,
+    }
+}

@@ -1,0 +1,142 @@
+// The sound record's tests of the table and of lists of offsets and bits.
+use flight::contains;
+use table::load_row;
+ghost use mathlib.Core.Path.{_≡_};
+ghost use mathlib.Core.Bool.{true};
+ghost use Prim.Native.Nat.{_≤_};
+ghost use lib.ListN.{length};
+ghost use Rattle.laws.specs.Lists.{listed};
+ghost use Rattle.ledger.specs.Limits.{maxPieces, maxPayload};
+ghost use Rattle.table.specs.Layout.{areaBytes};
+ghost use Rattle.table.specs.Table.{rowsFrom};
+ghost use Rattle.sound.specs.Sound.{ascends, rowOffs, tableOk, allFlying, heldBitsOk, sentBitsOk, noneListed};
+
+// The rows ascend, do not overlap, have 1 to long bytes, end by next, have flying bytes together, and can be cut to short in 2,048 pieces.
+pub fn table_ok(a: &[u8], n: usize, short: u32, long: u32, next: u32, flying: u32) -> bool
+    requires { ⌜ (n ≤ maxPieces) × (areaBytes ≤ length (now a)) × (1 ≤ short) × (short ≤ maxPayload) ⌝ }
+    ensures { λ r. ⌜ r ≡ tableOk short long next flying (rowsFrom (now (a .entry)) 0 n) ⌝ }
+{
+    let mut from: u64 = 0;
+    let mut sum: u64 = 0;
+    let mut shorts: u64 = 0;
+    let mut i = 0;
+    while i < n {
+        let r = load_row(a, i);
+        let off = r.off as u64;
+        let len = r.len as u64;
+        if off < from {
+            return false;
+        }
+        if len == 0 {
+            return false;
+        }
+        if long < r.len {
+            return false;
+        }
+        from = off + len;
+        sum = sum + len;
+        shorts = shorts + (len + (short as u64 - 1)) / short as u64;
+        i += 1;
+    }
+    if (next as u64) < from {
+        return false;
+    }
+    if sum != flying as u64 {
+        return false;
+    }
+    shorts <= 2048
+}
+
+// Whether a row has this offset.
+fn is_flying(a: &[u8], n: usize, off: u32, long: u32, next: u32) -> bool
+    requires { ⌜ (n ≤ maxPieces) × (areaBytes ≤ length (now a)) × (ascends long next 0 (rowsFrom (now a) 0 n) ≡ true) ⌝ }
+    ensures { λ r. ⌜ r ≡ listed off (rowOffs (rowsFrom (now (a .entry)) 0 n)) ⌝ }
+{
+    let mut low = 0;
+    let mut high = n;
+    while low < high {
+        let mid = low + (high - low) / 2;
+        let r = load_row(a, mid);
+        if r.off == off {
+            return true;
+        }
+        if r.off < off {
+            low = mid + 1;
+        } else {
+            high = mid;
+        }
+    }
+    false
+}
+
+// Whether xs are distinct, each the offset of a row.
+pub fn all_flying(a: &[u8], n: usize, xs: &[u32], long: u32, next: u32) -> bool
+    requires { ⌜ (n ≤ maxPieces) × (areaBytes ≤ length (now a)) × (ascends long next 0 (rowsFrom (now a) 0 n) ≡ true) ⌝ }
+    ensures { λ r. ⌜ r ≡ allFlying (now (xs .entry)) (rowOffs (rowsFrom (now (a .entry)) 0 n)) ⌝ }
+{
+    let mut i = 0;
+    while i < xs.len() {
+        let x = xs[i];
+        i += 1;
+        if !is_flying(a, n, x, long, next) {
+            return false;
+        }
+        if contains(&xs[i..], x) {
+            return false;
+        }
+    }
+    true
+}
+
+// Whether each has 1 to below `top` bits.
+pub fn held_bits_ok(bits: &[u32], top: u32) -> bool
+    ensures { λ r. ⌜ r ≡ heldBitsOk top (now (bits .entry)) ⌝ }
+{
+    let mut i = 0;
+    while i < bits.len() {
+        let b = bits[i];
+        if b == 0 {
+            return false;
+        }
+        if top <= b {
+            return false;
+        }
+        i += 1;
+    }
+    true
+}
+
+// Whether each frame has 1 to 16,384 bits, and held bits from its bits to 49,151.
+pub fn sent_bits_ok(bits: &[u32], held: &[u32]) -> bool
+    requires { ⌜ length (now bits) ≡ length (now held) ⌝ }
+    ensures { λ r. ⌜ r ≡ sentBitsOk (now (bits .entry)) (now (held .entry)) ⌝ }
+{
+    let mut i = 0;
+    while i < bits.len() {
+        let b = bits[i];
+        let h = held[i];
+        if !((0 < b) & (b <= 16384)) {
+            return false;
+        }
+        if !((b <= h) & (h <= 49151)) {
+            return false;
+        }
+        i += 1;
+    }
+    true
+}
+
+// Whether none of xs is among ys.
+pub fn none_listed(xs: &[u32], ys: &[u32]) -> bool
+    ensures { λ r. ⌜ r ≡ noneListed (now (xs .entry)) (now (ys .entry)) ⌝ }
+{
+    let mut i = 0;
+    while i < xs.len() {
+        let x = xs[i];
+        if contains(ys, x) {
+            return false;
+        }
+        i += 1;
+    }
+    true
+}
