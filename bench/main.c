@@ -1,4 +1,4 @@
-/* Times of the check sum and of a burst's frames, beside a bit by bit loop like the Rust's. */
+/* Times of the check sum and of a burst's frames, beside the Rust's bit by bit loop. */
 #include <stddef.h>
 #include <stdint.h>
 #include <stdio.h>
@@ -9,15 +9,8 @@
 uint32_t vanitycrow_crc32(const uint8_t *bytes, size_t len);
 void vanitycrow_frames(uint8_t *out, size_t out_len, size_t count, size_t size, const uint8_t *payload, size_t payload_len);
 
-/* CRC-32 of frame.rs: reflected polynomial, eight shifts a byte. */
-static uint32_t bitwise(const uint8_t *bytes, size_t len) {
-    uint32_t crc = ~0u;
-    for (size_t i = 0; i < len; i++) {
-        crc ^= bytes[i];
-        for (int k = 0; k < 8; k++) crc = (crc >> 1) ^ (0xEDB88320u & (0u - (crc & 1)));
-    }
-    return ~crc;
-}
+/* bitwise.rs: the check sum bit by bit, as rustc builds the form of frame.rs. */
+uint32_t bitwise(const uint8_t *bytes, size_t len);
 
 enum { SAMPLES = 201, SIZE = 180, FRAMES = 64, PAYLOAD = 170 };
 
@@ -60,9 +53,9 @@ int main(void) {
         return 1;
     }
     double tables = measure("crc32 of 180 bytes", by_tables, 200);
-    double bits = measure("crc32 of 180 bytes, bit by bit", by_bits, 50);
+    double bits = measure("crc32 of 180 bytes, bit by bit, Rust", by_bits, 50);
     double burst = measure("64 frames of 180 bytes", frames, 10);
-    printf("crc32 is %.1f times as fast as bit by bit (target: 5)\n", bits / tables);
-    printf("64 frames take %.1f us (target: under 15)\n", burst / 1000);
+    printf("crc32, its 8 KB of tables copied at each call, is %.1f times as fast as the Rust's loop (target: 5): %s\n", bits / tables, bits >= 5 * tables ? "met" : "missed");
+    printf("64 frames, the tables lent once, take %.1f us (target: under 15): %s\n", burst / 1000, burst < 15000 ? "met" : "missed");
     return 0;
 }
