@@ -102,7 +102,7 @@ placed-increments q b rs (o ∷ os) (h ∷ hs) l =
 
 -- ---- whole pieces
 
-rowOffs-append : (rs ss : List Row) → rowOffs (rs ++ ss) ≡ rowOffs rs ++ rowOffs ss
+pub rowOffs-append : (rs ss : List Row) → rowOffs (rs ++ ss) ≡ rowOffs rs ++ rowOffs ss
 rowOffs-append [] ss = refl
 rowOffs-append (r ∷ rs) ss = ap (λ (l : List ℕ). r .off ∷ l) (rowOffs-append rs ss)
 
