@@ -98,18 +98,18 @@ sent-append (o ∷ os) (b ∷ bs) (h ∷ hs) ps cs ks e f =
 
 -- ---- slots
 
-pub slots-sent : (xs : List Slot) → sentOf (map (λ (x : Slot). x .off) xs) (map (λ (x : Slot). x .bits) xs) (map (λ (x : Slot). x .held) xs) ≡ sentSlots xs
-slots-sent [] = refl
-slots-sent (x ∷ xs) = ap (λ (l : List Sent). record { off = x .off; bits = x .bits; held = x .held } ∷ l) (slots-sent xs)
+pub sentSlots-is : (xs : List Slot) → sentOf (map (λ (x : Slot). x .off) xs) (map (λ (x : Slot). x .bits) xs) (map (λ (x : Slot). x .held) xs) ≡ sentSlots xs
+sentSlots-is [] = refl
+sentSlots-is (x ∷ xs) = ap (λ (l : List Sent). record { off = x .off; bits = x .bits; held = x .held } ∷ l) (sentSlots-is xs)
 
-pub slots-offs : (xs : List Slot) → sentOffs (sentSlots xs) ≡ map (λ (x : Slot). x .off) xs
-slots-offs xs = map-map (λ (f : Sent). f .off) (λ (x : Slot). record { off = x .off; bits = x .bits; held = x .held }) xs
+pub sentSlots-offs : (xs : List Slot) → sentOffs (sentSlots xs) ≡ map (λ (x : Slot). x .off) xs
+sentSlots-offs xs = map-map (λ (f : Sent). f .off) (λ (x : Slot). record { off = x .off; bits = x .bits; held = x .held }) xs
 
-pub slots-length : (xs : List Slot) → length (sentSlots xs) ≡ length xs
-slots-length xs = length-map xs (λ (x : Slot). record { off = x .off; bits = x .bits; held = x .held })
+pub sentSlots-length : (xs : List Slot) → length (sentSlots xs) ≡ length xs
+sentSlots-length xs = length-map xs (λ (x : Slot). record { off = x .off; bits = x .bits; held = x .held })
 
-pub slots-append : (xs ys : List Slot) → sentSlots (xs ++ ys) ≡ sentSlots xs ++ sentSlots ys
-slots-append xs ys = map-append (λ (x : Slot). record { off = x .off; bits = x .bits; held = x .held }) xs ys
+pub sentSlots-append : (xs ys : List Slot) → sentSlots (xs ++ ys) ≡ sentSlots xs ++ sentSlots ys
+sentSlots-append xs ys = map-append (λ (x : Slot). record { off = x .off; bits = x .bits; held = x .held }) xs ys
 
-pub slots-take : (n : ℕ) (xs : List Slot) → sentSlots (take n xs) ≡ take n (sentSlots xs)
-slots-take n xs = map-take (λ (x : Slot). record { off = x .off; bits = x .bits; held = x .held }) n xs
+pub sentSlots-take : (n : ℕ) (xs : List Slot) → sentSlots (take n xs) ≡ take n (sentSlots xs)
+sentSlots-take n xs = map-take (λ (x : Slot). record { off = x .off; bits = x .bits; held = x .held }) n xs

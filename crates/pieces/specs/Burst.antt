@@ -1,0 +1,33 @@
+-- The slots of a burst out of the re-cut rows, and where their bytes lie. Definitions only.
+use mathlib.Core.Path.{_≡_}
+use mathlib.Core.List.{List, [], _∷_, _++_}
+use mathlib.Core.Bool.{true}
+use Prim.Native.Nat.{ℕ, _-_}
+use lib.ListN.{length, take}
+use Rattle.harq.specs.declared.Harq.{Harq}
+use Rattle.ledger.specs.Ledger.{Plan}
+use Rattle.table.specs.declared.Row.{Row}
+use Rattle.table.specs.Table.{total}
+use Rattle.lookup.specs.Find.{findFrom}
+use Rattle.slots.specs.Slots.{unheldSlots, chunkRows, incrementSlots}
+use Rattle.slots.specs.declared.Slot.{Slot}
+
+-- os and hs: the held list that the burst keeps
+module _ (g : Plan) (rs : List Row) (os : List ℕ) where
+  -- the oldest pieces that go whole
+  abbrev pub oldSlots : List Slot
+  oldSlots = take (g .room) (unheldSlots os (g .slot) 0 rs)
+
+  -- the rows of new pieces, of w waiting bytes
+  abbrev pub newRows : ℕ → ℕ → List Row
+  newRows next w = chunkRows (g .room - length oldSlots) (g .payload) next w
+
+  -- "Parity first, then oldest pieces, then new"
+  abbrev pub burstSlots : Harq → List ℕ → ℕ → ℕ → List Slot
+  burstSlots q hs next w =
+      incrementSlots q (g .slot) rs (take (g .parity) os) (take (g .parity) hs) ++ (oldSlots ++ unheldSlots [] (g .slot) (total rs) (newRows next w))
+
+-- each slot has its bytes where the first row with its offset has them
+abbrev pub Placed : List Row → List Slot → Type 0
+Placed rs [] = Unit {0}
+Placed rs (x ∷ xs) = (findFrom (x .off) 0 rs ≡ record { here = true; start = x .start; len = x .len }) × Placed rs xs
