@@ -1,6 +1,7 @@
 // The frames of a burst: which pieces go, and where their bytes lie (`slots` of `data_burst`, sender.rs).
 use flight::contains_marked;
 use harq::Harq;
+use harq::MAX_SLOTS;
 use lookup::find;
 use table::Row;
 use table::load_row;
@@ -26,11 +27,11 @@ pub struct Slot {
 
 // The frames of a burst; n of them.
 pub struct Slots {
-    pub off: [u32; 64],
-    pub bits: [u32; 64],
-    pub held: [u32; 64],
-    pub start: [u32; 64],
-    pub len: [u32; 64],
+    pub off: [u32; MAX_SLOTS],
+    pub bits: [u32; MAX_SLOTS],
+    pub held: [u32; MAX_SLOTS],
+    pub start: [u32; MAX_SLOTS],
+    pub len: [u32; MAX_SLOTS],
     pub n: usize,
 }
 
