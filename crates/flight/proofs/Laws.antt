@@ -3,22 +3,24 @@
 use mathlib.Core.Path.{_≡_, refl, sym, ap, ap₂, _∙_}
 use mathlib.Core.List.{List, [], _∷_, _++_}
 use mathlib.Core.Bool.{Bool, true, false, cond, _||_}
-use Prim.Native.Nat.{ℕ, suc, _+_, _-_, _≤_, _<_, suc-le-suc}
-use native.Mathlib.Nat.{zero-add, sub-zero, le-refl}
+use Prim.Native.Nat.{ℕ, zero, suc, _+_, _-_, _≤_, _<_, suc-le-suc}
+use native.Mathlib.Nat.{zero-add, sub-zero, le-refl, not-suc-le-zero}
 use native.Mathlib.Omega.{arith}
 use native.Mathlib.Numerals.{add-one}
-use lib.ListN.{length, take, drop, getD, set, length-append, length-take, length-drop}
+use lib.ListN.{length, take, drop, getD, set, length-append, length-take, length-drop, length-set, drop-of-length-le}
 use lib.Seq.{drop-cons, getD-set-same, getD-set-other, take-take, drop-at}
 use lib.Dec.{eqb}
 use borrow.Author.Tests.{ne-eqb, eqb-true, eqb-false}
 use Rattle.laws.specs.Bytes.{overwrite, part}
 use Rattle.laws.proofs.Bytes.{length-over, over-nil, over-cat, over-comm, part-before, part-after, part-add, length-part}
 use Rattle.table.specs.Layout.{place, streamBytes, areaBytes}
-use Rattle.table.specs.Table.{rowAt, rowsFrom, tableBytes, total}
+use Rattle.table.specs.Table.{rowAt, rowsFrom, tableBytes, withRows, total}
 use Rattle.table.specs.declared.Row.{Row}
 use Rattle.table.proofs.Laws.{rows-turn, rows-none, rows-after}
 use Rattle.laws.specs.Lists.{listed}
-use Rattle.flight.specs.Flight.{markCount, markPlace, Marked, keptRows, keptBytes}
+use Rattle.laws.proofs.Picks.{test}
+use Rattle.flight.specs.Flight.{markCount, markPlace, markAll, Marked, keptRows, keptBytes, removedPieces}
+use Rattle.flight.specs.declared.Kept.{Kept}
 
 -- ---- marks
 
@@ -34,18 +36,47 @@ pub unmarked : (marks xs : List ℕ) (o k : ℕ) → k ≡ markPlace o → Marke
 unmarked marks xs o k p m z = listed-none o xs (λ j h e. let q : _≡_ {A = ℕ} 0 1 = sym z ∙ ap (λ (i : ℕ). getD marks i 0) (p ∙ ap markPlace (sym e)) ∙ m .set j h in omega arith)
 
 -- one mark more
-pub mark-turn : (marks xs : List ℕ) (i k : ℕ) → length marks ≡ markCount → k ≡ markPlace (getD xs i 0) → k < markCount → ((j : ℕ) → j < i → getD marks (markPlace (getD xs j 0)) 0 ≡ 1)
-    → (j : ℕ) → j < i + 1 → getD (set marks k 1) (markPlace (getD xs j 0)) 0 ≡ 1
-mark-turn marks xs i k l e h f j b = go (eqb (markPlace (getD xs j 0)) k) refl
-  where
-    go : (t : Bool) → eqb (markPlace (getD xs j 0)) k ≡ t → getD (set marks k 1) (markPlace (getD xs j 0)) 0 ≡ 1
-    go true q = ap (λ (m : ℕ). getD (set marks k 1) m 0) (eqb-true _ _ q) ∙ (getD-set-same marks k 1 0 (omega arith))
-    go false q =
-        let n : markPlace (getD xs j 0) ≡ k → ⊥ = eqb-false _ _ q in
-        getD-set-other marks k (markPlace (getD xs j 0)) 1 0 n ∙ f j (lt j i b (λ (z : j ≡ i). n (ap (λ (a : ℕ). markPlace (getD xs a 0)) z ∙ sym e)))
-      where
-        lt : (j i : ℕ) → j < i + 1 → (j ≡ i → ⊥) → j < i
-        lt j i b n = omega (arith, n)
+pub mark-turn : (marks xs : List ℕ) (i k : ℕ) → i < length xs → k ≡ markPlace (getD xs i 0) → markAll marks (drop i xs) ≡ markAll (set marks k 1) (drop (i + 1) xs)
+unfolding markAll
+mark-turn marks xs i k h e =
+    ap (markAll marks) (drop-cons xs i 0 h ∙ ap (λ (k : ℕ). getD xs i 0 ∷ drop k xs) (sym (add-one i))) ∙ ap (λ (m : ℕ). markAll (set marks m 1) (drop (i + 1) xs)) (sym e)
+
+pub mark-end : (marks xs : List ℕ) (i : ℕ) → length xs ≤ i → markAll marks (drop i xs) ≡ marks
+unfolding markAll
+mark-end marks xs i h = ap (markAll marks) (drop-of-length-le xs h)
+
+-- a mark that is set stays
+set-stays : (marks : List ℕ) (j k : ℕ) → k < length marks → getD marks k 0 ≡ 1 → getD (set marks j 1) k 0 ≡ 1
+set-stays marks j k h e =
+    test (eqb k j)
+    (λ q. ap (λ (m : ℕ). getD (set marks m 1) k 0) (sym (eqb-true k j q)) ∙ getD-set-same marks k 1 0 h)
+    (λ q. getD-set-other marks j k 1 0 (eqb-false k j q) ∙ e)
+
+mark-stays : (marks xs : List ℕ) (k : ℕ) → k < length marks → getD marks k 0 ≡ 1 → getD (markAll marks xs) k 0 ≡ 1
+unfolding markAll
+mark-stays marks [] k h e = e
+mark-stays marks (x ∷ xs) k h e = mark-stays (set marks (markPlace x) 1) xs k (omega (arith, length-set marks (markPlace x) 1)) (set-stays marks (markPlace x) k h e)
+
+pub length-marks : (marks xs : List ℕ) → length (markAll marks xs) ≡ length marks
+unfolding markAll
+length-marks marks [] = refl
+length-marks marks (x ∷ xs) = length-marks (set marks (markPlace x) 1) xs ∙ length-set marks (markPlace x) 1
+
+place-in : (o : ℕ) → markPlace o < markCount
+unfolding markPlace
+place-in o = omega arith
+
+marks-set : (marks xs : List ℕ) → length marks ≡ markCount → (j : ℕ) → j < length xs → getD (markAll marks xs) (markPlace (getD xs j 0)) 0 ≡ 1
+unfolding markAll
+marks-set marks [] l j h = absurd (not-suc-le-zero h)
+marks-set marks (x ∷ xs) l zero h =
+    let p = place-in x in
+    mark-stays (set marks (markPlace x) 1) xs (markPlace x) (omega (arith, length-set marks (markPlace x) 1)) (getD-set-same marks (markPlace x) 1 0 (omega arith))
+marks-set marks (x ∷ xs) l (suc j) h = marks-set (set marks (markPlace x) 1) xs (length-set marks (markPlace x) 1 ∙ l) j (omega arith)
+
+-- marked offsets have their marks, whatever other marks there are
+pub marked-all : (marks xs : List ℕ) → length marks ≡ markCount → Marked (markAll marks xs) xs
+marked-all marks xs l = record { size = length-marks marks xs ∙ l; set = marks-set marks xs l }
 
 -- ---- one pass
 
@@ -207,13 +238,19 @@ module _ (a₀ : List ℕ) (n used : ℕ) (gone a : List ℕ) (from to w i : ℕ
 
 -- the loop's end, and the waiting bytes move down
 pub removing-end : (a₀ : List ℕ) (n used : ℕ) (gone a : List ℕ) (from to w i : ℕ) → Removing a₀ n used gone a from to w i → n ≤ i
-    → (w ≡ length (keptRows gone (rowsFrom a₀ 0 n))) × (to ≡ total (keptRows gone (rowsFrom a₀ 0 n)))
-    × (overwrite a to (part a from (used - from)) ≡ overwrite (overwrite a₀ 0 (keptBytes gone (rowsFrom a₀ 0 n) (part a₀ 0 used))) (place 0) (tableBytes (keptRows gone (rowsFrom a₀ 0 n))))
-unfolding keptRows keptBytes total
+    → (record { rows = w; bytes = to }, overwrite a to (part a from (used - from))) ≡ removedPieces gone n used a₀
+unfolding keptRows keptBytes total removedPieces
 removing-end a₀ n used gone a from to w i s h =
     let z = rows-none a i n h in
-    let zr : keptRows gone (rowsFrom a i (n - i)) ≡ [] = ap (keptRows gone) z in (
-      omega (arith, s .rows, ap length zr),
-      omega (arith, s .bytes, ap total zr),
-      sym (s .same ∙ ap (λ (x : List Row). overwrite (overwrite a to (keptBytes gone x (part a from (used - from)))) (place w) (tableBytes (keptRows gone x))) z ∙ over-nil _ _) ∙ simp sub-zero,
-    )
+    let zr : keptRows gone (rowsFrom a i (n - i)) ≡ [] = ap (keptRows gone) z in
+    let rows : w ≡ length (keptRows gone (rowsFrom a₀ 0 n)) = omega (arith, s .rows, ap length zr) in
+    let bytes : to ≡ total (keptRows gone (rowsFrom a₀ 0 n)) = omega (arith, s .bytes, ap total zr) in
+    ap₂ (λ (k : Kept) (b : List ℕ). (k, b)) (ap₂ (λ (x y : ℕ). record { rows = x; bytes = y }) rows bytes)
+    (sym (s .same ∙ ap (λ (x : List Row). overwrite (overwrite a to (keptBytes gone x (part a from (used - from)))) (place w) (tableBytes (keptRows gone x))) z ∙ over-nil _ _) ∙ simp sub-zero)
+
+-- what `remove_pieces` leaves, fact by fact
+pub removed-facts : (gone : List ℕ) (n used : ℕ) (a : List ℕ) (k : Kept) (b : List ℕ) → (k, b) ≡ removedPieces gone n used a
+    → (k .rows ≡ length (keptRows gone (rowsFrom a 0 n))) × (k .bytes ≡ total (keptRows gone (rowsFrom a 0 n)))
+    × (b ≡ withRows (overwrite a 0 (keptBytes gone (rowsFrom a 0 n) (part a 0 used))) 0 (keptRows gone (rowsFrom a 0 n)))
+unfolding removedPieces
+removed-facts gone n used a k b e = (ap (λ (x : Kept × List ℕ). x .0 .rows) e, ap (λ (x : Kept × List ℕ). x .0 .bytes) e, ap (λ (x : Kept × List ℕ). x .1) e)

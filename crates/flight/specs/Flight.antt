@@ -3,9 +3,12 @@ use mathlib.Core.List.{List, [], _∷_, _++_}
 use mathlib.Core.Path.{_≡_}
 use mathlib.Core.Bool.{cond}
 use Prim.Native.Nat.{ℕ, _*_, _/_, _%_, _<_}
-use lib.ListN.{length, take, drop, getD}
+use lib.ListN.{length, take, drop, getD, set}
 use Rattle.laws.specs.Lists.{listed}
+use Rattle.laws.specs.Bytes.{overwrite, part}
+use Rattle.table.specs.Table.{rowsFrom, withRows, total}
 use Rattle.table.specs.declared.Row.{Row}
+use Rattle.flight.specs.declared.Kept.{Kept}
 
 -- ---- marks
 
@@ -17,7 +20,12 @@ markCount = 2048
 unfoldable pub markPlace : ℕ → ℕ
 markPlace o = o * 2654435761 / 2097152 % markCount
 
--- every listed offset has its mark
+-- each listed offset's mark set to 1, one after the other
+unfoldable pub markAll : List ℕ → List ℕ → List ℕ
+markAll marks [] = marks
+markAll marks (x ∷ xs) = markAll (set marks (markPlace x) 1) xs
+
+-- every listed offset has its mark: so it is after `markAll`, whatever other marks there are (proofs/Laws.antt)
 pub record Marked (marks xs : List ℕ) : Type 0 where
   pub size : length marks ≡ markCount
   pub set : (j : ℕ) → j < length xs → getD marks (markPlace (getD xs j 0)) 0 ≡ 1
@@ -33,3 +41,10 @@ keptRows xs (r ∷ rs) = cond (listed (r .off) xs) (keptRows xs rs) (r ∷ keptR
 unfoldable pub keptBytes : List ℕ → List Row → List ℕ → List ℕ
 keptBytes xs [] st = st
 keptBytes xs (r ∷ rs) st = cond (listed (r .off) xs) (keptBytes xs rs (drop (r .len) st)) (take (r .len) st ++ keptBytes xs rs (drop (r .len) st))
+
+-- the first n rows without the listed ones: how many rows and bytes stay, and the work area, `used` bytes of whose stream are in use
+unfoldable pub removedPieces : List ℕ → ℕ → ℕ → List ℕ → Kept × List ℕ
+removedPieces gone n used a = (
+  record { rows = length (keptRows gone (rowsFrom a 0 n)); bytes = total (keptRows gone (rowsFrom a 0 n)) },
+  withRows (overwrite a 0 (keptBytes gone (rowsFrom a 0 n) (part a 0 used))) 0 (keptRows gone (rowsFrom a 0 n)),
+)

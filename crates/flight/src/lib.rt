@@ -5,23 +5,25 @@ use table::store_row;
 ghost use mathlib.Core.Path.{_≡_};
 ghost use Prim.Native.Nat.{_≤_, _<_};
 ghost use lib.ListN.{length};
-ghost use Rattle.laws.specs.Bytes.{overwrite, part};
 ghost use Rattle.laws.specs.Lists.{listed};
 ghost use Rattle.ledger.specs.Limits.{maxPieces};
-ghost use Rattle.table.specs.Layout.{areaBytes, streamBytes, place};
-ghost use Rattle.table.specs.Table.{rowsFrom, tableBytes, total};
-ghost use Rattle.flight.specs.Flight.{markCount, markPlace, Marked, keptRows, keptBytes};
+ghost use Rattle.table.specs.Layout.{areaBytes, streamBytes};
+ghost use Rattle.table.specs.Table.{rowsFrom, total};
+ghost use Rattle.flight.specs.Flight.{markCount, markPlace, markAll, Marked, removedPieces};
+
+// Marks of a list of offsets.
+const MARKS: u64 = 2048;
 
 fn mark_place(off: u32) -> usize
     ensures { λ r. ⌜ (r ≡ markPlace off) × (r < markCount) ⌝ }
 {
-    (off as u64 * 2654435761 / 2097152 % 2048) as usize
+    (off as u64 * 2654435761 / 2097152 % MARKS) as usize
 }
 
 // Marks each offset of `offs`.
 pub fn mark(marks: &mut [u8], offs: &[u32])
     requires { ⌜ length (now marks) ≡ markCount ⌝ }
-    ensures { λ _. ⌜ Marked (now (marks .exit)) (now (offs .entry)) ⌝ }
+    ensures { λ _. ⌜ now (marks .exit) ≡ markAll (now (marks .entry)) (now (offs .entry)) ⌝ }
 {
     let mut i = 0;
     while i < offs.len() {
@@ -31,18 +33,17 @@ pub fn mark(marks: &mut [u8], offs: &[u32])
     }
 }
 
-// Whether `off` is among `offs`.
+// Whether `off` is among `offs`. It reads them all, several at a time.
 pub fn contains(offs: &[u32], off: u32) -> bool
     ensures { λ r. ⌜ r ≡ listed off (now (offs .entry)) ⌝ }
 {
+    let mut found = false;
     let mut i = 0;
     while i < offs.len() {
-        if off == offs[i] {
-            return true;
-        }
+        found = found | (off == offs[i]);
         i += 1;
     }
-    false
+    found
 }
 
 // The same, where most offsets that are not there have no mark.
@@ -66,7 +67,7 @@ pub struct Kept {
 // Takes out each of n pieces whose offset is listed; the first `used` bytes of the stream are in use.
 pub fn remove_pieces(a: &mut [u8], n: usize, used: usize, marks: &[u8], gone: &[u32]) -> Kept
     requires { ⌜ (n ≤ maxPieces) × (areaBytes ≤ length (now a)) × (used ≤ streamBytes) × (total (rowsFrom (now a) 0 n) ≤ used) × Marked (now marks) (now gone) ⌝ }
-    ensures { λ r. ⌜ (r .rows ≡ length (keptRows (now (gone .entry)) (rowsFrom (now (a .entry)) 0 n))) × (r .bytes ≡ total (keptRows (now (gone .entry)) (rowsFrom (now (a .entry)) 0 n))) × (now (a .exit) ≡ overwrite (overwrite (now (a .entry)) 0 (keptBytes (now (gone .entry)) (rowsFrom (now (a .entry)) 0 n) (part (now (a .entry)) 0 used))) (place 0) (tableBytes (keptRows (now (gone .entry)) (rowsFrom (now (a .entry)) 0 n)))) ⌝ }
+    ensures { λ r. ⌜ (r, now (a .exit)) ≡ removedPieces (now (gone .entry)) n used (now (a .entry)) ⌝ }
 {
     let mut from: usize = 0;
     let mut to: usize = 0;

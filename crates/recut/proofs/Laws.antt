@@ -13,11 +13,11 @@ use borrow.Author.Tests.{le-leb, lt-leb, leb-true, leb-false}
 use Rattle.laws.specs.Bytes.{overwrite}
 use Rattle.laws.proofs.Bytes.{over-cat, over-front}
 use Rattle.table.specs.Layout.{place}
-use Rattle.table.specs.Table.{rowAt, rowsFrom, tableBytes}
+use Rattle.table.specs.Table.{rowAt, rowsFrom, tableBytes, withRows}
 use Rattle.table.specs.declared.Row.{Row}
 use Rattle.table.proofs.Laws.{rows-turn, rows-add, length-rows, length-table, table-cat, rows-before, rows-after}
 use Rattle.laws.proofs.Picks.{and-first, and-second}
-use Rattle.recut.specs.Recut.{row, cutRows, cutRow, splitRows, joinsRow, mergeRowsFrom}
+use Rattle.recut.specs.Recut.{row, cutRows, cutRow, splitRows, splitTable, joinsRow, mergeRowsFrom, mergeRows, mergeTable}
 
 -- ---- one piece
 
@@ -216,3 +216,13 @@ module _ (max : ℕ) (held : List ℕ) (p q : Row) (a : List ℕ) (i n w : ℕ) 
 
 pub joins-fits : (held : List ℕ) (max : ℕ) (p q : Row) → joinsRow held max p q ≡ true → p .len + q .len ≤ max
 joins-fits held max p q h = leb-true _ _ (and-first (leb (p .len + q .len) max) _ (and-second (eqb (p .off + p .len) (q .off)) _ h))
+
+-- ---- what `split_table` and `merge_table` leave, fact by fact
+
+pub split-facts : (max n : ℕ) (a : List ℕ) (m : ℕ) (b : List ℕ) → (m, b) ≡ splitTable max n a → (m ≡ length (splitRows max (rowsFrom a 0 n))) × (b ≡ withRows a 0 (splitRows max (rowsFrom a 0 n)))
+unfolding splitTable
+split-facts max n a m b e = (ap (λ (x : ℕ × List ℕ). x .0) e, ap (λ (x : ℕ × List ℕ). x .1) e)
+
+pub merge-facts : (held : List ℕ) (max n : ℕ) (a : List ℕ) (m : ℕ) (b : List ℕ) → (m, b) ≡ mergeTable held max n a → (m ≡ length (mergeRows held max (rowsFrom a 0 n))) × (b ≡ withRows a 0 (mergeRows held max (rowsFrom a 0 n)))
+unfolding mergeTable
+merge-facts held max n a m b e = (ap (λ (x : ℕ × List ℕ). x .0) e, ap (λ (x : ℕ × List ℕ). x .1) e)

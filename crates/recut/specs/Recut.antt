@@ -2,12 +2,18 @@
 use mathlib.Core.List.{List, [], _∷_, _++_}
 use mathlib.Core.Bool.{Bool, cond, not, _&&_}
 use Prim.Native.Nat.{ℕ, zero, suc, _+_, _-_}
+use lib.ListN.{length}
 use lib.Dec.{leb, eqb}
 use Rattle.laws.specs.Lists.{listed}
+use Rattle.table.specs.Table.{rowsFrom, withRows}
 use Rattle.table.specs.declared.Row.{Row}
 
 abbrev pub row : ℕ → ℕ → Row
 row o n = record { off = o; len = n }
+
+-- how many rows there are, and the work area with these rows for its table
+abbrev pub newTable : List ℕ → List Row → ℕ × List ℕ
+newTable a rs = (length rs, withRows a 0 rs)
 
 -- ---- cut
 
@@ -23,6 +29,10 @@ unfoldable pub splitRows : ℕ → List Row → List Row
 splitRows max [] = []
 splitRows max (r ∷ rs) = cutRow max r ++ splitRows max rs
 
+-- the first n rows cut
+unfoldable pub splitTable : ℕ → ℕ → List ℕ → ℕ × List ℕ
+splitTable max n a = newTable a (splitRows max (rowsFrom a 0 n))
+
 -- ---- merged
 
 -- q joins p: q starts where p ends, the two fit, and neither is held
@@ -37,3 +47,7 @@ mergeRowsFrom held max p (q ∷ rs) = cond (joinsRow held max p q) (mergeRowsFro
 unfoldable pub mergeRows : List ℕ → ℕ → List Row → List Row
 mergeRows held max [] = []
 mergeRows held max (p ∷ rs) = mergeRowsFrom held max p rs
+
+-- the first n rows merged
+unfoldable pub mergeTable : List ℕ → ℕ → ℕ → List ℕ → ℕ × List ℕ
+mergeTable held max n a = newTable a (mergeRows held max (rowsFrom a 0 n))

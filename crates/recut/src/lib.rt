@@ -11,7 +11,7 @@ ghost use Rattle.ledger.specs.Limits.{maxPieces, maxTaken};
 ghost use Rattle.table.specs.Layout.{areaBytes, place};
 ghost use Rattle.table.specs.Table.{rowAt, rowsFrom, tableBytes};
 ghost use Rattle.flight.specs.Flight.{Marked};
-ghost use Rattle.recut.specs.Recut.{cutRows, splitRows, joinsRow, mergeRows};
+ghost use Rattle.recut.specs.Recut.{cutRows, splitRows, splitTable, joinsRow, mergeTable};
 
 // How many rows a piece of n bytes becomes.
 fn cut_count(n: u32, max: u32) -> usize
@@ -60,7 +60,7 @@ fn store_cut(a: &mut [u8], w: usize, off: u32, len: u32, max: u32)
 // Cuts every piece that is longer than max, and returns how many rows there are then.
 pub fn split_table(a: &mut [u8], n: usize, max: u32) -> usize
     requires { ⌜ (n ≤ maxPieces) × (areaBytes ≤ length (now a)) × (1 ≤ max) × (length (splitRows max (rowsFrom (now a) 0 n)) ≤ maxPieces) × ((i : ℕ) → i < n → rowAt (now a) i .off + rowAt (now a) i .len ≤ maxTaken) ⌝ }
-    ensures { λ r. ⌜ (r ≡ length (splitRows max (rowsFrom (now (a .entry)) 0 n))) × (now (a .exit) ≡ overwrite (now (a .entry)) (place 0) (tableBytes (splitRows max (rowsFrom (now (a .entry)) 0 n)))) ⌝ }
+    ensures { λ r. ⌜ (r, now (a .exit)) ≡ splitTable max n (now (a .entry)) ⌝ }
 {
     let m = split_count(a, n, max);
     let mut w = m;
@@ -98,7 +98,7 @@ fn joins(p: Row, q: Row, max: u32, marks: &[u8], held: &[u32]) -> bool
 // Joins neighbours, and returns how many rows there are then.
 pub fn merge_table(a: &mut [u8], n: usize, max: u32, marks: &[u8], held: &[u32]) -> usize
     requires { ⌜ (n ≤ maxPieces) × (areaBytes ≤ length (now a)) × Marked (now marks) (now held) ⌝ }
-    ensures { λ r. ⌜ (r ≡ length (mergeRows (now (held .entry)) max (rowsFrom (now (a .entry)) 0 n))) × (now (a .exit) ≡ overwrite (now (a .entry)) (place 0) (tableBytes (mergeRows (now (held .entry)) max (rowsFrom (now (a .entry)) 0 n)))) ⌝ }
+    ensures { λ r. ⌜ (r, now (a .exit)) ≡ mergeTable (now (held .entry)) max n (now (a .entry)) ⌝ }
 {
     if n == 0 {
         return 0;

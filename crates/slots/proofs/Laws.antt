@@ -15,14 +15,15 @@ use Rattle.lookup.specs.Find.{findFrom}
 use Rattle.laws.specs.Bytes.{overwrite}
 use Rattle.laws.proofs.Bytes.{length-over, over-nil, over-cat}
 use Rattle.table.specs.Layout.{place, streamBytes}
-use Rattle.table.specs.Table.{rowAt, rowsFrom, tableBytes, total}
+use Rattle.table.specs.Table.{rowAt, rowsFrom, tableBytes, withRows, total}
 use Rattle.table.specs.declared.Row.{Row}
 use Rattle.table.proofs.Laws.{rows-turn}
 use Rattle.laws.specs.Lists.{listed}
 use Rattle.ledger.specs.Limits.{maxSlots, maxPieces}
 use Rattle.slots.specs.declared.Slot.{Slot}
 use Rattle.slots.specs.declared.Slots.{Slots}
-use Rattle.slots.specs.Slots.{pushed, pushAll, wholeSlot, unheldSlots, incrementSlot, incrementSlots, chunkRows}
+use Rattle.slots.specs.declared.Added.{Added}
+use Rattle.slots.specs.Slots.{pushed, pushAll, wholeSlot, unheldSlots, incrementSlot, incrementSlots, chunkRows, newPieces}
 
 take-more : {A : Type 0} (n : ℕ) (x : A) (xs : List A) → 0 < n → take n (x ∷ xs) ≡ x ∷ take (n - 1) xs
 take-more zero x xs h = absurd (not-suc-le-zero h)
@@ -120,15 +121,15 @@ adding-start s a n room max next at w bits h k = record {
 
 module _ (s₀ : Slots) (a₀ : List ℕ) (n room max next at w bits : ℕ) (a : List ℕ) (s : Slots) (left done i : ℕ) (g : Adding s₀ a₀ n room max next at w bits a s left done i) where
   pub adding-end : (left ≡ 0) ⊎ (w ≤ done)
-      → (s ≡ pushAll s₀ (unheldSlots [] bits at (chunkRows room max next w))) × (i ≡ n + length (chunkRows room max next w)) × (done ≡ total (chunkRows room max next w)) × (a ≡ overwrite a₀ (place n) (tableBytes (chunkRows room max next w)))
-  unfolding pushAll unheldSlots total
+      → (record { slots = s; rows = i; bytes = done }, a) ≡ newPieces a₀ n room max next at w bits s₀
+  unfolding pushAll unheldSlots total newPieces
   adding-end h =
-      let z : chunkRows left max (next + done) (w - done) ≡ [] = chunk-none left max (next + done) (w - done) (⊎-elim (λ e. inl e) (λ e. inr (omega arith)) h) in (
-        sym (g .slots ∙ ap (λ (x : List Row). pushAll s (unheldSlots [] bits (at + done) x)) z),
-        omega (arith, g .count, ap length z),
-        omega (arith, g .bytes, ap total z),
-        sym (g .same ∙ ap (λ (x : List Row). overwrite a (place i) (tableBytes x)) z ∙ over-nil _ _),
-      )
+      let z : chunkRows left max (next + done) (w - done) ≡ [] = chunk-none left max (next + done) (w - done) (⊎-elim (λ e. inl e) (λ e. inr (omega arith)) h) in
+      let p : s ≡ pushAll s₀ (unheldSlots [] bits at (chunkRows room max next w)) = sym (g .slots ∙ ap (λ (x : List Row). pushAll s (unheldSlots [] bits (at + done) x)) z) in
+      let m : i ≡ n + length (chunkRows room max next w) = omega (arith, g .count, ap length z) in
+      let b : done ≡ total (chunkRows room max next w) = omega (arith, g .bytes, ap total z) in
+      ap₂ (λ (x : Added) (y : List ℕ). (x, y)) (ap₂ (λ (x : Slots) (k : ℕ × ℕ). record { slots = x; rows = k .0; bytes = k .1 }) p (ap₂ (λ (x y : ℕ). (x, y)) m b))
+      (sym (g .same ∙ ap (λ (x : List Row). overwrite a (place i) (tableBytes x)) z ∙ over-nil _ _))
 
   module _ (l : ℕ) (e : l ≡ min max (w - done)) (more : 0 < left) (some : done < w) (m : 1 ≤ max) where
     abbrev r : Row
@@ -159,6 +160,14 @@ module _ (s₀ : Slots) (a₀ : List ℕ) (n room max next at w bits : ℕ) (a :
           ∙ sym (over-cat a (place i) (tableBytes (r ∷ [])) (tableBytes rest′))
           ∙ ap₂ (λ (x : List ℕ) (k : ℕ). overwrite x k (tableBytes rest′)) (sym p) (let t : place i + 8 ≡ place (i + 1) = omega arith in t);
     }
+
+-- what `new_pieces` leaves, fact by fact
+pub new-facts : (a : List ℕ) (n room max next at w bits : ℕ) (s : Slots) (k : Added) (b : List ℕ) → (k, b) ≡ newPieces a n room max next at w bits s
+    → (k .slots ≡ pushAll s (unheldSlots [] bits at (chunkRows room max next w))) × (k .rows ≡ n + length (chunkRows room max next w))
+    × (k .bytes ≡ total (chunkRows room max next w)) × (b ≡ withRows a n (chunkRows room max next w))
+unfolding newPieces
+new-facts a n room max next at w bits s k b e =
+    (ap (λ (x : Added × List ℕ). x .0 .slots) e, ap (λ (x : Added × List ℕ). x .0 .rows) e, ap (λ (x : Added × List ℕ). x .0 .bytes) e, ap (λ (x : Added × List ℕ). x .1) e)
 
 -- ---- a test of two parts
 

@@ -2,16 +2,18 @@
 use mathlib.Core.List.{List, [], _∷_}
 use mathlib.Core.Bool.{cond}
 use Prim.Native.Nat.{ℕ, zero, suc, _+_, _-_, min}
-use lib.ListN.{getD, set, replicate}
+use lib.ListN.{length, getD, set, replicate}
 use Rattle.laws.specs.Lists.{listed}
 use Rattle.harq.specs.Held.{incrementOf}
 use Rattle.harq.specs.declared.Harq.{Harq}
 use Rattle.ledger.specs.Limits.{maxSlots}
+use Rattle.table.specs.Table.{withRows, total}
 use Rattle.table.specs.declared.Row.{Row}
 use Rattle.lookup.specs.Find.{findFrom}
 use Rattle.lookup.specs.declared.Found.{Found}
 use Rattle.slots.specs.declared.Slot.{Slot}
 use Rattle.slots.specs.declared.Slots.{Slots}
+use Rattle.slots.specs.declared.Added.{Added}
 
 -- ---- arrays with a count
 
@@ -59,6 +61,17 @@ unfoldable pub chunkRows : ℕ → ℕ → ℕ → ℕ → List Row
 chunkRows zero m o w = []
 chunkRows (suc k) m o zero = []
 chunkRows (suc k) m o (suc w) = record { off = o; len = min m (suc w) } ∷ chunkRows k m (o + min m (suc w)) (suc w - min m (suc w))
+
+-- new rows behind the first n, of the w waiting bytes that lie from `at` on: the slots with them, how many rows there are and how many bytes went, and the work area
+unfoldable pub newPieces : List ℕ → ℕ → ℕ → ℕ → ℕ → ℕ → ℕ → ℕ → Slots → Added × List ℕ
+newPieces a n room max next at w bits s = (
+  record {
+    slots = pushAll s (unheldSlots [] bits at (chunkRows room max next w));
+    rows = n + length (chunkRows room max next w);
+    bytes = total (chunkRows room max next w);
+  },
+  withRows a n (chunkRows room max next w),
+)
 
 -- ---- increments: each piece is looked for by its offset
 

@@ -1,21 +1,20 @@
 // The frames of a burst: which pieces go, and where their bytes lie (`slots` of `data_burst`, sender.rs).
 use flight::contains_marked;
 use harq::Harq;
+use harq::MAX_SLOTS;
 use lookup::find;
 use table::Row;
 use table::load_row;
 use table::store_row;
 ghost use mathlib.Core.Path.{_≡_};
-ghost use mathlib.Core.List.{[]};
 ghost use Prim.Native.Nat.{ℕ, _+_, _≤_, _<_, min};
 ghost use lib.ListN.{length, take, getD};
-ghost use Rattle.laws.specs.Bytes.{overwrite};
 ghost use Rattle.harq.specs.Held.{incrementOf};
 ghost use Rattle.ledger.specs.Limits.{maxPieces, maxSlots, maxHeld, maxTaken};
-ghost use Rattle.table.specs.Layout.{areaBytes, streamBytes, place};
-ghost use Rattle.table.specs.Table.{rowsFrom, tableBytes, total};
+ghost use Rattle.table.specs.Layout.{areaBytes, streamBytes};
+ghost use Rattle.table.specs.Table.{rowsFrom, total};
 ghost use Rattle.flight.specs.Flight.{Marked};
-ghost use Rattle.slots.specs.Slots.{pushed, pushAll, incrementSlots, unheldSlots, chunkRows};
+ghost use Rattle.slots.specs.Slots.{pushed, pushAll, incrementSlots, unheldSlots, newPieces};
 
 // A frame: the piece's offset, the bits that go, the bits that the peer then holds, and where the bytes lie in the stream.
 pub struct Slot {
@@ -28,11 +27,11 @@ pub struct Slot {
 
 // The frames of a burst; n of them.
 pub struct Slots {
-    pub off: [u32; 64],
-    pub bits: [u32; 64],
-    pub held: [u32; 64],
-    pub start: [u32; 64],
-    pub len: [u32; 64],
+    pub off: [u32; MAX_SLOTS],
+    pub bits: [u32; MAX_SLOTS],
+    pub held: [u32; MAX_SLOTS],
+    pub start: [u32; MAX_SLOTS],
+    pub len: [u32; MAX_SLOTS],
     pub n: usize,
 }
 
@@ -162,7 +161,7 @@ pub fn new_pieces(
     given: Slots,
 ) -> Added
     requires { ⌜ (n + room ≤ maxPieces) × (areaBytes ≤ length (now a)) × (given .n + room ≤ maxSlots) × (1 ≤ max) × (next + w ≤ maxTaken) × (at + w ≤ streamBytes) ⌝ }
-    ensures { λ r. ⌜ (r .slots ≡ pushAll given (unheldSlots [] bits at (chunkRows room max next w))) × (r .rows ≡ n + length (chunkRows room max next w)) × (r .bytes ≡ total (chunkRows room max next w)) × (now (a .exit) ≡ overwrite (now (a .entry)) (place n) (tableBytes (chunkRows room max next w))) ⌝ }
+    ensures { λ r. ⌜ (r, now (a .exit)) ≡ newPieces (now (a .entry)) n room max next at w bits given ⌝ }
 {
     let mut s = given;
     let mut left = room;

@@ -3,8 +3,8 @@
 use mathlib.Core.Path.{_≡_, refl, sym, ap, ap₂, _∙_, subst}
 use mathlib.Core.List.{List, [], _∷_, _++_}
 use mathlib.Core.Bool.{true, false, not, _&&_}
-use Prim.Native.Nat.{ℕ, _+_, _-_, _/_, _≤_, _<_}
-use native.Mathlib.Nat.{zero-add, add-zero, add-assoc}
+use Prim.Native.Nat.{ℕ, zero, suc, _+_, _-_, _/_, _≤_, _<_}
+use native.Mathlib.Nat.{zero-add, add-zero, add-assoc, not-suc-le-zero}
 use native.Mathlib.Omega.{arith}
 use native.Mathlib.Numerals.{add-one}
 use lib.ListN.{length, drop, getD, drop-of-length-le}
@@ -133,6 +133,13 @@ held-turn top bs i h = ap (heldBitsOk top) (drop-cons bs i 0 h ∙ ap (λ (k : �
 pub held-end : (top : ℕ) (bs : List ℕ) (i : ℕ) → length bs ≤ i → heldBitsOk top (drop i bs) ≡ true
 unfolding heldBitsOk
 held-end top bs i h = ap (heldBitsOk top) (drop-of-length-le bs h)
+
+-- each held piece has bits below `top`
+pub held-below : (top : ℕ) (bs : List ℕ) → heldBitsOk top bs ≡ true → (j : ℕ) → j < length bs → getD bs j 0 < top
+unfolding heldBitsOk
+held-below top [] t j h = absurd (not-suc-le-zero h)
+held-below top (b ∷ bs) t zero h = ltb-true b top (and-first _ _ (and-second (ltb 0 b) (ltb b top && heldBitsOk top bs) t))
+held-below top (b ∷ bs) t (suc j) h = held-below top bs (and-second (ltb b top) (heldBitsOk top bs) (and-second (ltb 0 b) (ltb b top && heldBitsOk top bs) t)) j (omega arith)
 
 pub sent-turn : (bs hs : List ℕ) (i : ℕ) → i < length bs → i < length hs → sentBitsOk (drop i bs) (drop i hs)
     ≡ ((ltb 0 (getD bs i 0) && leb (getD bs i 0) maxBits) && ((leb (getD bs i 0) (getD hs i 0) && leb (getD hs i 0) maxHeld) && sentBitsOk (drop (i + 1) bs) (drop (i + 1) hs)))

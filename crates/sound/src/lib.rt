@@ -11,6 +11,15 @@ ghost use Rattle.table.specs.Layout.{areaBytes};
 ghost use Rattle.table.specs.Table.{rowsFrom};
 ghost use Rattle.sound.specs.Sound.{ascends, rowOffs, tableOk, allFlying, heldBitsOk, sentBitsOk, noneListed};
 
+// Pieces at most.
+const MAX_PIECES: u64 = 2048;
+
+// Bits of a frame at most.
+const MAX_BITS: u32 = 16384;
+
+// Held bits of an outstanding frame at most.
+const MAX_HELD: u32 = 49151;
+
 // The rows ascend, do not overlap, have 1 to long bytes, end by next, have flying bytes together, and can be cut to short in 2,048 pieces.
 pub fn table_ok(a: &[u8], n: usize, short: u32, long: u32, next: u32, flying: u32) -> bool
     requires { ⌜ (n ≤ maxPieces) × (areaBytes ≤ length (now a)) × (1 ≤ short) × (short ≤ maxPayload) ⌝ }
@@ -44,7 +53,7 @@ pub fn table_ok(a: &[u8], n: usize, short: u32, long: u32, next: u32, flying: u3
     if sum != flying as u64 {
         return false;
     }
-    shorts <= 2048
+    shorts <= MAX_PIECES
 }
 
 // Whether a row has this offset.
@@ -115,10 +124,10 @@ pub fn sent_bits_ok(bits: &[u32], held: &[u32]) -> bool
     while i < bits.len() {
         let b = bits[i];
         let h = held[i];
-        if !((0 < b) & (b <= 16384)) {
+        if !((0 < b) & (b <= MAX_BITS)) {
             return false;
         }
-        if !((b <= h) & (h <= 49151)) {
+        if !((b <= h) & (h <= MAX_HELD)) {
             return false;
         }
         i += 1;

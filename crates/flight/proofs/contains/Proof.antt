@@ -1,6 +1,6 @@
 -- `flight::contains` meets its contract.
 use lib.ListN.{drop, drop-of-length-le, length}
-use borrow.Author.Tests.{eq-eqb, ne-eqb}
+use mathlib.Core.Bool.{Bool, true, false, _||_}
 use Rattle.laws.specs.Lists.{listed}
 use Rattle.flight.proofs.Laws.{listed-turn}
 use Prim.Native.Nat.{_-_, _≤_}
@@ -11,24 +11,27 @@ use Rattle.flight.proofs.contains.Statement.{statement}
 use Rattle.flight.proofs.contains.Tie as tie
 
 abbrev Inv-loop : tie.InvT-loop
-Inv-loop offs off i₀ i = (i ≤ length offs) × (listed off offs ≡ listed off (drop i offs))
+Inv-loop offs off found₀ i₀ found i = (i ≤ length offs) × (listed off offs ≡ (found || listed off (drop i offs)))
 
 abbrev μ-loop : tie.MeasureT-loop
-μ-loop offs off i₀ i = length offs - i
+μ-loop offs off found₀ i₀ found i = length offs - i
+
+or-assoc : (x y z : Bool) → (x || (y || z)) ≡ ((x || y) || z)
+or-assoc true y z = refl
+or-assoc false y z = refl
+
+or-none : (x : Bool) → (x || false) ≡ x
+or-none true = refl
+or-none false = refl
 
 loop-holds : tie.Need-loop-holds Inv-loop μ-loop
 loop-holds c = (omega arith, refl)
 
-mul-if1 : tie.Need-mul-if1 Inv-loop μ-loop
-mul-if1 c = search needs
+mul-found : tie.Need-mul-found Inv-loop μ-loop
+mul-found c = search needs
 
-shared-slice-read-if1 : tie.Need-shared-slice-read-if1 Inv-loop μ-loop
-shared-slice-read-if1 c = search needs
-
-returns : tie.Need-returns Inv-loop μ-loop
-returns c =
-    let p = c .before .before .before in
-    sym (p .loop .inv .1 ∙ listed-turn _ _ _ (c .before .before .loop-test .taken) ∙ simp (eq-eqb _ _ (c .if1 .taken)))
+shared-slice-read-found : tie.Need-shared-slice-read-found Inv-loop μ-loop
+shared-slice-read-found c = search needs
 
 add-i : tie.Need-add-i Inv-loop μ-loop
 add-i c = search needs
@@ -38,13 +41,13 @@ loop-less c = search needs
 
 loop-again : tie.Need-loop-again Inv-loop μ-loop
 loop-again c =
-    let p = c .before .before .before in
-    (omega arith, p .loop .inv .1 ∙ listed-turn _ _ _ (c .before .before .loop-test .taken) ∙ simp (ne-eqb _ _ (c .if1 .left)))
+    let p = c .before .before in
+    (omega arith, p .loop .inv .1 ∙ ap (λ (b : Bool). p .loop .found || b) (listed-turn _ _ _ (c .before .loop-test .taken)) ∙ or-assoc (p .loop .found) _ _)
 
-returns-2 : tie.Need-returns-2 Inv-loop μ-loop
-returns-2 c =
+returns : tie.Need-returns Inv-loop μ-loop
+returns c =
     let p = c .before in
-    sym (p .loop .inv .1 ∙ ap (listed (p .before .args .off)) (drop-of-length-le _ (c .loop-test .left)))
+    sym (p .loop .inv .1 ∙ ap (λ (b : Bool). p .loop .found || b) (ap (listed (p .before .args .off)) (drop-of-length-le _ (c .loop-test .left))) ∙ or-none (p .loop .found))
 
 pub contains-spec : {M : Type 1} → statement M
 contains-spec =
@@ -53,10 +56,9 @@ contains-spec =
     Inv-loop
     μ-loop
     loop-holds
-    mul-if1
-    shared-slice-read-if1
-    returns
+    mul-found
+    shared-slice-read-found
     add-i
     loop-less
     loop-again
-    returns-2)
+    returns)

@@ -1,24 +1,21 @@
 -- `flight::mark` meets its contract.
-use denote.Ref.{now}
-use native.Mathlib.Nat.{not-suc-le-zero}
-use Rattle.flight.specs.Flight.{markPlace}
-use Rattle.flight.proofs.Laws.{mark-turn}
-use Prim.Native.Nat.{ℕ, _-_, _<_}
-use mathlib.Core.Path.{_≡_, refl}
-use native.Mathlib.Omega.{arith}
-use lib.ListN.{length, getD, length-set}
+use Rattle.flight.specs.Flight.{markAll}
+use Rattle.flight.proofs.Laws.{mark-turn, mark-end}
+use Prim.Native.Nat.{_-_}
+use mathlib.Core.Path.{_≡_, refl, sym, _∙_}
+use lib.ListN.{length, drop, length-set}
 use borrow.Author.Needs.{needs}
 use Rattle.flight.proofs.mark.Statement.{statement}
 use Rattle.flight.proofs.mark.Tie as tie
 
 abbrev Inv-loop : tie.InvT-loop
-Inv-loop marks₀ offs i₀ marks i = (length marks ≡ length marks₀) × ((j : ℕ) → j < i → getD marks (markPlace (getD offs j 0)) 0 ≡ 1)
+Inv-loop marks₀ offs i₀ marks i = (length marks ≡ length marks₀) × (markAll marks₀ offs ≡ markAll marks (drop i offs))
 
 abbrev μ-loop : tie.MeasureT-loop
 μ-loop marks₀ offs i₀ marks i = length offs - i
 
 loop-holds : tie.Need-loop-holds Inv-loop μ-loop
-loop-holds c = (refl, λ j h. absurd (not-suc-le-zero h))
+loop-holds c = (refl, refl)
 
 mul-mark-place : tie.Need-mul-mark-place Inv-loop μ-loop
 mul-mark-place c = search needs
@@ -41,13 +38,13 @@ loop-less c = search needs
 loop-again : tie.Need-loop-again Inv-loop μ-loop
 loop-again c =
     let p = c .before .before .before in
-    (simp length-set (p .loop .inv .0), mark-turn (p .loop .marks) (now (p .before .before .before .args .offs)) (p .loop .i) (c .mark-place .result) (omega arith) (c .mark-place .ensures .0) (c .mark-place .ensures .1) (p .loop .inv .1))
+    (simp length-set (p .loop .inv .0), p .loop .inv .1 ∙ mark-turn _ _ _ _ (c .before .before .loop-test .taken) (c .mark-place .ensures .0))
 
 same-length : tie.Need-same-length Inv-loop μ-loop
 same-length c = search needs
 
 returns : tie.Need-returns Inv-loop μ-loop
-returns c = record { size = omega arith; set = λ j h. c .before .loop .inv .1 j (omega arith) }
+returns c = let p = c .before in sym (p .loop .inv .1 ∙ mark-end _ _ _ (c .loop-test .left))
 
 pub mark-spec : {M : Type 1} → statement M
 mark-spec =

@@ -103,8 +103,7 @@ returns : tie.Need-returns Inv-loop μ-loop
 returns c =
     let sh = c .before .before in
     let p = sh .before .before .before in
-    let q = removing-end _ _ _ _ _ _ _ _ _ (p .loop .inv) (sh .before .before .loop-test .left) in
-    (q .0, q .1, sh .shift-left2 .ensures ∙ q .2)
+    ap (λ (b : List ℕ). (record { rows = p .loop .w; bytes = p .loop .to }, b)) (sh .shift-left2 .ensures) ∙ removing-end _ _ _ _ _ _ _ _ _ (p .loop .inv) (sh .before .before .loop-test .left)
 
 pub remove-pieces-spec : {M : Type 1} → statement M
 remove-pieces-spec =

@@ -5,11 +5,11 @@ use Rattle.laws.proofs.Bytes.{over-nil}
 use Rattle.table.specs.Layout.{place}
 use Rattle.table.specs.Table.{rowsFrom, tableBytes}
 use Rattle.table.specs.declared.Row.{Row}
-use Rattle.recut.specs.Recut.{row, mergeRowsFrom, mergeRows}
+use Rattle.recut.specs.Recut.{row, mergeRowsFrom, mergeRows, mergeTable}
 use Rattle.recut.proofs.Laws.{merge-join, merge-store, merge-less, joins-fits}
 use native.Mathlib.Nat.{zero-add, add-assoc}
 use Prim.Native.Nat.{ℕ, suc, _+_, _-_, _≤_, _<_}
-use mathlib.Core.Path.{_≡_, refl, sym, ap, _∙_}
+use mathlib.Core.Path.{_≡_, refl, sym, ap, ap₂, _∙_}
 use mathlib.Core.List.{List, [], _∷_}
 use native.Mathlib.Omega.{arith}
 use lib.ListN.{length}
@@ -27,11 +27,8 @@ abbrev μ-loop : tie.MeasureT-loop
 μ-loop a₀ n max marks held off₀ len₀ w₀ i₀ a off len w i = n - i
 
 returns : tie.Need-returns Inv-loop μ-loop
-unfolding mergeRows
-returns c =
-    let a = c .before .before .before .before .args in
-    let z = c .if1 .taken in
-    (rw z refl, rw z (sym (over-nil _ _)))
+unfolding mergeRows mergeTable
+returns c = rw (c .if1 .taken) (ap (λ (b : List ℕ). (0, b)) (sym (over-nil _ _)))
 
 load-row-requires : tie.Need-load-row-requires Inv-loop μ-loop
 load-row-requires c κs = search needs
@@ -117,17 +114,16 @@ same-length : tie.Need-same-length Inv-loop μ-loop
 same-length c = search needs
 
 returns-2 : tie.Need-returns-2 Inv-loop μ-loop
-unfolding mergeRowsFrom
+unfolding mergeRowsFrom mergeTable
 returns-2 c =
     let b = c .before .before in
     let p = b .before .before .before in
     let s = p .before .before .before .before .before .before .before in
     let z : s .args .n - p .loop .i ≡ 0 = omega arith in
     let e : mergeRowsFrom (now (s .args .held)) (s .args .max) (row (p .loop .off) (p .loop .len)) (rowsFrom (p .loop .a) (p .loop .i) (s .args .n - p .loop .i)) ≡ row (p .loop .off) (p .loop .len) ∷ [] =
-    ap (λ (k : ℕ). mergeRowsFrom (now (s .args .held)) (s .args .max) (row (p .loop .off) (p .loop .len)) (rowsFrom (p .loop .a) (p .loop .i) k)) z in (
-      sym (p .loop .inv .3 ∙ ap (λ (x : List Row). p .loop .w + length x) e),
-      sym (p .loop .inv .4 ∙ ap (λ (x : List Row). overwrite (p .loop .a) (place (p .loop .w)) (tableBytes x)) e ∙ sym (b .store-row2 .ensures)),
-    )
+    ap (λ (k : ℕ). mergeRowsFrom (now (s .args .held)) (s .args .max) (row (p .loop .off) (p .loop .len)) (rowsFrom (p .loop .a) (p .loop .i) k)) z in
+    ap₂ (λ (m : ℕ) (x : List ℕ). (m, x)) (sym (p .loop .inv .3 ∙ ap (λ (x : List Row). p .loop .w + length x) e))
+    (sym (p .loop .inv .4 ∙ ap (λ (x : List Row). overwrite (p .loop .a) (place (p .loop .w)) (tableBytes x)) e ∙ sym (b .store-row2 .ensures)))
 
 pub merge-table-spec : {M : Type 1} → statement M
 merge-table-spec =

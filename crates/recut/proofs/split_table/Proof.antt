@@ -6,11 +6,11 @@ use Rattle.laws.proofs.Bytes.{over-nil}
 use Rattle.table.specs.Layout.{place}
 use Rattle.table.specs.Table.{rowAt, rowsFrom, tableBytes}
 use Rattle.table.specs.declared.Row.{Row}
-use Rattle.recut.specs.Recut.{splitRows}
+use Rattle.recut.specs.Recut.{splitRows, splitTable}
 use Rattle.recut.proofs.Laws.{Back, back}
 use Rattle.table.proofs.Laws.{row-before}
 use Prim.Native.Nat.{ℕ, _-_, _≤_, _<_}
-use mathlib.Core.Path.{_≡_, refl, sym, ap, _∙_}
+use mathlib.Core.Path.{_≡_, refl, sym, ap, ap₂, _∙_}
 use mathlib.Core.List.{List}
 use native.Mathlib.Omega.{arith}
 use lib.ListN.{length}
@@ -84,14 +84,13 @@ same-length : tie.Need-same-length Inv-loop μ-loop
 same-length c = search needs
 
 returns : tie.Need-returns Inv-loop μ-loop
-unfolding splitRows
+unfolding splitRows splitTable
 returns c =
     let p = c .before in
     let s = p .before .before .before .before in
-    let z : p .loop .i ≡ 0 = omega arith in (
-      p .before .split-count .ensures,
-      sym (p .loop .inv .4 ∙ ap (λ (k : ℕ). overwrite (p .loop .a) (place 0) (tableBytes (splitRows (s .args .max) (rowsFrom (p .loop .a) 0 k)))) z ∙ over-nil (p .loop .a) (place 0)),
-    )
+    let z : p .loop .i ≡ 0 = omega arith in
+    ap₂ (λ (m : ℕ) (b : List ℕ). (m, b)) (p .before .split-count .ensures)
+    (sym (p .loop .inv .4 ∙ ap (λ (k : ℕ). overwrite (p .loop .a) (place 0) (tableBytes (splitRows (s .args .max) (rowsFrom (p .loop .a) 0 k)))) z ∙ over-nil (p .loop .a) (place 0)))
 
 pub split-table-spec : {M : Type 1} → statement M
 split-table-spec =

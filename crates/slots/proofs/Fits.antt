@@ -1,0 +1,33 @@
+-- An increment more never passes the held bits of an outstanding frame: what `increments` requires, from the profile's ranges and the sound record's held bits.
+-- Assumes nothing.
+use mathlib.Core.List.{List, [], _∷_}
+use Prim.Native.Nat.{ℕ, suc, _+_, _-_, _≤_, _<_, min, suc-le-suc}
+use native.Mathlib.Nat.{le-refl}
+use native.Mathlib.Omega.{arith}
+use lib.ListN.{length, getD}
+use lib.Dec.{ltb}
+use Rattle.laws.proofs.Picks.{test}
+use Rattle.harq.specs.Held.{above, smallest, upTo, incrementOf, hMax}
+use Rattle.harq.specs.declared.Harq.{Harq}
+use Rattle.ledger.specs.Limits.{maxBits, maxHeld}
+
+smallest-le : (e : ℕ) (es : List ℕ) → smallest e es ≤ e
+unfolding smallest
+smallest-le e [] = le-refl e
+smallest-le e (x ∷ es) = omega (arith, smallest-le (min e x) es)
+
+module _ (h slot : ℕ) (s : slot ≤ maxBits) (b : h + maxBits ≤ maxHeld) where
+  ends-fit : (es : List ℕ) → ((i : ℕ) → i < length es → getD es i 0 ≤ maxBits) → h + upTo (above h es) h slot ≤ maxHeld
+  unfolding above upTo
+  ends-fit [] f = omega arith
+  ends-fit (e ∷ es) f =
+      test (ltb h e) (λ t. rw t (omega (arith, smallest-le e (above h es), f 0 (omega arith)))) (λ t. rw t (ends-fit es (λ i k. f (suc i) (suc-le-suc k))))
+
+module _ (q : Harq) (slot : ℕ) (m : q .mother ≤ maxBits) (s : slot ≤ maxBits) (six : length (q .ends) ≤ 6) (e : (i : ℕ) → i < 6 → getD (q .ends) i 0 ≤ maxBits) where
+  pub increment-fits : (h : ℕ) → h < hMax q → h + incrementOf q h slot ≤ maxHeld
+  unfolding incrementOf
+  increment-fits h b = ends-fit h slot s (omega arith) (q .ends) (λ i k. e i (omega arith))
+
+  -- each of the held pieces
+  pub increments-fit : (bits : List ℕ) → ((j : ℕ) → j < length bits → getD bits j 0 < hMax q) → (j : ℕ) → j < length bits → getD bits j 0 + incrementOf q (getD bits j 0) slot ≤ maxHeld
+  increments-fit bits f j k = increment-fits (getD bits j 0) (f j k)
