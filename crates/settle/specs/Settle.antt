@@ -1,0 +1,108 @@
+-- `settle_burst` (sender.rs) on the record's lists and the work area's rows. The bitmap's lowest bit is the first frame's. Definitions only.
+use mathlib.Core.List.{List, [], _∷_, map}
+use mathlib.Core.Path.{_≡_}
+use mathlib.Core.Bool.{Bool, true, false, cond, not, _&&_}
+use Prim.Native.Nat.{ℕ, _+_, _-_, _/_, _%_, _≤_}
+use lib.Dec.{ltb, eqb}
+use lib.ListN.{length, take, replicate}
+use Rattle.laws.specs.Bytes.{overwrite}
+use Rattle.ledger.specs.Limits.{maxSlots, maxFlying, maxWaiting, maxPieces, maxTaken}
+use Rattle.ledger.specs.Ledger.{Held, heldOffs}
+use Rattle.table.specs.Layout.{areaBytes}
+use Rattle.table.specs.Table.{rowsFrom, total}
+use Rattle.flight.specs.Flight.{removedPieces}
+use Rattle.flight.specs.declared.Kept.{Kept}
+use Rattle.record.specs.View.{restIn}
+use Rattle.record.specs.declared.AtPeer.{AtPeer}
+use Rattle.record.specs.declared.Counts.{Counts}
+use Rattle.record.specs.declared.LastBurst.{LastBurst}
+use Rattle.record.specs.declared.Link.{Link}
+use Rattle.record.specs.declared.Sender.{Sender}
+use Rattle.settle.specs.declared.Offsets.{Offsets}
+
+-- the offsets whose bit is set
+unfoldable pub ackedIn : ℕ → List ℕ → List ℕ
+ackedIn m [] = []
+ackedIn m (o ∷ os) = cond (eqb (m % 2) 1) (o ∷ ackedIn (m / 2) os) (ackedIn (m / 2) os)
+
+-- a list in an array
+unfoldable pub offsetsOf : List ℕ → Offsets
+offsetsOf xs = record { off = overwrite (replicate maxSlots 0) 0 xs; n = length xs }
+
+-- the frames whose bit is not set, of which the peer holds less than `top`
+unfoldable pub missedIn : ℕ → ℕ → List ℕ → List ℕ → List Held
+missedIn m top [] hs = []
+missedIn m top (o ∷ os) [] = []
+missedIn m top (o ∷ os) (h ∷ hs) = cond (not (eqb (m % 2) 1) && ltb h top) (record { off = o; bits = h } ∷ missedIn (m / 2) top os hs) (missedIn (m / 2) top os hs)
+
+-- `at_peer.extend(xs)`
+unfoldable pub heldMore : AtPeer → List Held → AtPeer
+heldMore h xs =
+    record {
+      off = overwrite (h .off) (h .n) (heldOffs xs);
+      bits = overwrite (h .bits) (h .n) (map (λ (x : Held). x .bits) xs);
+      n = h .n + length xs;
+      rest = h .rest;
+    }
+
+-- `at_peer.clear()`
+abbrev pub heldNone : AtPeer → AtPeer
+heldNone h = record { off = h .off; bits = h .bits; n = 0; rest = 0 }
+
+-- with keep, the unsent rest and then what was missed
+unfoldable pub newHeld : ℕ → ℕ → Bool → AtPeer → LastBurst → AtPeer
+newHeld m top keep h s = cond keep (heldMore (heldMore (heldNone h) (restIn h)) (missedIn m top (take (s .n) (s .off)) (take (s .n) (s .held)))) (heldNone h)
+
+abbrev pub unawaited : Link → Link
+unawaited k =
+    record {
+      connected = k .connected;
+      awaiting = false;
+      session = k .session;
+      «last_time» = k .«last_time»;
+      «burst_id» = k .«burst_id»;
+      heard = k .heard;
+      «peer_heard» = k .«peer_heard»;
+      «peer_slot» = k .«peer_slot»;
+      «peer_doppler_hz» = k .«peer_doppler_hz»;
+      «peer_wants_turn» = k .«peer_wants_turn»;
+      «peer_wants_disc» = k .«peer_wants_disc»;
+      «peer_wave» = k .«peer_wave»;
+    }
+
+abbrev pub withFlight : Counts → Kept → Counts
+withFlight c k =
+    record {
+      «next_offset» = c .«next_offset»;
+      waiting = c .waiting;
+      flying = k .bytes;
+      pieces = k .rows;
+      «bytes_acked» = c .«bytes_acked» + (c .flying - k .bytes);
+      «airtime_ms» = c .«airtime_ms»;
+    }
+
+unfoldable pub settled : ℕ → ℕ → Bool → Sender → List ℕ → Sender × List ℕ
+settled m top keep s a =
+    let b = s .«last_burst» in
+    let r = removedPieces (ackedIn m (take (b .n) (b .off))) (s .counts .pieces) (s .counts .flying + s .counts .waiting) a in (
+      record {
+        gear = s .gear;
+        link = unawaited (s .link);
+        counts = withFlight (s .counts) (r .0);
+        «at_peer» = newHeld m top keep (s .«at_peer») b;
+        «last_burst» = record { off = b .off; bits = b .bits; held = b .held; n = 0 };
+      },
+      r .1,
+    )
+
+-- what settling needs of the numbers
+pub record Settling (s : Sender) (a : List ℕ) : Type 0 where
+  pub area : areaBytes ≤ length a
+  pub held : s .«at_peer» .n ≤ maxSlots
+  pub rest : s .«at_peer» .rest ≤ s .«at_peer» .n
+  pub out : s .«last_burst» .n + s .«at_peer» .rest ≤ maxSlots
+  pub waits : s .counts .waiting ≤ maxWaiting
+  pub flies : s .counts .flying ≤ maxFlying
+  pub pieces : s .counts .pieces ≤ maxPieces
+  pub flying : total (rowsFrom a 0 (s .counts .pieces)) ≡ s .counts .flying
+  pub acked : s .counts .«bytes_acked» + s .counts .flying ≤ maxTaken
