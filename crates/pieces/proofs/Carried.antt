@@ -33,7 +33,7 @@ use Rattle.ledger.proofs.Cover.{ascend-le, ascend-chunks}
 use Rattle.ledger.proofs.Offsets.{offs-append, occurs-low, occurs-once, flying-within}
 use Rattle.pieces.specs.Pieces.{piecesOf}
 use Rattle.pieces.specs.Lists.{heldOf, sentSlots}
-use Rattle.pieces.specs.Burst.{oldSlots, newRows, burstSlots, Placed}
+use Rattle.pieces.specs.Burst.{oldSlots, newRows, newSlots, burstSlots, Placed}
 use Rattle.pieces.proofs.Sound.{offs-rows, size-rows}
 use Rattle.pieces.proofs.Chunks.{append-pieces}
 use Rattle.pieces.proofs.Burst.{kept-offs, burst-new, burst-slots}
@@ -159,7 +159,7 @@ module _ (z : Sizes) (zr : SizeRange z) (s : Sender) (g : Plan) (so : Sound z s)
       burst-placed =
           let parity = incrementSlots q (g .slot) rs (take (g .parity) os) (take (g .parity) hs) in
           let old = oldSlots g rs os in
-          let fresh = unheldSlots [] (g .slot) (total rs) new in
+          let fresh = newSlots g rs os (s .next) w in
           placed-append (rs ++ new) parity (old ++ fresh)
           (placed-more rs new parity (placed-increments q (g .slot) rs (take (g .parity) os) (take (g .parity) hs) (all-take (g .parity) os (rowOffs rs) kept-rows)))
           (placed-append (rs ++ new) old fresh (placed-more rs new old (placed-take rs (g .room) (unheldSlots os (g .slot) 0 rs) (placed-unheld os (g .slot) [] rs rows-once)))

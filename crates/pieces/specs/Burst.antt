@@ -22,10 +22,14 @@ module _ (g : Plan) (rs : List Row) (os : List ℕ) where
   abbrev pub newRows : ℕ → ℕ → List Row
   newRows next w = chunkRows (g .room - length oldSlots) (g .payload) next w
 
+  -- and their slots: the bytes lie behind those of the rows
+  abbrev pub newSlots : ℕ → ℕ → List Slot
+  newSlots next w = unheldSlots [] (g .slot) (total rs) (newRows next w)
+
   -- "Parity first, then oldest pieces, then new"
   abbrev pub burstSlots : Harq → List ℕ → ℕ → ℕ → List Slot
   burstSlots q hs next w =
-      incrementSlots q (g .slot) rs (take (g .parity) os) (take (g .parity) hs) ++ (oldSlots ++ unheldSlots [] (g .slot) (total rs) (newRows next w))
+      incrementSlots q (g .slot) rs (take (g .parity) os) (take (g .parity) hs) ++ (oldSlots ++ newSlots next w)
 
 -- each slot has its bytes where the first row with its offset has them
 abbrev pub Placed : List Row → List Slot → Type 0
