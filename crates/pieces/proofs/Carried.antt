@@ -34,10 +34,10 @@ use Rattle.ledger.proofs.Offsets.{offs-append, occurs-low, occurs-once, flying-
 use Rattle.pieces.specs.Pieces.{piecesOf}
 use Rattle.pieces.specs.Lists.{heldOf, sentSlots}
 use Rattle.pieces.specs.Burst.{oldSlots, newRows, newSlots, burstSlots, Placed}
-use Rattle.pieces.proofs.Sound.{offs-rows, size-rows}
+use Rattle.pieces.proofs.Sound.{offs-rows, size-rows, total-append}
 use Rattle.pieces.proofs.Chunks.{append-pieces}
 use Rattle.pieces.proofs.Burst.{kept-offs, burst-new, burst-slots}
-use Rattle.pieces.proofs.Placed.{placed-append, placed-take, placed-more, placed-increments, placed-unheld, placed-bytes, placed-frames, placed-fit, rowOffs-append, total-append}
+use Rattle.pieces.proofs.Placed.{placed-append, placed-take, placed-more, placed-increments, placed-unheld, placed-bytes, placed-frames, placed-fit, rowOffs-append}
 
 -- ---- pieces out of a longer stream
 

@@ -30,7 +30,7 @@ use Rattle.ledger.specs.Cover.{Ascend}
 use Rattle.pieces.specs.Pieces.{piecesOf}
 use Rattle.pieces.specs.Lists.{sentSlots}
 use Rattle.pieces.specs.Burst.{Placed}
-use Rattle.pieces.proofs.Sound.{head-length}
+use Rattle.pieces.proofs.Sound.{head-length, total-append}
 
 -- ---- what is found
 
@@ -105,11 +105,6 @@ placed-increments q b rs (o ∷ os) (h ∷ hs) l =
 pub rowOffs-append : (rs ss : List Row) → rowOffs (rs ++ ss) ≡ rowOffs rs ++ rowOffs ss
 rowOffs-append [] ss = refl
 rowOffs-append (r ∷ rs) ss = ap (λ (l : List ℕ). r .off ∷ l) (rowOffs-append rs ss)
-
-pub total-append : (rs ss : List Row) → total (rs ++ ss) ≡ total rs + total ss
-unfolding total
-total-append [] ss = sym (zero-add (total ss))
-total-append (r ∷ rs) ss = omega (arith, total-append rs ss)
 
 -- rows with distinct offsets, of which the last ones go
 pub placed-unheld : (held : List ℕ) (b : ℕ) (pre rs : List Row) → ((o : ℕ) → occurs o (rowOffs (pre ++ rs)) ≤ 1) → Placed (pre ++ rs) (unheldSlots held b (total pre) rs)
