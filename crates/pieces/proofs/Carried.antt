@@ -17,7 +17,7 @@ use Rattle.laws.proofs.Bytes.{length-part}
 use Rattle.laws.proofs.Lists.{occurs-append, occurs-all, one-other}
 use Rattle.laws.proofs.Picks.{by, test}
 use Rattle.frame.specs.Frame.{maxPayload}
-use Rattle.frames.specs.Frames.{Fit}
+use Rattle.frames.specs.Frames.{framesOf, Fit}
 use Rattle.table.specs.declared.Row.{Row}
 use Rattle.table.specs.Table.{total}
 use Rattle.sound.specs.Sound.{rowOffs}
@@ -33,11 +33,11 @@ use Rattle.ledger.proofs.Cover.{ascend-le, ascend-chunks}
 use Rattle.ledger.proofs.Offsets.{offs-append, occurs-low, occurs-once, flying-within}
 use Rattle.pieces.specs.Pieces.{piecesOf}
 use Rattle.pieces.specs.Lists.{heldOf, sentSlots}
-use Rattle.pieces.specs.Burst.{oldSlots, newRows, newSlots, burstSlots, Placed}
+use Rattle.pieces.specs.Burst.{oldSlots, newRows, newSlots, burstSlots, Placed, framesSent}
 use Rattle.pieces.proofs.Sound.{offs-rows, size-rows, total-append}
 use Rattle.pieces.proofs.Chunks.{append-pieces}
 use Rattle.pieces.proofs.Burst.{kept-offs, burst-new, burst-slots}
-use Rattle.pieces.proofs.Placed.{placed-append, placed-take, placed-more, placed-increments, placed-unheld, placed-bytes, placed-frames, placed-fit, rowOffs-append}
+use Rattle.pieces.proofs.Placed.{placed-append, placed-take, placed-more, placed-increments, placed-unheld, placed-bytes, placed-carry, placed-frames, placed-fit, rowOffs-append}
 
 -- ---- pieces out of a longer stream
 
@@ -175,6 +175,9 @@ module _ (z : Sizes) (zr : SizeRange z) (s : Sender) (g : Plan) (so : Sound z s)
         burst-bytes =
             placed-bytes a (rs ++ new) xs burst-placed
             ∙ ap₂ (λ (ps : List Piece) (fs : List Sent). map (λ (f : Sent). find (f .off) ps) fs) burst-pieces burst-sent
+
+        pub burst-carry : (size : ℕ) → framesOf size xs a ≡ framesSent size (dataBurst g s .pieces) (dataBurst g s .sent)
+        burst-carry size = placed-carry size a (rs ++ new) xs burst-placed ∙ ap₂ (framesSent size) burst-pieces burst-sent
 
         -- and its length: the frames as the answer tells them
         pub burst-frames : frames (dataBurst g s .pieces) (dataBurst g s .sent) ≡ map (λ (x : Slot). record { off = x .off; len = x .len }) xs
