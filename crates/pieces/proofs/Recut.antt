@@ -119,10 +119,6 @@ merge-total h m (p ∷ rs) = merge-from-total h m p rs
 
 -- ---- both
 
-pub recut-total : (g : Plan) (os : List ℕ) (rs : List Row) → total (recutRows g os rs) ≡ total rs
-recut-total g os rs =
-    by (λ (xs : List Row). total xs ≡ total rs) (g .merging) (λ e. merge-total os (g .payload) (splitRows (g .payload) rs) ∙ split-total (g .payload) rs) (λ e. split-total (g .payload) rs)
-
 pub recut-pieces : (g : Plan) (s : Sender) (os : List ℕ) (rs : List Row) (st : List ℕ) → total rs ≤ length st → heldOffs (kept g s) ≡ os → s .pieces ≡ piecesOf rs st
     → recut g s ≡ piecesOf (recutRows g os rs) st
 recut-pieces g s os rs st l h e =
@@ -131,3 +127,7 @@ recut-pieces g s os rs st l h e =
     by₂ (λ (ps : List Piece) (xs : List Row). ps ≡ piecesOf xs st) (g .merging)
     (λ d. ap₂ (λ (o : List ℕ) (ps : List Piece). mergeInflight o (g .payload) ps) h t ∙ sym (merge-pieces os (g .payload) (splitRows (g .payload) rs) st n))
     (λ d. t)
+
+pub recut-total : (g : Plan) (os : List ℕ) (rs : List Row) → total (recutRows g os rs) ≡ total rs
+recut-total g os rs =
+    by (λ (xs : List Row). total xs ≡ total rs) (g .merging) (λ e. merge-total os (g .payload) (splitRows (g .payload) rs) ∙ split-total (g .payload) rs) (λ e. split-total (g .payload) rs)
