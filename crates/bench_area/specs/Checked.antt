@@ -1,0 +1,10 @@
+-- The sound record's tests of the table and of the lists, one after the other. Definitions only.
+use mathlib.Core.List.{List}
+use mathlib.Core.Bool.{Bool, _&&_}
+use Prim.Native.Nat.{ℕ}
+use Rattle.table.specs.declared.Row.{Row}
+use Rattle.sound.specs.Sound.{rowOffs, tableOk, allFlying, heldBitsOk, sentBitsOk}
+
+unfoldable pub checked : ℕ → ℕ → ℕ → ℕ → List Row → List ℕ → List ℕ → ℕ → List ℕ → List ℕ → List ℕ → Bool
+checked short long next flying rs held heldBits top sent bits sentHeld =
+    tableOk short long next flying rs && (allFlying held (rowOffs rs) && (allFlying sent (rowOffs rs) && (heldBitsOk top heldBits && sentBitsOk bits sentHeld)))
