@@ -68,7 +68,7 @@ fn head(off: u32, n: usize) -> [u8; 6]
 }
 
 // Writes the data frame of `payload` into `out` at `at`. `t` are crc's tables.
-pub fn encode(t: &[u32; 2048], out: &mut [u8], at: usize, size: usize, off: u32, payload: &[u8])
+pub fn encode(t: &[u32; 256], out: &mut [u8], at: usize, size: usize, off: u32, payload: &[u8])
     requires { ⌜ (now t ≡ tableOf) × (at + size ≤ length (now out)) × (10 ≤ size) × (length (now payload) ≤ maxPayload size) ⌝ }
     ensures { λ _. ⌜ now (out .exit) ≡ overwrite (now (out .entry)) at (frameOf size off (now (payload .entry))) ⌝ }
 {
