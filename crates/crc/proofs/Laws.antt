@@ -1,9 +1,9 @@
 -- Laws of the register: it is linear, so that bytes go in many at a time.
 -- Assumes nothing.
 use mathlib.Core.Path.{_≡_, refl, sym, ap, ap₂, _∙_}
-use mathlib.Core.List.{List, [], _∷_, _++_, map, map-append}
+use mathlib.Core.List.{List, [], _∷_, _++_, map}
 use Prim.Native.Nat.{ℕ, zero, suc, _+_, _*_, _/_, _%_, _^_, _≤_, _<_}
-use native.Mathlib.Nat.{mul-one, mul-assoc, pow-suc, add-zero, suc-add, add-comm, zero-add, one-mul, add-assoc, mul-suc, div-add-mod', mod-lt, not-suc-le-zero, le-of-suc-le-suc}
+use native.Mathlib.Nat.{mul-one, mul-assoc, pow-suc, add-zero, suc-add, add-comm, zero-add, mul-suc, div-add-mod', mod-lt, not-suc-le-zero, le-of-suc-le-suc}
 use native.Mathlib.Omega.{arith}
 use native.Mathlib.Numerals.{add-one}
 use lib.Arith.{bin-ind, digits-mod}

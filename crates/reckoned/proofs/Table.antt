@@ -11,7 +11,7 @@ use Rattle.harq.specs.Held.{above, smallest, upTo, incrementOf, startOf, partia
 use Rattle.harq.specs.declared.Harq.{Harq}
 use Rattle.config.specs.Entries.{entryAt}
 use Rattle.config.specs.declared.Marks.{Marks}
-use Rattle.frame.specs.declared.ChanClass.{ChanClass}
+use Rattle.report.specs.declared.ChanClass.{ChanClass}
 use Rattle.ladder.specs.Ladders.{airDb, familyOk, enough, levelFor}
 use Rattle.ledger.specs.Ledger.{split, mergeInflight}
 use Rattle.ledger.proofs.Examples.{spans, piece, P7, P8, P9}

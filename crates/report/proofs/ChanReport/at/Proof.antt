@@ -1,8 +1,8 @@
 -- `ChanReport::at` meets its contract: field by field.
 use borrow.Author.Needs.{needs}
-use Rattle.frame.specs.Report.{reportAt}
-use Rattle.frame.proofs.ChanReport.at.Statement.{statement}
-use Rattle.frame.proofs.ChanReport.at.Tie as tie
+use Rattle.report.specs.Report.{reportAt}
+use Rattle.report.proofs.ChanReport.at.Statement.{statement}
+use Rattle.report.proofs.ChanReport.at.Tie as tie
 
 shared-slice-read-from-bits : tie.Need-shared-slice-read-from-bits
 shared-slice-read-from-bits c = search needs

@@ -9,12 +9,12 @@ use lib.ListN.{length}
 use borrow.Author.Tests.{lt-ltb, le-ltb, le-leb, lt-leb}
 use borrow.Author.Needs.{needs}
 use Rattle.laws.proofs.Picks.{cond-yes, cond-no}
-use Rattle.frame.specs.Report.{reportAt}
-use Rattle.frame.specs.Ack.{noReport, ackWith, ackOf}
-use Rattle.frame.specs.declared.AckInfo.{AckInfo}
-use Rattle.frame.specs.declared.AckRead.the-variants.{TooShort, Info}
-use Rattle.frame.proofs.AckInfo.from_bytes.Statement.{statement}
-use Rattle.frame.proofs.AckInfo.from_bytes.Tie as tie
+use Rattle.report.specs.Report.{reportAt}
+use Rattle.ack.specs.Ack.{noReport, ackWith, ackOf}
+use Rattle.ack.specs.declared.AckInfo.{AckInfo}
+use Rattle.ack.specs.declared.AckRead.the-variants.{TooShort, Info}
+use Rattle.ack.proofs.AckInfo.from_bytes.Statement.{statement}
+use Rattle.ack.proofs.AckInfo.from_bytes.Tie as tie
 
 -- by whether the report is there
 abbrev choice : List ℕ → Bool → AckInfo
@@ -24,8 +24,8 @@ returns : tie.Need-returns
 unfolding ackOf
 returns c = cond-yes _ _ _ _ (lt-ltb _ _ (c .if1 .taken)) refl
 
-none-requires : tie.Need-none-requires
-none-requires c κs = search needs
+no-report-requires : tie.Need-no-report-requires
+no-report-requires c κs = search needs
 
 with-requires : tie.Need-with-requires
 with-requires c κs = search needs
@@ -36,7 +36,7 @@ returns-2 c =
     let t = c .before .before in
     let b = now (t .before .before .before .args .b) in
     let e : leb 17 (length b) ≡ false = lt-leb _ _ (t .if2 .taken) in
-    cond-no _ TooShort _ _ (le-ltb _ _ (t .before .if1 .left)) (ap Info (c .with .ensures ∙ ap (ackWith b false) (c .before .none .ensures) ∙ sym (ap (choice b) e)))
+    cond-no _ TooShort _ _ (le-ltb _ _ (t .before .if1 .left)) (ap Info (c .with .ensures ∙ ap (ackWith b false) (c .before .no-report .ensures) ∙ sym (ap (choice b) e)))
 
 at-requires : tie.Need-at-requires
 at-requires c κs = search needs
@@ -55,4 +55,4 @@ returns-3 c =
 pub from-bytes-spec : {M : Type 1} → statement M
 from-bytes-spec =
     tie.close
-    (tie.spec returns none-requires with-requires returns-2 at-requires with-requires-2 returns-3)
+    (tie.spec returns no-report-requires with-requires returns-2 at-requires with-requires-2 returns-3)

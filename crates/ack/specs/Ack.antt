@@ -7,11 +7,11 @@ use lib.ListN.{getD, length}
 use lib.Ieee.{nan, binary32, ofBits}
 use Rattle.laws.specs.Bytes.{part}
 use Rattle.laws.specs.Little.{num}
-use Rattle.frame.specs.Report.{snrFromQ, reportAt}
-use Rattle.frame.specs.declared.ChanReport.{ChanReport}
-use Rattle.frame.specs.declared.AckInfo.{AckInfo}
-use Rattle.frame.specs.declared.AckRead.{AckRead}
-use Rattle.frame.specs.declared.AckRead.the-variants.{TooShort, Info}
+use Rattle.report.specs.Report.{snrFromQ, reportAt}
+use Rattle.report.specs.declared.ChanReport.{ChanReport}
+use Rattle.ack.specs.declared.AckInfo.{AckInfo}
+use Rattle.ack.specs.declared.AckRead.{AckRead}
+use Rattle.ack.specs.declared.AckRead.the-variants.{TooShort, Info}
 
 -- what stands where a long ack has no report: no class, slot 0, spreads that are not numbers (what `unwrap_or_default`, `map_or` give in sender.rs)
 abbrev pub noReport : ChanReport

@@ -2,9 +2,9 @@
 use mathlib.Core.Path.{refl}
 use lib.Ieee.{ofBits, ofInt}
 use borrow.Author.Needs.{needs}
-use Rattle.frame.specs.Report.{snrFromQ}
-use Rattle.frame.proofs.snr_from_q.Statement.{statement}
-use Rattle.frame.proofs.snr_from_q.Tie as tie
+use Rattle.report.specs.Report.{snrFromQ}
+use Rattle.report.proofs.snr_from_q.Statement.{statement}
+use Rattle.report.proofs.snr_from_q.Tie as tie
 
 int-to-float-result : tie.Need-int-to-float-result
 int-to-float-result c = search needs

@@ -4,9 +4,9 @@ use Prim.Native.Nat.{_/_, _%_, ℕ}
 use denote.Ref.{now}
 use lib.ListN.{getD}
 use borrow.Author.Needs.{needs}
-use Rattle.frame.proofs.Laws.{upper}
-use Rattle.frame.proofs.AckInfo.with.Statement.{statement}
-use Rattle.frame.proofs.AckInfo.with.Tie as tie
+use Rattle.ack.proofs.Laws.{upper}
+use Rattle.ack.proofs.AckInfo.with.Statement.{statement}
+use Rattle.ack.proofs.AckInfo.with.Tie as tie
 
 shared-slice-read-t5 : tie.Need-shared-slice-read-t5
 shared-slice-read-t5 c = search needs

@@ -4,9 +4,9 @@ use lib.Ieee.{nan, ofBits, ofInt, div}
 use borrow.Author.Tests.{eq-eqb, ne-eqb}
 use borrow.Author.Needs.{needs}
 use Rattle.laws.proofs.Picks.{cond-yes, cond-no}
-use Rattle.frame.specs.Report.{spreadOf}
-use Rattle.frame.proofs.spread.Statement.{statement}
-use Rattle.frame.proofs.spread.Tie as tie
+use Rattle.report.specs.Report.{spreadOf}
+use Rattle.report.proofs.spread.Statement.{statement}
+use Rattle.report.proofs.spread.Tie as tie
 
 int-to-float-result : tie.Need-int-to-float-result
 int-to-float-result c = search needs

@@ -6,8 +6,8 @@ use lib.Dec.{eqb}
 use lib.IntN.{pos}
 use lib.ListN.{getD}
 use lib.Ieee.{Float, nan, binary32, ofInt, sub, div}
-use Rattle.frame.specs.declared.ChanClass.{ChanClass}
-use Rattle.frame.specs.declared.ChanReport.{ChanReport}
+use Rattle.report.specs.declared.ChanClass.{ChanClass}
+use Rattle.report.specs.declared.ChanReport.{ChanReport}
 
 -- a byte as an f32
 abbrev pub w32 : ℕ → Float
