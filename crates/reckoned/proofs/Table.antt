@@ -6,7 +6,8 @@ use lib.Ieee.{binary32, ofBits, add, le}
 use mathlib.Core.List.{List, [], _∷_}
 use Prim.Native.Nat.{ℕ, _+_, _*_}
 use Rattle.laws.specs.Steps.{highest}
-use Rattle.level.specs.Ladder.{thresholds, waveRank, airCode, userBits, topLevelIn, nextBurstId}
+use Rattle.level.specs.Ladder.{thresholds, waveRank, topLevelIn}
+use Rattle.header.specs.Header.{airCode, userBits, nextBurstId}
 use Rattle.harq.specs.Held.{above, smallest, upTo, incrementOf, startOf, partialField, checkBits, burstCheckBits}
 use Rattle.harq.specs.declared.Harq.{Harq}
 use Rattle.config.specs.Entries.{entryAt}

@@ -3,13 +3,13 @@ use config::Marks;
 use harq::Harq;
 use harq::burst_check_bits;
 use harq::partial_field;
+use header::air_code;
+use header::next_burst_id;
+use header::user_bits;
 use io::print_decimal;
 use io::write_all;
 use ladder::level_for;
-use level::air_code;
-use level::next_burst_id;
 use level::top_level_in;
-use level::user_bits;
 use libc::STDOUT_FILENO;
 use report::ChanClass;
 

@@ -1,9 +1,9 @@
 use Rattle.laws.proofs.Picks.{picks}
-use Rattle.level.specs.Ladder.{airCode}
+use Rattle.header.specs.Header.{airCode}
 use Prim.Native.Nat.{_-_}
 use borrow.Author.Needs.{needs}
-use Rattle.level.proofs.air_code.Statement.{statement}
-use Rattle.level.proofs.air_code.Tie as tie
+use Rattle.header.proofs.air_code.Statement.{statement}
+use Rattle.header.proofs.air_code.Tie as tie
 
 cast-result : tie.Need-cast-result
 cast-result c = search needs

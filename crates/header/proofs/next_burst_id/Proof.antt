@@ -1,11 +1,11 @@
 use Prim.Native.Nat.{_%_, ℕ, _+_, _-_}
 use Rattle.laws.proofs.Picks.{cond-yes, cond-no}
-use Rattle.level.specs.Ladder.{nextBurstId}
+use Rattle.header.specs.Header.{nextBurstId}
 use mathlib.Core.Path.{_≡_, refl}
 use native.Mathlib.Omega.{arith}
 use borrow.Author.Needs.{needs}
-use Rattle.level.proofs.next_burst_id.Statement.{statement}
-use Rattle.level.proofs.next_burst_id.Tie as tie
+use Rattle.header.proofs.next_burst_id.Statement.{statement}
+use Rattle.header.proofs.next_burst_id.Tie as tie
 
 next : (id : ℕ) → (id % 4 + 1) % 4 ≡ (id + 1) % 4
 next id = omega arith

@@ -1,10 +1,10 @@
-use Rattle.level.specs.Ladder.{userBits}
-use Rattle.level.proofs.Laws.{air-lt}
+use Rattle.header.specs.Header.{userBits}
+use Rattle.header.proofs.Laws.{air-lt}
 use Prim.Native.Nat.{_-_}
 use native.Mathlib.Omega.{arith}
 use borrow.Author.Needs.{needs}
-use Rattle.level.proofs.user_bits.Statement.{statement}
-use Rattle.level.proofs.user_bits.Tie as tie
+use Rattle.header.proofs.user_bits.Statement.{statement}
+use Rattle.header.proofs.user_bits.Tie as tie
 
 air-code-requires : tie.Need-air-code-requires
 air-code-requires c κs = search needs
