@@ -1,14 +1,14 @@
 // The default profile: the values of Config::new, document 01's reckoned harq numbers, and a plausible radio.
-use crate::Air;
-use crate::HoldTimes;
-use crate::Lengths;
-use crate::Marks;
-use crate::MaybeDb;
-use crate::MaybeLevel;
-use crate::Profile;
+use config::Air;
+use config::HoldTimes;
+use config::Lengths;
+use config::Marks;
+use config::MaybeDb;
+use config::MaybeLevel;
+use config::Profile;
 use harq::Harq;
 ghost use mathlib.Core.Path.{_≡_};
-ghost use Rattle.config.specs.Default.{newAir, newHarq, newLengths, newProfile};
+ghost use Rattle.defaults.specs.Default.{newAir, newHarq, newLengths, newProfile};
 
 const SLOT_BITS: [u32; 17] = [
     1024,

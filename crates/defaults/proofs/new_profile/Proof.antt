@@ -1,7 +1,7 @@
 use Prim.Native.Nat.{_-_}
 use borrow.Author.Needs.{needs}
-use Rattle.config.proofs.default.new_profile.Statement.{statement}
-use Rattle.config.proofs.default.new_profile.Tie as tie
+use Rattle.defaults.proofs.new_profile.Statement.{statement}
+use Rattle.defaults.proofs.new_profile.Tie as tie
 
 new-air-requires : tie.Need-new-air-requires
 new-air-requires c κs = search needs
