@@ -168,7 +168,7 @@ fn print_sums(name: &[u8], frame: &[u8])
 }
 
 // The frame of a payload of n bytes.
-fn frame_case(t: &[u32; 2048], name: &[u8], n: usize, size: usize, off: u32)
+fn frame_case(t: &[u32; 256], name: &[u8], n: usize, size: usize, off: u32)
     requires { ⌜ (now t ≡ tableOf) × (10 ≤ size) × (size ≤ 512) × (n ≤ maxPayload size) ⌝ }
 {
     let p = pattern();
@@ -177,7 +177,7 @@ fn frame_case(t: &[u32; 2048], name: &[u8], n: usize, size: usize, off: u32)
     print_sums(name, &out[..size]);
 }
 
-fn frame_cases(t: &[u32; 2048])
+fn frame_cases(t: &[u32; 256])
     requires { ⌜ now t ≡ tableOf ⌝ }
 {
     frame_case(

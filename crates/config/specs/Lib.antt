@@ -1,3 +1,2 @@
 pub mod Durations
 pub mod Entries
-pub mod Default

@@ -5,8 +5,6 @@ ghost use Prim.Native.Nat.{_*_, _<_};
 ghost use Rattle.config.specs.Durations.{slotAt, frameBits, maxBitsAt, durationAt, ackAt, dataS, frameBytes};
 ghost use Rattle.config.specs.Entries.{entryAt};
 
-pub mod default;
-
 // An optional dB value: a flag beside it.
 pub struct MaybeDb {
     pub set: bool,

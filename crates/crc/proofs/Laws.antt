@@ -1,12 +1,13 @@
 -- Laws of the register: it is linear, so that bytes go in many at a time.
 -- Assumes nothing.
 use mathlib.Core.Path.{_≡_, refl, sym, ap, ap₂, _∙_}
-use mathlib.Core.List.{List, [], _∷_, _++_, map, map-append}
+use mathlib.Core.List.{List, [], _∷_, _++_, map}
 use Prim.Native.Nat.{ℕ, zero, suc, _+_, _*_, _/_, _%_, _^_, _≤_, _<_}
-use native.Mathlib.Nat.{mul-one, mul-assoc, pow-suc, add-zero, suc-add, add-comm, zero-add, one-mul, add-assoc, mul-suc, two-pow-succ, not-suc-le-zero, le-of-suc-le-suc}
+use native.Mathlib.Nat.{mul-one, mul-assoc, pow-suc, add-zero, suc-add, add-comm, zero-add, mul-suc, div-add-mod', mod-lt, not-suc-le-zero, le-of-suc-le-suc}
 use native.Mathlib.Omega.{arith}
 use native.Mathlib.Numerals.{add-one}
 use lib.Arith.{bin-ind, digits-mod}
+use lib.Pow.{pow-pos, field, mod-mod-pow}
 use lib.Dec.{lit<}
 use lib.ListN.{getD, length, drop, take-append-drop, List·getD-append, length-map}
 use lib.Seq.{drop-cons, drop-drop, getD-append-add}
@@ -102,25 +103,33 @@ unfolding shifts
 shifts-add zero n x = ap (λ (k : ℕ). shifts k x) (zero-add n)
 shifts-add (suc m) n x = ap (λ (k : ℕ). shifts k x) (suc-add m n) ∙ shifts-add m n (shift x)
 
--- a byte in front of what stands above it
-byte-xor : (b x : ℕ) → b < 256 → b + 256 * x ≡ bitXor b (x * 2 ^ 8)
-byte-xor b x h = let e : b + 256 * x ≡ x * 2 ^ 8 + b = omega arith in e ∙ sym (xor-shifted x 8 b h) ∙ xor-comm (x * 2 ^ 8) b
+-- w bits in front of what stands above them
+low-xor : (w b x : ℕ) → b < 2 ^ w → x * 2 ^ w + b ≡ bitXor b (x * 2 ^ w)
+low-xor w b x h = sym (xor-shifted x w b h) ∙ xor-comm (x * 2 ^ w) b
 
--- the low byte and the rest of the number: the rest has eight shifts less
-pub shifts-slice : (n x : ℕ) → shifts (8 + n) x ≡ bitXor (shifts (8 + n) (x % 256)) (shifts n (x / 256))
-shifts-slice n x =
-    let e : x ≡ x % 256 + 256 * (x / 256) = omega arith in
-    let h : x % 256 < 256 = omega arith in
-    ap (shifts (8 + n)) (e ∙ byte-xor (x % 256) (x / 256) h)
-    ∙ shifts-xor (8 + n) (x % 256) (x / 256 * 2 ^ 8)
-    ∙ ap (bitXor (shifts (8 + n) (x % 256))) (shifts-add 8 n (x / 256 * 2 ^ 8) ∙ ap (shifts n) (shifts-even 8 (x / 256)))
+-- the low w bits and the rest of the number: the rest has w shifts less
+pub shifts-slice : (w n x : ℕ) → shifts (w + n) x ≡ bitXor (shifts (w + n) (x % 2 ^ w)) (shifts n (x / 2 ^ w))
+shifts-slice w n x =
+    let b = x % 2 ^ w in
+    let r = x / 2 ^ w in
+    ap (shifts (w + n)) (sym (div-add-mod' x (2 ^ w)) ∙ low-xor w b r (mod-lt x (pow-pos w)))
+    ∙ shifts-xor (w + n) b (r * 2 ^ w)
+    ∙ ap (bitXor (shifts (w + n) b)) (shifts-add w n (r * 2 ^ w) ∙ ap (shifts n) (shifts-even w r))
+
+-- a byte by its halves
+pub shifts-halves : (k x : ℕ) → shifts (8 * (k + 1)) (x % 256) ≡ bitXor (shifts (4 * (2 * k + 1 + 1)) (x % 16)) (shifts (4 * (2 * k + 1)) (x / 16 % 16))
+shifts-halves k x =
+    let p : 8 * (k + 1) ≡ 4 + 4 * (2 * k + 1) = omega arith in
+    let q : 4 + 4 * (2 * k + 1) ≡ 4 * (2 * k + 1 + 1) = omega arith in
+    ap (λ (m : ℕ). shifts m (x % 256)) p ∙ shifts-slice 4 (4 * (2 * k + 1)) (x % 256)
+    ∙ ap₂ bitXor (ap₂ shifts q (mod-mod-pow x 4 4)) (ap (shifts (4 * (2 * k + 1))) (field x 4 4))
 
 shifts-pair : (n x : ℕ) → shifts (16 + n) x ≡ bitXor (bitXor (shifts (16 + n) (x % 256)) (shifts (8 + n) (x / 256 % 256))) (shifts n (x / 65536))
 shifts-pair n x =
     let e : x / 256 / 256 ≡ x / 65536 = omega arith in
     let p : 16 + n ≡ 8 + (8 + n) = omega arith in
-    ap (λ (k : ℕ). shifts k x) p ∙ shifts-slice (8 + n) x
-    ∙ ap₂ bitXor (ap (λ (k : ℕ). shifts k (x % 256)) (sym p)) (shifts-slice n (x / 256) ∙ ap (λ (k : ℕ). bitXor (shifts (8 + n) (x / 256 % 256)) (shifts n k)) e)
+    ap (λ (k : ℕ). shifts k x) p ∙ shifts-slice 8 (8 + n) x
+    ∙ ap₂ bitXor (ap (λ (k : ℕ). shifts k (x % 256)) (sym p)) (shifts-slice 8 n (x / 256) ∙ ap (λ (k : ℕ). bitXor (shifts (8 + n) (x / 256 % 256)) (shifts n k)) e)
     ∙ sym (xor-assoc (shifts (16 + n) (x % 256)) (shifts (8 + n) (x / 256 % 256)) (shifts n (x / 65536)))
 
 -- eight bytes, in pairs
@@ -152,11 +161,12 @@ unfolding feed num
 feed-shifts c [] h = sym (xor-zero-r c)
 feed-shifts c (b ∷ bs) h =
     let n = num bs in
+    let e : n * 2 ^ 8 + b ≡ b + 256 * n = omega arith in
     feed-shifts (shifts 8 (bitXor c b)) bs (λ i. h (suc i))
     ∙ ap (λ (x : ℕ). shifts (8 * length bs) (bitXor (shifts 8 (bitXor c b)) x)) (sym (shifts-even 8 n))
     ∙ ap (shifts (8 * length bs)) (sym (shifts-xor 8 (bitXor c b) (n * 2 ^ 8)))
     ∙ sym (shifts-add 8 (8 * length bs) (bitXor (bitXor c b) (n * 2 ^ 8)))
-    ∙ ap₂ shifts (add-comm 8 (8 * length bs) ∙ sym (mul-suc 8 (length bs))) (xor-assoc c b (n * 2 ^ 8) ∙ ap (bitXor c) (sym (byte-xor b n (h 0))))
+    ∙ ap₂ shifts (add-comm 8 (8 * length bs) ∙ sym (mul-suc 8 (length bs))) (xor-assoc c b (n * 2 ^ 8) ∙ ap (bitXor c) (sym (low-xor 8 b n (h 0)) ∙ e))
 
 -- ---- turns of the loops
 
@@ -184,63 +194,22 @@ getD-row f a zero k h = absurd (not-suc-le-zero h)
 getD-row f a (suc m) zero h = ap f (sym (add-zero a))
 getD-row f a (suc m) (suc k) h = getD-row f (a + 1) m k (le-of-suc-le-suc h) ∙ ap f (omega arith)
 
-getD-tables : (n j k b : ℕ) → k < n → b < 256 → getD (tables j n) (256 * k + b) 0 ≡ shifts (8 * (j + k + 1)) b
+getD-tables : (n j k b : ℕ) → k < n → b < 16 → getD (tables j n) (16 * k + b) 0 ≡ shifts (4 * (j + k + 1)) b
 unfolding upto
 getD-tables zero j k b h g = absurd (not-suc-le-zero h)
 getD-tables (suc n) j zero b h g =
     let r = row j in
     ap (λ (i : ℕ). getD (r ++ tables (j + 1) n) i 0) (zero-add b)
-    ∙ List·getD-append r (tables (j + 1) n) 0 b (omega (arith, length-map (from 0 256) (shifts (8 * (j + 1))), length-from 0 256))
-    ∙ getD-row (shifts (8 * (j + 1))) 0 256 b g ∙ ap₂ (λ (x y : ℕ). shifts (8 * (x + 1)) y) (sym (add-zero j)) (zero-add b)
+    ∙ List·getD-append r (tables (j + 1) n) 0 b (omega (arith, length-map (from 0 16) (shifts (4 * (j + 1))), length-from 0 16))
+    ∙ getD-row (shifts (4 * (j + 1))) 0 16 b g ∙ ap₂ (λ (x y : ℕ). shifts (4 * (x + 1)) y) (sym (add-zero j)) (zero-add b)
 getD-tables (suc n) j (suc k) b h g =
     let r = row j in
-    let p : 256 * suc k + b ≡ length r + (256 * k + b) = omega (arith, length-map (from 0 256) (shifts (8 * (j + 1))), length-from 0 256) in
-    ap (λ (i : ℕ). getD (r ++ tables (j + 1) n) i 0) p ∙ getD-append-add r (tables (j + 1) n) (256 * k + b) 0
+    let p : 16 * suc k + b ≡ length r + (16 * k + b) = omega (arith, length-map (from 0 16) (shifts (4 * (j + 1))), length-from 0 16) in
+    ap (λ (i : ℕ). getD (r ++ tables (j + 1) n) i 0) p ∙ getD-append-add r (tables (j + 1) n) (16 * k + b) 0
     ∙ getD-tables n (j + 1) k b (le-of-suc-le-suc h) g
-    ∙ ap (λ (x : ℕ). shifts (8 * (x + 1)) b) (omega arith)
+    ∙ ap (λ (x : ℕ). shifts (4 * (x + 1)) b) (omega arith)
 
--- the entry of the byte b in table k
-pub entry : (k b : ℕ) → k < 8 → b < 256 → getD tableOf (256 * k + b) 0 ≡ shifts (8 * (k + 1)) b
+-- the entry of the half byte b in table k
+pub entry : (k b : ℕ) → k < 16 → b < 16 → getD tableOf (16 * k + b) 0 ≡ shifts (4 * (k + 1)) b
 unfolding tableOf
-entry k b h g = getD-tables 8 0 k b h g ∙ ap (λ (x : ℕ). shifts (8 * (x + 1)) b) (zero-add k)
-
--- ---- the tables by fewer operations: the numbers from 2^j on are those below it, with one bit more
-
-abbrev grow : ℕ → ℕ → List ℕ
-grow n zero = shifts n 0 ∷ []
-grow n (suc j) = grow n j ++ map (bitXor (shifts n (2 ^ j))) (grow n j)
-
-from-add : (a m n : ℕ) → from a (m + n) ≡ from a m ++ from (a + m) n
-unfolding from
-from-add a zero n = ap₂ from (sym (add-zero a)) (zero-add n)
-from-add a (suc m) n = ap (from a) (suc-add m n) ∙ ap (λ (r : List ℕ). a ∷ r) (from-add (a + 1) m n ∙ ap (λ (k : ℕ). from (a + 1) m ++ from k n) (omega arith))
-
-above : (n j a m : ℕ) → a + m ≤ 2 ^ j → map (shifts n) (from (2 ^ j + a) m) ≡ map (bitXor (shifts n (2 ^ j))) (map (shifts n) (from a m))
-unfolding from
-above n j a zero h = refl
-above n j a (suc m) h =
-    let e : 2 ^ j + a ≡ bitXor (2 ^ j) a = ap (λ (x : ℕ). x + a) (sym (one-mul (2 ^ j))) ∙ sym (xor-shifted 1 j a (omega arith)) ∙ ap (λ (x : ℕ). bitXor x a) (one-mul (2 ^ j)) in
-    ap₂ (λ (x : ℕ) (r : List ℕ). x ∷ r) (ap (shifts n) e ∙ shifts-xor n (2 ^ j) a)
-    (ap (λ (x : ℕ). map (shifts n) (from x m)) (add-assoc (2 ^ j) a 1) ∙ above n j (a + 1) m (omega arith))
-
-first : (n : ℕ) → map (shifts n) (from 0 1) ≡ shifts n 0 ∷ []
-unfolding from
-first n = refl
-
-grown : (n j : ℕ) → map (shifts n) (from 0 (2 ^ j)) ≡ grow n j
-grown n zero = first n
-grown n (suc j) =
-    ap (λ (m : ℕ). map (shifts n) (from 0 m)) (two-pow-succ j) ∙ ap (map (shifts n)) (from-add 0 (2 ^ j) (2 ^ j))
-    ∙ map-append (shifts n) (from 0 (2 ^ j)) (from (0 + 2 ^ j) (2 ^ j))
-    ∙ ap₂ _++_ (grown n j) (ap (λ (x : ℕ). map (shifts n) (from x (2 ^ j))) (zero-add (2 ^ j) ∙ sym (add-zero (2 ^ j)))
-    ∙ above n j 0 (2 ^ j) (omega arith) ∙ ap (map (bitXor (shifts n (2 ^ j)))) (grown n j))
-
--- n tables from number k on
-abbrev pub grows : ℕ → ℕ → List ℕ
-grows k zero = []
-grows k (suc n) = grow (8 * (k + 1)) 8 ++ grows (k + 1) n
-
-pub tables-grow : (k n : ℕ) → tables k n ≡ grows k n
-unfolding upto
-tables-grow k zero = refl
-tables-grow k (suc n) = ap₂ _++_ (grown (8 * (k + 1)) 8) (tables-grow (k + 1) n)
+entry k b h g = getD-tables 16 0 k b h g ∙ ap (λ (x : ℕ). shifts (4 * (x + 1)) b) (zero-add k)

@@ -4,9 +4,9 @@ use Prim.Native.Nat.{ℕ, zero, suc, _+_, _*_}
 use Rattle.laws.specs.Span.{upto}
 use Rattle.crc.specs.Crc.{shifts}
 
--- table k: each byte after 8 (k + 1) shifts
+-- table k: each half byte after 4 (k + 1) shifts
 abbrev pub row : ℕ → List ℕ
-row k = map (shifts (8 * (k + 1))) (upto 0 256)
+row k = map (shifts (4 * (k + 1))) (upto 0 16)
 
 -- n tables from number k on, one after the other
 abbrev pub tables : ℕ → ℕ → List ℕ
@@ -14,4 +14,4 @@ tables k zero = []
 tables k (suc n) = row k ++ tables (k + 1) n
 
 unfoldable pub tableOf : List ℕ
-tableOf = tables 0 8
+tableOf = tables 0 16

@@ -2,14 +2,13 @@
 -- Assumes nothing.
 use mathlib.Core.Path.{_≡_, ap, ap₂, _∙_}
 use mathlib.Core.List.{List, _++_}
-use Prim.Native.Nat.{ℕ, _+_, _-_, _*_, _/_, _≤_, _<_}
+use Prim.Native.Nat.{ℕ, _+_, _-_, _≤_, _<_}
 use native.Mathlib.Nat.{min-le-left, min-le-right}
 use native.Mathlib.Omega.{arith}
-use lib.ListN.{length, getD, replicate, length-append, length-replicate}
+use lib.ListN.{length, replicate, length-append, length-replicate}
 use Rattle.laws.specs.Bytes.{overwrite, part}
-use Rattle.laws.proofs.Bytes.{over-cat, part-same, part-cons}
-use Rattle.laws.specs.Little.{num, le, load}
-use Rattle.laws.proofs.Little.{Bytes}
+use Rattle.laws.proofs.Bytes.{over-cat, part-same}
+use Rattle.laws.specs.Little.{le}
 use Rattle.crc.specs.Crc.{crc32}
 use Rattle.frame.specs.Frame.{maxPayload, headOf, bodyOf, frameOf}
 
@@ -51,10 +50,3 @@ module _ (o : List ℕ) (at size off : ℕ) (payload : List ℕ) (h : at + size 
       let p : at + size - 4 ≡ at + length b = omega (arith, length-body size off payload k) in
       let ec′ : c ≡ crc32 b = ec ∙ ap₂ (λ (x : List ℕ) (m : ℕ). crc32 (part x at m)) e3 n ∙ ap crc32 (part-same o at b (omega (arith, length-body size off payload k))) in
       e4 ∙ (λ i. overwrite (e3 i) (p i) (le 4 (ec′ i))) ∙ over-cat o at b (le 4 (crc32 b))
-
--- the three bytes after the first of four
-pub upper : (l : List ℕ) (at : ℕ) → Bytes l → at + 4 ≤ length l → load l at / 256 ≡ num (part l (at + 1) 3)
-unfolding load num
-upper l at b h =
-    let e : num (part l at 4) ≡ getD l at 0 + 256 * num (part l (at + 1) 3) = ap num (part-cons l at 3 (omega arith)) in
-    omega (arith, e, b at)

@@ -11,7 +11,7 @@ ghost use Rattle.slots.specs.Slots.{slotsFrom};
 ghost use Rattle.frames.specs.Frames.{framesOf, Fit};
 
 // Writes the frames of `s`, each of `size` bytes, with the pieces' bytes out of `a`. `t` are crc's tables.
-pub fn put_frames(t: &[u32; 2048], out: &mut [u8], a: &[u8], s: Slots, size: usize)
+pub fn put_frames(t: &[u32; 256], out: &mut [u8], a: &[u8], s: Slots, size: usize)
     requires { ⌜ (now t ≡ tableOf) × (s .n ≤ maxSlots) × (10 ≤ size) × (length (framesOf size (slotsFrom s 0 (s .n)) (now a)) ≤ length (now out)) × Fit size (length (now a)) (slotsFrom s 0 (s .n)) ⌝ }
     ensures { λ _. ⌜ now (out .exit) ≡ overwrite (now (out .entry)) 0 (framesOf size (slotsFrom s 0 (s .n)) (now (a .entry))) ⌝ }
 {

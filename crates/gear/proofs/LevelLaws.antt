@@ -8,7 +8,7 @@ use lib.Ieee.{Float, lt}
 use Rattle.float.specs.Gear.{lossOf, weight}
 use Rattle.laws.proofs.Picks.{either}
 use Rattle.config.specs.declared.Profile.{Profile}
-use Rattle.frame.specs.declared.ChanClass.{ChanClass}
+use Rattle.report.specs.declared.ChanClass.{ChanClass}
 use Rattle.goodput.specs.declared.Gear.{Gear}
 use Rattle.gear.specs.declared.Outcome.{Outcome}
 use Rattle.bursts.specs.Bursts.{adapted}

@@ -27,7 +27,7 @@ use Rattle.laws.proofs.Span.{fold-keep}
 use Rattle.level.specs.Ladder.{topLevelIn}
 use Rattle.config.specs.declared.Profile.{Profile}
 use Rattle.limits.specs.Ranged.{Ranged}
-use Rattle.frame.specs.declared.ChanClass.{ChanClass}
+use Rattle.report.specs.declared.ChanClass.{ChanClass}
 use Rattle.memory.specs.declared.Reports.{Reports}
 use Rattle.memory.specs.declared.Tries.{Tries}
 use Rattle.ladder.specs.declared.Holds.{Holds}

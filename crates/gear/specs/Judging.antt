@@ -10,7 +10,7 @@ use Rattle.exp.specs.Hold.{holdOf}
 use Rattle.laws.specs.Span.{upto, every}
 use Rattle.level.specs.Ladder.{waveRank, isStep}
 use Rattle.config.specs.declared.Profile.{Profile}
-use Rattle.frame.specs.declared.ChanClass.{ChanClass}
+use Rattle.report.specs.declared.ChanClass.{ChanClass}
 use Rattle.memory.specs.declared.Tries.{Tries}
 use Rattle.goodput.specs.declared.Gear.{Gear}
 use Rattle.gear.specs.declared.Outcome.{Outcome}

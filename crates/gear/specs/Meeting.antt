@@ -5,7 +5,7 @@ use lib.Ieee.{Float, binary32, sub}
 use Rattle.level.specs.Ladder.{topLevelIn}
 use Rattle.config.specs.declared.MaybeDb.{MaybeDb}
 use Rattle.config.specs.declared.Profile.{Profile}
-use Rattle.frame.specs.declared.ChanClass.{ChanClass}
+use Rattle.report.specs.declared.ChanClass.{ChanClass}
 use Rattle.goodput.specs.declared.Gear.{Gear}
 use Rattle.goodput.specs.Goodput.{marksOf}
 use Rattle.goodput.specs.Setters.{some, withLevel, withBurst}

@@ -2,7 +2,6 @@
 use config::Marks;
 use config::MaybeDb;
 use config::Profile;
-use frame::ChanClass;
 use ladder::Holds;
 use ladder::air_db;
 use ladder::family_ok;
@@ -10,6 +9,7 @@ use ladder::heeded;
 use level::FLOOR;
 use memory::Reports;
 use memory::Tries;
+use report::ChanClass;
 ghost use mathlib.Core.Path.{_≡_};
 ghost use mathlib.Core.Bool.{false};
 ghost use Prim.Native.Nat.{_+_, _*_, _<_, _≤_, min};

@@ -11,7 +11,7 @@ use Rattle.laws.proofs.Span.{first-lt, last-lt}
 use Rattle.level.specs.Ladder.{longFrame}
 use Rattle.config.specs.declared.Marks.{Marks}
 use Rattle.config.specs.declared.MaybeLevel.{MaybeLevel}
-use Rattle.frame.specs.declared.ChanClass.{ChanClass}
+use Rattle.report.specs.declared.ChanClass.{ChanClass}
 use Rattle.ladder.specs.declared.Holds.{Holds}
 use Rattle.ladder.specs.Ladders.{familyOk, enough, levelFor, usable, usableBelow, climbs, climbAbove, allowedBelow, nthBelow, lowestLong, stepDown}
 

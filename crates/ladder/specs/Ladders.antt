@@ -10,7 +10,7 @@ use Rattle.level.specs.Ladder.{waveRank, longFrame, airMean, airMeanTd, guardMs
 use Rattle.config.specs.Entries.{entryAt}
 use Rattle.config.specs.declared.Marks.{Marks}
 use Rattle.config.specs.declared.MaybeLevel.{MaybeLevel}
-use Rattle.frame.specs.declared.ChanClass.{ChanClass}
+use Rattle.report.specs.declared.ChanClass.{ChanClass}
 use Rattle.ladder.specs.declared.Holds.{Holds}
 
 -- `air_db`, by the power table: 1 is AIR_MEAN_DB, 2 AIR_MEAN_TD_DB

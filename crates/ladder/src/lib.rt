@@ -4,8 +4,8 @@ ghost use Prim.Native.Nat.{_+_, _<_, _≤_, min, max};
 ghost use Rattle.ladder.specs.Ladders.{airDb, heeded, familyOk, enough, levelFor, passes, usable, usableBelow, climbs, climbAbove, allowedBelow, lowestLong, nthBelow, stepDown};
 use config::Marks;
 use config::MaybeLevel;
-use frame::ChanClass;
 use level::FLOOR;
+use report::ChanClass;
 
 // Per level: the time until which it is held off, and whether the hold rules out every faster level.
 pub struct Holds {

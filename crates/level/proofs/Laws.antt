@@ -1,15 +1,12 @@
 -- Rules of the ladder's tables, each one test over the whole table. Assumes nothing.
 use mathlib.Core.Path.{_≡_, refl, sym}
-use mathlib.Core.Bool.{Bool, true, false, Bool·beq, _&&_}
-use Prim.Native.Nat.{ℕ, _+_, _%_, _<_}
-use native.Mathlib.Omega.{arith}
-use borrow.Author.Tests.{ltb-true, ltb-false}
-use Rattle.laws.proofs.Picks.{by}
-use lib.Dec.{T, ltb, leb, eqb, ltb→lt}
+use mathlib.Core.Bool.{Bool, true, false, Bool·beq}
+use Prim.Native.Nat.{ℕ, _<_}
+use lib.Dec.{ltb, leb, ltb→lt}
 use Rattle.laws.specs.Span.{from, upto, every}
 use Rattle.laws.proofs.Span.{every-all}
 use Rattle.laws.proofs.Tables.{entry}
-use Rattle.level.specs.Ladder.{waves, waveRank, rates, rateOf, longFrame, ofdm, airCode, nextBurstId}
+use Rattle.level.specs.Ladder.{waves, waveRank, rates, rateOf, longFrame, ofdm}
 
 -- a wave is one of six
 pub wave-lt : (l : ℕ) → waveRank l < 6
@@ -36,13 +33,3 @@ long-from-5 l h = agree (longFrame l) (leb 5 l) (every-all (λ (k : ℕ). Bool·
 pub long-is-ofdm : (l : ℕ) → l < 17 → longFrame l ≡ ofdm (waveRank l)
 unfolding longFrame waveRank every upto from
 long-is-ofdm l h = agree (longFrame l) (ofdm (waveRank l)) (every-all (λ (k : ℕ). Bool·beq (longFrame k) (ofdm (waveRank k))) 17 refl l h)
-
--- a burst's number is one of four
-pub burst-id-lt : (id : ℕ) (heard : Bool) (peer : ℕ) → nextBurstId id heard peer < 4
-unfolding nextBurstId
-burst-id-lt id heard peer = by (λ (x : ℕ). x < 4) (heard && eqb ((id + 1) % 4) peer) (λ e. omega arith) (λ e. omega arith)
-
--- an air code has four bits
-pub air-lt : (l : ℕ) → l < 17 → airCode l < 14
-unfolding airCode
-air-lt l h = by (λ (x : ℕ). x < 14) (ltb l 5) (λ e. omega (arith, ltb-true)) (λ e. omega (arith, ltb-false))

@@ -1,8 +1,8 @@
 -- The ladder of level.rs by level number, and what station.rs reckons from it (document 01, module 1). Definitions only.
 use mathlib.Core.Bool.{Bool, true, false, cond, not, _&&_, _||_}
 use mathlib.Core.List.{List, [], _∷_}
-use Prim.Native.Nat.{ℕ, _+_, _-_, _*_, _%_}
-use lib.Dec.{ltb, leb, eqb}
+use Prim.Native.Nat.{ℕ}
+use lib.Dec.{leb, eqb}
 use lib.ListN.{getD}
 use lib.Ieee.{Float, nan, binary32, ofBits}
 use Rattle.laws.specs.Steps.{highest}
@@ -72,15 +72,3 @@ isStep l = eqb (waveRank l) 3 || (not (ofdm (waveRank l)) && not (eqb (rateOf l)
 -- top_level_in: the highest level whose wave is no faster than w, else FLOOR
 unfoldable pub topLevelIn : ℕ → ℕ
 topLevelIn w = highest (λ l. leb (waveRank l) w) 17 0
-
--- air_code of a level: MFSK levels from 0, OFDM levels from 2
-unfoldable pub airCode : ℕ → ℕ
-airCode l = cond (ltb l 5) l (l - 5 + 2)
-
--- user_bits: the air code in bits 0 to 3, the session in 4 to 11, `hi` in 12 to 15
-unfoldable pub userBits : ℕ → ℕ → ℕ → ℕ
-userBits l session hi = airCode l + 16 * session + 4096 * (hi % 16)
-
--- data_burst of sender.rs: the next number of four, or the one after it where that is the number last heard (`heard`: there is one)
-unfoldable pub nextBurstId : ℕ → Bool → ℕ → ℕ
-nextBurstId id heard peer = let n = (id + 1) % 4 in cond (heard && eqb n peer) ((n + 1) % 4) n

@@ -1,8 +1,8 @@
-// level.rs: the speed ladder, as constant tables by level number, and what station.rs reckons from it.
+// level.rs: the speed ladder, as constant tables by level number, and what gear.rs and station.rs read from it.
 // A wave is its `wave_rank`: 0 lifeline, 1 MFSK R0, 2 MFSK R1, 3 OFDM slice, 4 OFDM long, 5 OFDM normal.
 ghost use mathlib.Core.Path.{_≡_};
 ghost use Prim.Native.Nat.{_<_};
-ghost use Rattle.level.specs.Ladder.{waveRank, rateOf, longFrame, thresholds, effThresholds, airMean, airMeanTd, guardMs, isStep, topLevelIn, airCode, userBits, nextBurstId};
+ghost use Rattle.level.specs.Ladder.{waveRank, rateOf, longFrame, thresholds, effThresholds, airMean, airMeanTd, guardMs, isStep, topLevelIn};
 
 // Where every link starts.
 pub const FLOOR: usize = 0;
@@ -203,35 +203,4 @@ pub fn top_level_in(w: u8) -> usize
         }
     }
     FLOOR
-}
-
-// The 4-bit code that level l goes out with.
-pub fn air_code(l: usize) -> u16
-    requires { ⌜ l < 17 ⌝ }
-    ensures { λ r. ⌜ r ≡ airCode l ⌝ }
-{
-    if l < 5 {
-        return l as u16;
-    }
-    (l - 5 + 2) as u16
-}
-
-// For the PHY header of a data burst: its number and check bits are `hi`.
-pub fn user_bits(l: usize, session: u8, hi: u8) -> u16
-    requires { ⌜ l < 17 ⌝ }
-    ensures { λ r. ⌜ r ≡ userBits l session hi ⌝ }
-{
-    let code = air_code(l);
-    code + 16 * (session as u16) + 4096 * ((hi % 16) as u16)
-}
-
-// The number of the burst after burst_id: never the one that the far station last showed it heard.
-pub fn next_burst_id(burst_id: u8, heard: bool, peer_heard: u8) -> u8
-    ensures { λ r. ⌜ r ≡ nextBurstId «burst_id» heard «peer_heard» ⌝ }
-{
-    let n = (burst_id % 4 + 1) % 4;
-    if heard & (n == peer_heard) {
-        return (n + 1) % 4;
-    }
-    n
 }

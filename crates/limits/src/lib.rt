@@ -99,8 +99,8 @@ fn harq_ok(q: Harq) -> bool
 fn lengths_ok(b: Lengths) -> bool
     ensures { λ r. ⌜ r ≡ lengthsOk b ⌝ }
 {
-    let climb = b.burst_climb_db;
-    let costs = within(b.turnaround_s, 0.0, 60.0) & (db_ok(b.burst_steady_db) & maybe_db_ok(climb));
+    let costs = within(b.turnaround_s, 0.0, 60.0)
+        & (db_ok(b.burst_steady_db) & maybe_db_ok(b.burst_climb_db));
     within(b.max_burst_s, 1.0, 1000.0)
         & (within(b.max_burst_long_s, 1.0, 1000.0) & (within(b.burst_overhead, 0.01, 1.0) & costs))
 }
@@ -140,31 +140,23 @@ fn pin_ok(m: MaybeLevel) -> bool
 fn levels_ok(p: Profile) -> bool
     ensures { λ r. ⌜ r ≡ levelsOk p ⌝ }
 {
-    let pin = p.pin_level;
-    (p.max_level <= 16) & ((p.skip_slices_from <= 17) & pin_ok(pin))
+    (p.max_level <= 16) & ((p.skip_slices_from <= 17) & pin_ok(p.pin_level))
 }
 
 fn sizes_ok(p: Profile) -> bool
     ensures { λ r. ⌜ r ≡ sizesOk p ⌝ }
 {
-    let power = p.power;
-    from_to(p.short_bytes, 18, 512) & (from_to(p.long_bytes, 18, 512) & (power <= 2))
+    from_to(p.short_bytes, 18, 512) & (from_to(p.long_bytes, 18, 512) & (p.power <= 2))
 }
 
 // Refusal 1 where false: every number is in its range.
 pub fn in_range(p: Profile) -> bool
     ensures { λ r. ⌜ r ≡ inRangeOf p ⌝ }
 {
-    let air = p.air;
-    let codes = p.codes;
-    let lengths = p.lengths;
-    let holds = p.hold_times;
-    let plain = p.plain;
-    let eff = p.eff;
-    let start = p.start_margin_db;
-    let last = db_ok(p.cue_below_db) & (maybe_db_ok(start) & (levels_ok(p) & sizes_ok(p)));
-    let marks = marks_ok(plain) & (marks_ok(eff) & last);
-    air_ok(air) & (harq_ok(codes) & (lengths_ok(lengths) & (holds_ok(holds) & marks)))
+    let last = db_ok(p.cue_below_db)
+        & (maybe_db_ok(p.start_margin_db) & (levels_ok(p) & sizes_ok(p)));
+    let marks = marks_ok(p.plain) & (marks_ok(p.eff) & last);
+    air_ok(p.air) & (harq_ok(p.codes) & (lengths_ok(p.lengths) & (holds_ok(p.hold_times) & marks)))
 }
 
 // Refusal 2 where false: the short frame is no larger than the long.

@@ -10,7 +10,7 @@ use lib.Ieee.Fits.{and-l, and-r}
 use Rattle.laws.specs.Span.{from, upto, every}
 use Rattle.laws.proofs.Span.{every-all}
 use Rattle.ieee.specs.Range.{In, w32}
-use Rattle.frame.specs.Report.{snrFromQ, spreadOf, slotOf}
+use Rattle.report.specs.Report.{snrFromQ, spreadOf, slotOf}
 
 both : (lo hi x : Float) → (le lo x && le x hi) ≡ true → In lo hi x
 both lo hi x e = let t : T (le lo x && le x hi) = subst T (sym e) tt in record { low = and-l (le lo x) (le x hi) t; high = and-r (le lo x) (le x hi) t }

@@ -6,12 +6,13 @@ use lib.Ieee.{binary32, ofBits, add, le}
 use mathlib.Core.List.{List, [], _∷_}
 use Prim.Native.Nat.{ℕ, _+_, _*_}
 use Rattle.laws.specs.Steps.{highest}
-use Rattle.level.specs.Ladder.{thresholds, waveRank, airCode, userBits, topLevelIn, nextBurstId}
+use Rattle.level.specs.Ladder.{thresholds, waveRank, topLevelIn}
+use Rattle.header.specs.Header.{airCode, userBits, nextBurstId}
 use Rattle.harq.specs.Held.{above, smallest, upTo, incrementOf, startOf, partialField, checkBits, burstCheckBits}
 use Rattle.harq.specs.declared.Harq.{Harq}
 use Rattle.config.specs.Entries.{entryAt}
 use Rattle.config.specs.declared.Marks.{Marks}
-use Rattle.frame.specs.declared.ChanClass.{ChanClass}
+use Rattle.report.specs.declared.ChanClass.{ChanClass}
 use Rattle.ladder.specs.Ladders.{airDb, familyOk, enough, levelFor}
 use Rattle.ledger.specs.Ledger.{split, mergeInflight}
 use Rattle.ledger.proofs.Examples.{spans, piece, P7, P8, P9}

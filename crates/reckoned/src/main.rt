@@ -1,17 +1,17 @@
 // Document 01's reckoned examples, run through the code: a line each, as the paper words it, with what came out.
 use config::Marks;
-use frame::ChanClass;
 use harq::Harq;
 use harq::burst_check_bits;
 use harq::partial_field;
+use header::air_code;
+use header::next_burst_id;
+use header::user_bits;
 use io::print_decimal;
 use io::write_all;
 use ladder::level_for;
-use level::air_code;
-use level::next_burst_id;
 use level::top_level_in;
-use level::user_bits;
 use libc::STDOUT_FILENO;
+use report::ChanClass;
 
 fn say(text: &[u8], n: u64) {
     write_all(STDOUT_FILENO, text);

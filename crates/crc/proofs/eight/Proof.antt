@@ -6,29 +6,29 @@ use Rattle.crc.proofs.Laws.{shifts-eight}
 use Rattle.crc.proofs.eight.Statement.{statement}
 use Rattle.crc.proofs.eight.Tie as tie
 
-pick-requires : tie.Need-pick-requires
-pick-requires c κs = search needs
+byte-requires : tie.Need-byte-requires
+byte-requires c κs = search needs
 
-pick-requires-2 : tie.Need-pick-requires-2
-pick-requires-2 c κs = search needs
+byte-requires-2 : tie.Need-byte-requires-2
+byte-requires-2 c κs = search needs
 
-pick-requires-3 : tie.Need-pick-requires-3
-pick-requires-3 c κs = search needs
+byte-requires-3 : tie.Need-byte-requires-3
+byte-requires-3 c κs = search needs
 
-pick-requires-4 : tie.Need-pick-requires-4
-pick-requires-4 c κs = search needs
+byte-requires-4 : tie.Need-byte-requires-4
+byte-requires-4 c κs = search needs
 
-pick-requires-5 : tie.Need-pick-requires-5
-pick-requires-5 c κs = search needs
+byte-requires-5 : tie.Need-byte-requires-5
+byte-requires-5 c κs = search needs
 
-pick-requires-6 : tie.Need-pick-requires-6
-pick-requires-6 c κs = search needs
+byte-requires-6 : tie.Need-byte-requires-6
+byte-requires-6 c κs = search needs
 
-pick-requires-7 : tie.Need-pick-requires-7
-pick-requires-7 c κs = search needs
+byte-requires-7 : tie.Need-byte-requires-7
+byte-requires-7 c κs = search needs
 
-pick-requires-8 : tie.Need-pick-requires-8
-pick-requires-8 c κs = search needs
+byte-requires-8 : tie.Need-byte-requires-8
+byte-requires-8 c κs = search needs
 
 returns : tie.Need-returns
 returns c =
@@ -40,20 +40,20 @@ returns c =
     let c2 = c3 .before in
     let c1 = c2 .before in
     let s = c1 .before in
-    ap₂ bitXor (ap₂ bitXor (c1 .pick .ensures) (c2 .pick2 .ensures)) (ap₂ bitXor (ap₂ bitXor (c3 .pick3 .ensures) (c4 .pick4 .ensures))
-    (ap₂ bitXor (ap₂ bitXor (c5 .pick5 .ensures) (c6 .pick6 .ensures)) (ap₂ bitXor (c7 .pick7 .ensures) (c .pick8 .ensures))))
+    ap₂ bitXor (ap₂ bitXor (c7 .byte7 .ensures) (c .byte8 .ensures)) (ap₂ bitXor (ap₂ bitXor (c5 .byte5 .ensures) (c6 .byte6 .ensures))
+    (ap₂ bitXor (ap₂ bitXor (c3 .byte3 .ensures) (c4 .byte4 .ensures)) (ap₂ bitXor (c1 .byte .ensures) (c2 .byte2 .ensures))))
     ∙ sym (shifts-eight (s .args .x) _ _ _ (s .fits .x .fits) refl refl refl)
 
 pub eight-spec : {M : Type 1} → statement M
 eight-spec =
     tie.close
     (tie.spec
-    pick-requires
-    pick-requires-2
-    pick-requires-3
-    pick-requires-4
-    pick-requires-5
-    pick-requires-6
-    pick-requires-7
-    pick-requires-8
+    byte-requires
+    byte-requires-2
+    byte-requires-3
+    byte-requires-4
+    byte-requires-5
+    byte-requires-6
+    byte-requires-7
+    byte-requires-8
     returns)

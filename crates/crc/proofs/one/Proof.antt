@@ -12,17 +12,17 @@ use Rattle.crc.proofs.one.Tie as tie
 small : (c b : ℕ) → c < 2 ^ 32 → b < 256 → bitXor c b < 2 ^ 32
 small c b h g = xor-lt 32 c b h (omega arith)
 
-cast-pick : tie.Need-cast-pick
-cast-pick c = omega (arith, small (c .args .c) (c .args .b) (c .fits .c .fits) (c .fits .b .fits))
+cast-byte : tie.Need-cast-byte
+cast-byte c = omega (arith, small (c .args .c) (c .args .b) (c .fits .c .fits) (c .fits .b .fits))
 
-pick-requires : tie.Need-pick-requires
-pick-requires c κs = search needs
+byte-requires : tie.Need-byte-requires
+byte-requires c κs = search needs
 
 returns : tie.Need-returns
 unfolding shifts
 returns c =
     let x = bitXor (c .before .args .c) (c .before .args .b) in
-    ap (λ (r : ℕ). bitXor r (x / 256)) (c .pick .ensures) ∙ sym (shifts-slice 0 x)
+    ap (λ (r : ℕ). bitXor r (x / 256)) (c .byte .ensures) ∙ sym (shifts-slice 8 0 x)
 
 pub one-spec : {M : Type 1} → statement M
-one-spec = tie.close (tie.spec cast-pick pick-requires returns)
+one-spec = tie.close (tie.spec cast-byte byte-requires returns)

@@ -25,9 +25,9 @@ returns : tie.Need-returns
 returns c =
     let s = c .before in
     let k = s .args .k in
-    let b = s .args .x % 256 in
-    let h : b < 256 = omega arith in
-    ap (λ (l : List ℕ). getD l (256 * k + b) 0) (s .pre .0) ∙ entry k b (s .pre .1) h
+    let b = s .args .x % 16 in
+    let h : b < 16 = omega arith in
+    ap (λ (l : List ℕ). getD l (16 * k + b) 0) (s .pre .0) ∙ entry k b (s .pre .1) h
 
 pub pick-spec : {M : Type 1} → statement M
 pick-spec = tie.close (tie.spec mul-result add-result mul-result-2 element-copy-out-result returns)

@@ -13,7 +13,7 @@ narrowed-requires : tie.Need-narrowed-requires
 narrowed-requires c κs = search needs
 
 returns : tie.Need-returns
-returns c = cc
+returns c = simp (c .narrowed .ensures, c .before .exp64 .ensures, c .before .before .f32-to-f64-with-nan .ensures)
 
 pub exp32-spec : {M : Type 1} → statement M
 exp32-spec =

@@ -12,7 +12,7 @@ rate-requires c κs = search needs
 
 returns : tie.Need-returns
 unfolding isStep
-returns c = cc
+returns c = simp (c .rate .ensures, c .before .wave-rank .ensures)
 
 pub is-step-spec : {M : Type 1} → statement M
 is-step-spec = tie.close (tie.spec wave-rank-requires rate-requires returns)

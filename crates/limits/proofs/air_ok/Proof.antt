@@ -17,7 +17,7 @@ within-requires c κs = search needs
 
 returns : tie.Need-returns
 unfolding all airOk ofInt ofBits
-returns c = cc
+returns c = simp (c .within .ensures, c .before .acks-ok .ensures, c .before .before .levels-of-air-ok .ensures)
 
 pub air-ok-spec : {M : Type 1} → statement M
 air-ok-spec =

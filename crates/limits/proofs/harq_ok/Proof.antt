@@ -13,7 +13,7 @@ ends-ok-requires c κs = search needs
 
 returns : tie.Need-returns
 unfolding all harqOk
-returns c = cc
+returns c = simp (c .ends-ok .ensures, c .before .from-to .ensures)
 
 pub harq-ok-spec : {M : Type 1} → statement M
 harq-ok-spec = tie.close (tie.spec from-to-requires ends-ok-requires returns)

@@ -17,7 +17,7 @@ within-requires-3 c κs = search needs
 
 returns : tie.Need-returns
 unfolding all holdsOk ofInt ofBits
-returns c = cc
+returns c = simp (c .within3 .ensures, c .before .within2 .ensures, c .before .before .within .ensures)
 
 pub holds-ok-spec : {M : Type 1} → statement M
 holds-ok-spec = tie.close (tie.spec within-requires within-requires-2 within-requires-3 returns)

@@ -37,7 +37,7 @@ holds-ok-requires c κs = search needs
 
 returns : tie.Need-returns
 unfolding all inRange
-returns c = cc
+returns c = simp (c .holds-ok .ensures, c .before .lengths-ok .ensures, c .before .before .harq-ok .ensures, c .before .before .before .air-ok .ensures, c .before .before .before .before .marks-ok2 .ensures, c .before .before .before .before .before .marks-ok .ensures, c .before .before .before .before .before .before .sizes-ok .ensures, c .before .before .before .before .before .before .before .levels-ok .ensures, c .before .before .before .before .before .before .before .before .maybe-db-ok .ensures, c .before .before .before .before .before .before .before .before .before .db-ok .ensures)
 
 pub in-range-spec : {M : Type 1} → statement M
 in-range-spec =

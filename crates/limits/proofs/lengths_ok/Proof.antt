@@ -26,7 +26,7 @@ within-requires-4 c κs = search needs
 
 returns : tie.Need-returns
 unfolding all lengthsOk ofInt ofBits
-returns c = cc
+returns c = simp (c .within4 .ensures, c .before .within3 .ensures, c .before .before .within2 .ensures, c .before .before .before .maybe-db-ok .ensures, c .before .before .before .before .db-ok .ensures, c .before .before .before .before .before .within .ensures)
 
 pub lengths-ok-spec : {M : Type 1} → statement M
 lengths-ok-spec =

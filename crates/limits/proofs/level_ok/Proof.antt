@@ -35,7 +35,7 @@ within-requires-2 c κs = search needs
 
 returns : tie.Need-returns
 unfolding all levelOk ofInt ofBits
-returns c = cc
+returns c = simp (c .within2 .ensures, c .before .before .within .ensures, c .before .before .before .before .from-to .ensures, c .before .before .before .before .before .slot .ensures, c .before .before .before .before .before .before .most-bits .ensures)
 
 pub level-ok-spec : {M : Type 1} → statement M
 level-ok-spec =

@@ -10,7 +10,7 @@ pin-ok-requires c κs = search needs
 
 returns : tie.Need-returns
 unfolding all levelsOk
-returns c = cc
+returns c = simp (c .pin-ok .ensures)
 
 pub levels-ok-spec : {M : Type 1} → statement M
 levels-ok-spec = tie.close (tie.spec pin-ok-requires returns)

@@ -13,7 +13,7 @@ db-ok-requires c κs = search needs
 
 returns : tie.Need-returns
 unfolding all marksOk
-returns c = cc
+returns c = simp (c .db-ok .ensures, c .before .thresholds-ok .ensures)
 
 pub marks-ok-spec : {M : Type 1} → statement M
 marks-ok-spec = tie.close (tie.spec thresholds-ok-requires db-ok-requires returns)

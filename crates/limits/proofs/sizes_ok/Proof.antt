@@ -13,7 +13,7 @@ from-to-requires-2 c κs = search needs
 
 returns : tie.Need-returns
 unfolding all sizesOk
-returns c = cc
+returns c = simp (c .before .from-to2 .ensures, c .before .before .from-to .ensures)
 
 pub sizes-ok-spec : {M : Type 1} → statement M
 sizes-ok-spec = tie.close (tie.spec from-to-requires from-to-requires-2 returns)

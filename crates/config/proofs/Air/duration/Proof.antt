@@ -21,7 +21,7 @@ duration-requires c κs = search needs
 
 returns : tie.Need-returns
 unfolding durationAt
-returns c = cc
+returns c = c .duration .ensures
 
 pub duration-spec : {M : Type 1} → statement M
 duration-spec =

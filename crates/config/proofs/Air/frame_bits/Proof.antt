@@ -12,7 +12,7 @@ product-requires c κs = search needs
 
 returns : tie.Need-returns
 unfolding frameBits
-returns c = cc
+returns c = rw (c .before .slot .ensures) at (c .product .ensures)
 
 pub frame-bits-spec : {M : Type 1} → statement M
 frame-bits-spec = tie.close (tie.spec slot-requires product-requires returns)
