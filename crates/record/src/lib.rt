@@ -1,10 +1,10 @@
 // The sender's record: the sending half of Station (station.rs), nested in small structs.
 use config::MaybeDb;
-use frame::ChanClass;
 use goodput::Gear;
 use ladder::Holds;
 use memory::Reports;
 use memory::Tries;
+use report::ChanClass;
 ghost use mathlib.Core.Path.{_≡_};
 ghost use Rattle.record.specs.Fresh.{freshGear, freshLink, noCounts, noHeld, noSent, fresh};
 
