@@ -47,12 +47,12 @@ half-bit m i = ap (λ (x : ℕ). eqb (x % 2) 1) (div-div-eq-div-mul m 2 (2 ^ i) 
 abbrev pub Bits : (ℕ → Bool) → ℕ → ℕ → ℕ → Type 0
 Bits b i m n = (j : ℕ) → j < n → b (i + j) ≡ bitAt m j
 
-bits-first : (b : ℕ → Bool) (i m n : ℕ) → Bits b i m (suc n) → b i ≡ eqb (m % 2) 1
+pub bits-first : (b : ℕ → Bool) (i m n : ℕ) → Bits b i m (suc n) → b i ≡ eqb (m % 2) 1
 bits-first b i m n h =
     let e : i ≡ i + 0 = omega arith in
     ap b e ∙ h 0 (omega arith) ∙ ap (λ (x : ℕ). eqb (x % 2) 1) (div-one m)
 
-bits-rest : (b : ℕ → Bool) (i m n : ℕ) → Bits b i m (suc n) → Bits b (suc i) (m / 2) n
+pub bits-rest : (b : ℕ → Bool) (i m n : ℕ) → Bits b i m (suc n) → Bits b (suc i) (m / 2) n
 bits-rest b i m n h j k =
     let e : suc i + j ≡ i + suc j = omega arith in
     ap b e ∙ h (suc j) (omega arith) ∙ sym (half-bit m j)
