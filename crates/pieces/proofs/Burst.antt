@@ -10,13 +10,12 @@ use Rattle.laws.specs.Lists.{listed}
 use Rattle.laws.proofs.Lists.{map-append, map-take}
 use Rattle.laws.proofs.Picks.{by₂}
 use Rattle.table.specs.declared.Row.{Row}
-use Rattle.table.specs.Table.{total}
 use Rattle.slots.specs.Slots.{unheldSlots, chunkRows, incrementSlots}
 use Rattle.slots.specs.declared.Slot.{Slot}
 use Rattle.ledger.specs.Ledger.{Piece, Plan, Sender, Sent, offs, heldOffs, unheld, chunks, whole, wholes, increments, kept, recut, oldOffs, newPieces, slots}
 use Rattle.pieces.specs.Pieces.{piecesOf}
 use Rattle.pieces.specs.Lists.{heldOf, sentSlots}
-use Rattle.pieces.specs.Burst.{oldSlots, newRows, burstSlots}
+use Rattle.pieces.specs.Burst.{oldSlots, newRows, newSlots, burstSlots}
 use Rattle.pieces.proofs.Chunks.{chunk-pieces}
 use Rattle.pieces.proofs.Lists.{held-offs, held-take, sentSlots-append, sentSlots-length, sentSlots-take}
 
@@ -70,17 +69,17 @@ module _ (g : Plan) (s : Sender) (rs : List Row) (st os hs : List ℕ) (w : ℕ)
       ∙ chunk-pieces (g .room - length (oldSlots g rs os)) (g .payload) (s .next) (s .waiting)
       ∙ ap (λ (n : ℕ). chunks (g .room - n) (g .payload) (s .next) (s .waiting)) burst-old-count
 
-  new-sent : (at : ℕ) → sentSlots (unheldSlots [] (g .slot) at (newRows g rs os (s .next) w)) ≡ wholes g (offs (newPieces g s))
-  new-sent at =
-      ap (λ (k : ℕ). sentSlots (unheldSlots [] (g .slot) at (newRows g rs os (s .next) k))) (sym count)
-      ∙ new-slots g (g .room - length (oldSlots g rs os)) (g .payload) (s .next) at (s .waiting)
+  pub burst-fresh : sentSlots (newSlots g rs os (s .next) w) ≡ wholes g (offs (newPieces g s))
+  burst-fresh =
+      ap (λ (k : ℕ). sentSlots (newSlots g rs os (s .next) k)) (sym count)
+      ∙ new-slots g (g .room - length (oldSlots g rs os)) (g .payload) (s .next) _ (s .waiting)
       ∙ ap (λ (n : ℕ). wholes g (offs (chunks (g .room - n) (g .payload) (s .next) (s .waiting)))) burst-old-count
 
   pub burst-slots : (q : Harq) → ((h : ℕ) → g .increment h ≡ incrementOf q h (g .slot)) → sentSlots (burstSlots g rs os q hs (s .next) w) ≡ slots g s
   burst-slots q e =
-      let new = unheldSlots [] (g .slot) (total rs) (newRows g rs os (s .next) w) in
+      let new = newSlots g rs os (s .next) w in
       let parity = incrementSlots q (g .slot) rs (take (g .parity) os) (take (g .parity) hs) in
       sentSlots-append parity (oldSlots g rs os ++ new)
       ∙ ap₂ (λ (x y : List Sent). x ++ y)
       (increment-slots g q e rs (take (g .parity) os) (take (g .parity) hs) ∙ ap (increments g) (held-take (g .parity) os hs ∙ ap (take (g .parity)) (sym held)))
-      (sentSlots-append (oldSlots g rs os) new ∙ ap₂ (λ (x y : List Sent). x ++ y) burst-old (new-sent (total rs)) ∙ sym (map-append (whole g) (oldOffs g s) (offs (newPieces g s))))
+      (sentSlots-append (oldSlots g rs os) new ∙ ap₂ (λ (x y : List Sent). x ++ y) burst-old burst-fresh ∙ sym (map-append (whole g) (oldOffs g s) (offs (newPieces g s))))

@@ -1,6 +1,5 @@
 -- A burst out of a sound record: its rows hold the ledger's pieces, and each slot has its piece's bytes.
 -- Assumes nothing.
-use mathlib.Core.Logic.{⊎-elim}
 use mathlib.Core.Path.{_≡_, refl, sym, ap, ap₂, subst, _∙_}
 use mathlib.Core.List.{List, [], _∷_, _++_, map}
 use Prim.Native.Nat.{ℕ, zero, suc, _+_, _-_, _≤_}
@@ -17,14 +16,14 @@ use Rattle.laws.proofs.Bytes.{length-part}
 use Rattle.laws.proofs.Lists.{occurs-append, occurs-all, one-other}
 use Rattle.laws.proofs.Picks.{by, test}
 use Rattle.frame.specs.Frame.{maxPayload}
-use Rattle.frames.specs.Frames.{Fit}
+use Rattle.frames.specs.Frames.{framesOf, Fit}
 use Rattle.table.specs.declared.Row.{Row}
 use Rattle.table.specs.Table.{total}
 use Rattle.sound.specs.Sound.{rowOffs}
 use Rattle.slots.specs.Slots.{unheldSlots, incrementSlots}
 use Rattle.slots.specs.declared.Slot.{Slot}
 use Rattle.slots.proofs.Laws.{chunk-total}
-use Rattle.ledger.specs.Limits.{Sizes, SizeRange}
+use Rattle.ledger.specs.Limits.{Sizes, SizeRange, maxSlots}
 use Rattle.ledger.specs.Ledger.{Piece, Plan, Sender, Sent, Held, end, size, offs, heldOffs, find, frames, kept, recut, oldOffs, newPieces, dataBurst}
 use Rattle.ledger.specs.Cover.{Ascend}
 use Rattle.ledger.specs.Sound.{Sound, Fits}
@@ -33,11 +32,13 @@ use Rattle.ledger.proofs.Cover.{ascend-le, ascend-chunks}
 use Rattle.ledger.proofs.Offsets.{offs-append, occurs-low, occurs-once, flying-within}
 use Rattle.pieces.specs.Pieces.{piecesOf}
 use Rattle.pieces.specs.Lists.{heldOf, sentSlots}
-use Rattle.pieces.specs.Burst.{oldSlots, newRows, burstSlots, Placed}
-use Rattle.pieces.proofs.Sound.{offs-rows, size-rows}
+use Rattle.pieces.specs.Burst.{oldSlots, newRows, newSlots, burstSlots, Placed, framesSent}
+use Rattle.pieces.proofs.Sound.{offs-rows, size-rows, total-append}
+use Rattle.pieces.proofs.Lists.{sentSlots-length}
 use Rattle.pieces.proofs.Chunks.{append-pieces}
+use Rattle.pieces.proofs.Room.{payload-some}
 use Rattle.pieces.proofs.Burst.{kept-offs, burst-new, burst-slots}
-use Rattle.pieces.proofs.Placed.{placed-append, placed-take, placed-more, placed-increments, placed-unheld, placed-bytes, placed-frames, placed-fit, rowOffs-append, total-append}
+use Rattle.pieces.proofs.Placed.{placed-append, placed-take, placed-more, placed-increments, placed-unheld, placed-bytes, placed-carry, placed-frames, placed-fit, rowOffs-append}
 
 -- ---- pieces out of a longer stream
 
@@ -71,9 +72,6 @@ occurs-high m k n o (p ∷ ps) a h =
     omega (arith, one-other o (p .off) (λ (e : o ≡ p .off). omega (arith, a .1)))
 
 module _ (z : Sizes) (zr : SizeRange z) (s : Sender) (g : Plan) (so : Sound z s) (fi : Fits z s g) where
-  payload-some : 1 ≤ g .payload
-  payload-some = ⊎-elim (λ e. omega (arith, zr .least)) (λ e. omega (arith, zr .least, zr .order)) (fi .payload)
-
   kept-held : (o : ℕ) → occurs o (heldOffs (kept g s)) ≤ occurs o (heldOffs (s .held))
   kept-held o = by (λ (r : List Held). occurs o (heldOffs r) ≤ occurs o (heldOffs (s .held))) (eqb (g .parity) 0) (λ e. omega arith) (λ e. omega arith)
 
@@ -92,7 +90,7 @@ module _ (z : Sizes) (zr : SizeRange z) (s : Sender) (g : Plan) (so : Sound z s)
       occurs-all (offs (recut g s)) (heldOffs (kept g s))
       (λ o.
       test (ltb o (s .next))
-      (λ e. omega (arith, kept-all o, occurs-low (g .payload) (s .next) _ o (newPieces g s) (ascend-chunks (g .room - length (oldOffs g s)) (g .payload) (s .next) (s .waiting) payload-some) (ltb-true o (s .next) e)))
+      (λ e. omega (arith, kept-all o, occurs-low (g .payload) (s .next) _ o (newPieces g s) (ascend-chunks (g .room - length (oldOffs g s)) (g .payload) (s .next) (s .waiting) (payload-some z zr s g so fi)) (ltb-true o (s .next) e)))
       (λ e. omega (arith, kept-held o, flying-within (heldOffs (s .held)) (s .pieces) (so .heldFlying) o, occurs-high (z .long) 0 (s .next) o (s .pieces) (so .ascend) (ltb-false o (s .next) e))))
 
   -- ---- the rows hold the re-cut pieces, os and hs are the held list that is kept, and w bytes wait behind the flying ones
@@ -159,7 +157,7 @@ module _ (z : Sizes) (zr : SizeRange z) (s : Sender) (g : Plan) (so : Sound z s)
       burst-placed =
           let parity = incrementSlots q (g .slot) rs (take (g .parity) os) (take (g .parity) hs) in
           let old = oldSlots g rs os in
-          let fresh = unheldSlots [] (g .slot) (total rs) new in
+          let fresh = newSlots g rs os (s .next) w in
           placed-append (rs ++ new) parity (old ++ fresh)
           (placed-more rs new parity (placed-increments q (g .slot) rs (take (g .parity) os) (take (g .parity) hs) (all-take (g .parity) os (rowOffs rs) kept-rows)))
           (placed-append (rs ++ new) old fresh (placed-more rs new old (placed-take rs (g .room) (unheldSlots os (g .slot) 0 rs) (placed-unheld os (g .slot) [] rs rows-once)))
@@ -170,11 +168,18 @@ module _ (z : Sizes) (zr : SizeRange z) (s : Sender) (g : Plan) (so : Sound z s)
         unfolding dataBurst
         burst-sent = burst-slots g s rs a os hs w pieces held sides waiting-count q e
 
+        pub burst-few : length xs ≤ maxSlots
+        unfolding dataBurst
+        burst-few = omega (arith, burst-sound z zr s g so fi .outFew, sentSlots-length xs, ap length burst-sent)
+
         -- each slot has the bytes of its frame's piece
         pub burst-bytes : map (λ (x : Slot). part a (x .start) (x .len)) xs ≡ map (λ (f : Sent). find (f .off) (dataBurst g s .pieces)) (dataBurst g s .sent)
         burst-bytes =
             placed-bytes a (rs ++ new) xs burst-placed
             ∙ ap₂ (λ (ps : List Piece) (fs : List Sent). map (λ (f : Sent). find (f .off) ps) fs) burst-pieces burst-sent
+
+        pub burst-carry : (size : ℕ) → framesOf size xs a ≡ framesSent size (dataBurst g s .pieces) (dataBurst g s .sent)
+        burst-carry size = placed-carry size a (rs ++ new) xs burst-placed ∙ ap₂ (framesSent size) burst-pieces burst-sent
 
         -- and its length: the frames as the answer tells them
         pub burst-frames : frames (dataBurst g s .pieces) (dataBurst g s .sent) ≡ map (λ (x : Slot). record { off = x .off; len = x .len }) xs

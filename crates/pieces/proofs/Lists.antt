@@ -27,7 +27,7 @@ pub held-take : (n : ℕ) (os bs : List ℕ) → heldOf (take n os) (take n bs) 
 held-take zero os bs = refl
 held-take (suc n) [] bs = refl
 held-take (suc n) (o ∷ os) [] = refl
-held-take (suc n) (o ∷ os) (b ∷ bs) = ap (λ (l : List Held). record { off = o; bits = b } ∷ l) (held-take n os bs)
+held-take (suc n) (o ∷ os) (b ∷ bs) = rw (held-take n os bs)
 
 held-none : (os : List ℕ) → heldOf os [] ≡ []
 held-none [] = refl
@@ -43,12 +43,12 @@ pub held-append : (os bs ps cs : List ℕ) → length os ≡ length bs → heldO
 held-append [] [] ps cs h = refl
 held-append [] (b ∷ bs) ps cs h = absurd (omega arith)
 held-append (o ∷ os) [] ps cs h = absurd (omega arith)
-held-append (o ∷ os) (b ∷ bs) ps cs h = ap (λ (l : List Held). record { off = o; bits = b } ∷ l) (held-append os bs ps cs (suc-inj h))
+held-append (o ∷ os) (b ∷ bs) ps cs h = rw (held-append os bs ps cs (suc-inj h))
 
 -- a held list is its offsets and its bits
 pub held-map : (hs : List Held) → heldOf (heldOffs hs) (map (λ (h : Held). h .bits) hs) ≡ hs
 held-map [] = refl
-held-map (h ∷ hs) = ap (λ (l : List Held). h ∷ l) (held-map hs)
+held-map (h ∷ hs) = rw (held-map hs)
 
 -- ---- offsets, bits and held bits
 
@@ -69,7 +69,7 @@ sent-take zero os bs hs = refl
 sent-take (suc n) [] bs hs = refl
 sent-take (suc n) (o ∷ os) [] hs = refl
 sent-take (suc n) (o ∷ os) (b ∷ bs) [] = refl
-sent-take (suc n) (o ∷ os) (b ∷ bs) (h ∷ hs) = ap (λ (l : List Sent). record { off = o; bits = b; held = h } ∷ l) (sent-take n os bs hs)
+sent-take (suc n) (o ∷ os) (b ∷ bs) (h ∷ hs) = rw (sent-take n os bs hs)
 
 sent-no-bits : (os hs : List ℕ) → sentOf os [] hs ≡ []
 sent-no-bits [] hs = refl
@@ -93,14 +93,13 @@ sent-append [] [] (h ∷ hs) ps cs ks e f = absurd (omega arith)
 sent-append [] (b ∷ bs) hs ps cs ks e f = absurd (omega arith)
 sent-append (o ∷ os) [] hs ps cs ks e f = absurd (omega arith)
 sent-append (o ∷ os) (b ∷ bs) [] ps cs ks e f = absurd (omega arith)
-sent-append (o ∷ os) (b ∷ bs) (h ∷ hs) ps cs ks e f =
-    ap (λ (l : List Sent). record { off = o; bits = b; held = h } ∷ l) (sent-append os bs hs ps cs ks (suc-inj e) (suc-inj f))
+sent-append (o ∷ os) (b ∷ bs) (h ∷ hs) ps cs ks e f = rw (sent-append os bs hs ps cs ks (suc-inj e) (suc-inj f))
 
 -- ---- slots
 
 pub sentSlots-is : (xs : List Slot) → sentOf (map (λ (x : Slot). x .off) xs) (map (λ (x : Slot). x .bits) xs) (map (λ (x : Slot). x .held) xs) ≡ sentSlots xs
 sentSlots-is [] = refl
-sentSlots-is (x ∷ xs) = ap (λ (l : List Sent). record { off = x .off; bits = x .bits; held = x .held } ∷ l) (sentSlots-is xs)
+sentSlots-is (x ∷ xs) = rw (sentSlots-is xs)
 
 pub sentSlots-offs : (xs : List Slot) → sentOffs (sentSlots xs) ≡ map (λ (x : Slot). x .off) xs
 sentSlots-offs xs = map-map (λ (f : Sent). f .off) (λ (x : Slot). record { off = x .off; bits = x .bits; held = x .held }) xs

@@ -3,20 +3,22 @@
 use mathlib.Core.Path.{_≡_, refl, sym, ap, ap₂, subst, _∙_}
 use mathlib.Core.List.{List, [], _∷_, _++_, map, append-assoc}
 use mathlib.Core.Bool.{true, false≢true}
-use Prim.Native.Nat.{ℕ, zero, suc, _+_, _≤_}
+use Prim.Native.Nat.{ℕ, zero, suc, _+_, _*_, _≤_}
 use native.Mathlib.Nat.{zero-add, add-zero, add-assoc}
 use native.Mathlib.Omega.{arith}
-use lib.ListN.{length, take, drop}
+use lib.ListN.{length, take, drop, length-append}
 use lib.Seq.{drop-drop}
 use lib.Dec.{eqb}
 use borrow.Author.Tests.{eq-eqb}
 use Rattle.harq.specs.declared.Harq.{Harq}
 use Rattle.laws.specs.Bytes.{part}
 use Rattle.laws.specs.Lists.{listed, occurs, AllListed}
+use Rattle.laws.proofs.Bytes.{length-part}
 use Rattle.laws.proofs.Lists.{occurs-append, one-none, one-same}
 use Rattle.laws.proofs.Picks.{by, by₂, test}
-use Rattle.frame.specs.Frame.{maxPayload}
-use Rattle.frames.specs.Frames.{Fit}
+use Rattle.frame.specs.Frame.{maxPayload, frameOf}
+use Rattle.frame.proofs.Laws.{length-frame}
+use Rattle.frames.specs.Frames.{framesOf, Fit}
 use Rattle.table.specs.declared.Row.{Row}
 use Rattle.table.specs.Table.{total}
 use Rattle.lookup.specs.Find.{findFrom, bytesAt}
@@ -29,8 +31,8 @@ use Rattle.ledger.specs.Ledger.{Piece, Sent, Frame, end, find, frames}
 use Rattle.ledger.specs.Cover.{Ascend}
 use Rattle.pieces.specs.Pieces.{piecesOf}
 use Rattle.pieces.specs.Lists.{sentSlots}
-use Rattle.pieces.specs.Burst.{Placed}
-use Rattle.pieces.proofs.Sound.{head-length}
+use Rattle.pieces.specs.Burst.{Placed, framesSent}
+use Rattle.pieces.proofs.Sound.{head-length, total-append}
 
 -- ---- what is found
 
@@ -106,11 +108,6 @@ pub rowOffs-append : (rs ss : List Row) → rowOffs (rs ++ ss) ≡ rowOffs rs ++
 rowOffs-append [] ss = refl
 rowOffs-append (r ∷ rs) ss = ap (λ (l : List ℕ). r .off ∷ l) (rowOffs-append rs ss)
 
-pub total-append : (rs ss : List Row) → total (rs ++ ss) ≡ total rs + total ss
-unfolding total
-total-append [] ss = sym (zero-add (total ss))
-total-append (r ∷ rs) ss = omega (arith, total-append rs ss)
-
 -- rows with distinct offsets, of which the last ones go
 pub placed-unheld : (held : List ℕ) (b : ℕ) (pre rs : List Row) → ((o : ℕ) → occurs o (rowOffs (pre ++ rs)) ≤ 1) → Placed (pre ++ rs) (unheldSlots held b (total pre) rs)
 unfolding unheldSlots total
@@ -136,6 +133,13 @@ placed-bytes a rs [] p = refl
 placed-bytes a rs (x ∷ xs) p =
     ap₂ (λ (b : List ℕ) (l : List (List ℕ)). b ∷ l) (ap (bytesAt a) (sym (p .0)) ∙ found-bytes (x .off) 0 a rs) (placed-bytes a rs xs (p .1))
 
+-- so the frames carry them
+pub placed-carry : (size : ℕ) (a : List ℕ) (rs : List Row) (xs : List Slot) → Placed rs xs → framesOf size xs a ≡ framesSent size (piecesOf rs a) (sentSlots xs)
+unfolding framesOf
+placed-carry size a rs [] p = refl
+placed-carry size a rs (x ∷ xs) p =
+    ap₂ (λ (b l : List ℕ). frameOf size (x .off) b ++ l) (ap (bytesAt a) (sym (p .0)) ∙ found-bytes (x .off) 0 a rs) (placed-carry size a rs xs (p .1))
+
 -- as many as the piece has: the frames that the ledger tells
 pub placed-frames : (a : List ℕ) (rs : List Row) (xs : List Slot) → total rs ≤ length a → Placed rs xs
     → frames (piecesOf rs a) (sentSlots xs) ≡ map (λ (x : Slot). record { off = x .off; len = x .len }) xs
@@ -158,4 +162,17 @@ placed-fit size m k n used a rs (x ∷ xs) h s l u p =
       omega (arith, found-len (x .off) 0 rs a h, find-most m k n (x .off) (piecesOf rs a) s),
       omega (arith, find-within (x .off) 0 rs),
       placed-fit size m k n used a rs xs h s l u (p .1),
+    )
+
+-- frames that fit have their size each
+pub frames-length : (size : ℕ) (a : List ℕ) (xs : List Slot) → 10 ≤ size → Fit size (length a) xs → length (framesOf size xs a) ≡ length xs * size
+unfolding framesOf
+frames-length size a [] h f = omega arith
+frames-length size a (x ∷ xs) h f =
+    let l : length (part a (x .start) (x .len)) ≡ x .len = length-part a (x .start) (x .len) (f .1) in
+    omega (
+      arith,
+      length-append (frameOf size (x .off) (part a (x .start) (x .len))) (framesOf size xs a),
+      length-frame size (x .off) (part a (x .start) (x .len)) (omega (arith, f .0)),
+      frames-length size a xs h (f .2),
     )

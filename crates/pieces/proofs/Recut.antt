@@ -1,4 +1,4 @@
--- Cutting and merging the rows cuts and merges the pieces that they hold.
+-- Cutting and merging the rows cuts and merges the pieces that they hold, and leaves as many bytes.
 -- Assumes nothing.
 use mathlib.Core.Path.{_≡_, refl, sym, ap, ap₂, _∙_}
 use mathlib.Core.List.{List, [], _∷_, _++_}
@@ -10,13 +10,14 @@ use lib.Seq.{length-take-le, take-add, take-take, drop-drop, drop-at}
 use lib.Dec.{leb, eqb}
 use borrow.Author.Tests.{leb-false}
 use Rattle.laws.specs.Lists.{listed}
-use Rattle.laws.proofs.Picks.{by₂}
+use Rattle.laws.proofs.Picks.{by, by₂}
 use Rattle.table.specs.declared.Row.{Row}
 use Rattle.table.specs.Table.{total}
 use Rattle.recut.specs.Recut.{row, cutRows, splitRows, joinsRow, mergeRowsFrom, mergeRows}
-use Rattle.ledger.specs.Ledger.{Piece, cut, split, joins, mergeFrom, mergeInflight}
+use Rattle.ledger.specs.Ledger.{Piece, Plan, Sender, heldOffs, cut, split, joins, mergeFrom, mergeInflight, kept, recut}
 use Rattle.pieces.specs.Pieces.{piecesOf}
-use Rattle.pieces.proofs.Sound.{head-length}
+use Rattle.pieces.specs.Burst.{recutRows}
+use Rattle.pieces.proofs.Sound.{head-length, total-append}
 
 -- ---- cut
 
@@ -47,6 +48,18 @@ split-pieces m (r ∷ rs) st h =
     let e = head-length r rs st h in
     cut-pieces (r .len) m (r .off) (r .len) (splitRows m rs) st (omega arith)
     ∙ ap₂ (λ (k : ℕ) (ps : List Piece). cut k m (r .off) (take (r .len) st) ++ ps) (sym (e .0)) (split-pieces m rs (drop (r .len) st) (e .1))
+
+cut-total : (k m o n : ℕ) → total (cutRows k m o n) ≡ n
+unfolding cutRows total
+cut-total zero m o n = omega arith
+cut-total (suc k) m o n =
+    by (λ (xs : List Row). total xs ≡ n) (leb n m) (λ e. omega arith) (λ e. omega (arith, leb-false n m e, cut-total k m (o + m) (n - m)))
+
+pub split-total : (m : ℕ) (rs : List Row) → total (splitRows m rs) ≡ total rs
+unfolding splitRows total
+split-total m [] = refl
+split-total m (r ∷ rs) =
+    total-append (cutRows (r .len) m (r .off) (r .len)) (splitRows m rs) ∙ ap₂ (λ (x y : ℕ). x + y) (cut-total (r .len) m (r .off) (r .len)) (split-total m rs)
 
 -- ---- merged
 
@@ -90,3 +103,31 @@ pub merge-pieces : (h : List ℕ) (m : ℕ) (rs : List Row) (st : List ℕ) → 
 unfolding mergeRows
 merge-pieces h m [] st l = refl
 merge-pieces h m (p ∷ rs) st l = merge-from-pieces h m p rs st l
+
+merge-from-total : (h : List ℕ) (m : ℕ) (p : Row) (rs : List Row) → total (mergeRowsFrom h m p rs) ≡ total (p ∷ rs)
+unfolding mergeRowsFrom total
+merge-from-total h m p [] = refl
+merge-from-total h m p (q ∷ rs) =
+    by (λ (xs : List Row). total xs ≡ p .len + (q .len + total rs)) (joinsRow h m p q)
+    (λ t. merge-from-total h m (row (p .off) (p .len + q .len)) rs ∙ omega arith)
+    (λ t. ap (λ (k : ℕ). p .len + k) (merge-from-total h m q rs))
+
+pub merge-total : (h : List ℕ) (m : ℕ) (rs : List Row) → total (mergeRows h m rs) ≡ total rs
+unfolding mergeRows
+merge-total h m [] = refl
+merge-total h m (p ∷ rs) = merge-from-total h m p rs
+
+-- ---- both
+
+pub recut-pieces : (g : Plan) (s : Sender) (os : List ℕ) (rs : List Row) (st : List ℕ) → total rs ≤ length st → heldOffs (kept g s) ≡ os → s .pieces ≡ piecesOf rs st
+    → recut g s ≡ piecesOf (recutRows g os rs) st
+recut-pieces g s os rs st l h e =
+    let t : split (g .payload) (s .pieces) ≡ piecesOf (splitRows (g .payload) rs) st = ap (split (g .payload)) e ∙ sym (split-pieces (g .payload) rs st l) in
+    let n : total (splitRows (g .payload) rs) ≤ length st = omega (arith, split-total (g .payload) rs) in
+    by₂ (λ (ps : List Piece) (xs : List Row). ps ≡ piecesOf xs st) (g .merging)
+    (λ d. ap₂ (λ (o : List ℕ) (ps : List Piece). mergeInflight o (g .payload) ps) h t ∙ sym (merge-pieces os (g .payload) (splitRows (g .payload) rs) st n))
+    (λ d. t)
+
+pub recut-total : (g : Plan) (os : List ℕ) (rs : List Row) → total (recutRows g os rs) ≡ total rs
+recut-total g os rs =
+    by (λ (xs : List Row). total xs ≡ total rs) (g .merging) (λ e. merge-total os (g .payload) (splitRows (g .payload) rs) ∙ split-total (g .payload) rs) (λ e. split-total (g .payload) rs)

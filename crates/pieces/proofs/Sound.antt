@@ -4,7 +4,7 @@ use mathlib.Core.Path.{_≡_, refl, sym, ap, ap₂, subst, _∙_}
 use mathlib.Core.List.{List, [], _∷_, _++_}
 use mathlib.Core.Bool.{Bool, true, false, not, _&&_, _||_, true≢false}
 use Prim.Native.Nat.{ℕ, _+_, _≤_, _<_}
-use native.Mathlib.Nat.{suc-inj}
+use native.Mathlib.Nat.{suc-inj, zero-add}
 use native.Mathlib.Omega.{arith}
 use lib.ListN.{length, take, drop, length-drop}
 use lib.Seq.{length-take-le}
@@ -71,6 +71,11 @@ pieces-ascend m n k (r ∷ rs) st h f =
 pub length-pieces : (rs : List Row) (st : List ℕ) → length (piecesOf rs st) ≡ length rs
 length-pieces [] st = refl
 length-pieces (r ∷ rs) st = rw (length-pieces rs (drop (r .len) st))
+
+pub total-append : (rs ss : List Row) → total (rs ++ ss) ≡ total rs + total ss
+unfolding total
+total-append [] ss = sym (zero-add (total ss))
+total-append (r ∷ rs) ss = omega (arith, total-append rs ss)
 
 -- ---- the whole table
 
