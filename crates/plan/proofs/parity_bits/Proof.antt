@@ -50,13 +50,14 @@ loop-again : tie.Need-loop-again Inv-loop μ-loop
 loop-again c =
     let i = c .before .before in
     let p = i .before in
-    let s = p .before .before in
-    (omega arith,
-     omega (arith, small c),
-     λ k e.
-     let t = bits-turn (s .args .q) k (now (s .args .bits)) (p .loop .i) (i .loop-test .taken) in
-     let m = c .increment .ensures ∙ ap (incrementOf (s .args .q) (getD (now (s .args .bits)) (p .loop .i) 0)) (sym e) in
-     p .loop .inv .2 k e ∙ omega (arith, t, m))
+    let s = p .before .before in (
+      omega arith,
+      omega (arith, small c),
+      λ k e.
+          let t = bits-turn (s .args .q) k (now (s .args .bits)) (p .loop .i) (i .loop-test .taken) in
+          let m = c .increment .ensures ∙ ap (incrementOf (s .args .q) (getD (now (s .args .bits)) (p .loop .i) 0)) (sym e) in
+          p .loop .inv .2 k e ∙ omega (arith, t, m),
+    )
 
 returns : tie.Need-returns Inv-loop μ-loop
 unfolding parityBits

@@ -68,10 +68,11 @@ loop-again : tie.Need-loop-again Inv-loop μ-loop
 loop-again c =
     let e = c .before .before in
     let d = e .before .before in
-    let p = d .before in
-    (omega (arith, p .loop .inv .0),
-     omega (arith, last d, p .loop .inv .1, c .increment .ensures),
-     p .loop .inv .2 ∙ pop-less _ _ _ _ (d .loop-test .taken) (sym (big (e .before)) ∙ not-false _ (e .if1 .left)))
+    let p = d .before in (
+      omega (arith, p .loop .inv .0),
+      omega (arith, last d, p .loop .inv .1, c .increment .ensures),
+      p .loop .inv .2 ∙ pop-less _ _ _ _ (d .loop-test .taken) (sym (big (e .before)) ∙ not-false _ (e .if1 .left)),
+    )
 
 returns-2 : tie.Need-returns-2 Inv-loop μ-loop
 returns-2 c = sym (c .before .loop .inv .2 ∙ pop-end _ _ _ _ (c .loop-test .left))

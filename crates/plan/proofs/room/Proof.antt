@@ -1,4 +1,4 @@
-use Rattle.plan.specs.Planning.{roomFrom}
+use Rattle.plan.specs.Planning.{oneMore, roomFrom}
 use Rattle.plan.proofs.Turns.{room-more, room-stop, room-end}
 use Rattle.ledger.specs.Limits.{maxSlots}
 use Prim.Native.Nat.{_+_, _-_, _≤_}
@@ -15,6 +15,11 @@ Inv-loop c n stored bits r₀ r = (r ≤ maxSlots) × (roomFrom c n stored bits 
 abbrev μ-loop : tie.MeasureT-loop
 μ-loop c n stored bits r₀ r = maxSlots - r
 
+-- the test
+more : (d : tie.After-one-more Inv-loop μ-loop) → let p = d .before .before in let a = p .before .args in
+    d .one-more .result ≡ oneMore (a .c) (a .n) (a .stored) (a .bits) (p .loop .r)
+more d = d .one-more .ensures
+
 loop-holds : tie.Need-loop-holds Inv-loop μ-loop
 loop-holds c = (omega arith, refl)
 
@@ -25,7 +30,8 @@ returns : tie.Need-returns Inv-loop μ-loop
 returns c =
     let i = c .before .before in
     let p = i .before in
-    (sym (p .loop .inv .1 ∙ room-stop _ _ _ _ _ (i .loop-test .taken) (sym (c .before .one-more .ensures) ∙ not-true _ (c .if1 .taken))), p .loop .inv .0)
+    let a = p .before .args in
+    (sym (p .loop .inv .1 ∙ room-stop (a .c) (a .n) (a .stored) (a .bits) (p .loop .r) (i .loop-test .taken) (sym (more (c .before)) ∙ not-true _ (c .if1 .taken))), p .loop .inv .0)
 
 add-r : tie.Need-add-r Inv-loop μ-loop
 add-r c = search needs
@@ -36,7 +42,9 @@ loop-less c = search needs
 loop-again : tie.Need-loop-again Inv-loop μ-loop
 loop-again c =
     let i = c .before .before in
-    (omega arith, i .before .loop .inv .1 ∙ room-more _ _ _ _ _ (i .loop-test .taken) (sym (c .before .one-more .ensures) ∙ not-false _ (c .if1 .left)))
+    let p = i .before in
+    let a = p .before .args in
+    (omega arith, p .loop .inv .1 ∙ room-more (a .c) (a .n) (a .stored) (a .bits) (p .loop .r) (i .loop-test .taken) (sym (more (c .before)) ∙ not-false _ (c .if1 .left)))
 
 returns-2 : tie.Need-returns-2 Inv-loop μ-loop
 returns-2 c = let p = c .before in (sym (p .loop .inv .1 ∙ room-end _ _ _ _ _ (c .loop-test .left)), p .loop .inv .0)
