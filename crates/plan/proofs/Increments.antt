@@ -2,9 +2,9 @@
 use mathlib.Core.List.{List, [], _∷_}
 use Prim.Native.Nat.{ℕ, suc, _-_, _≤_, _<_, min}
 use native.Mathlib.Omega.{arith}
-use lib.ListN.{getD}
+use lib.ListN.{length, getD, List·getD-eq-default}
 use lib.Dec.{ltb}
-use borrow.Author.Tests.{ltb-true}
+use borrow.Author.Tests.{ltb-true, ltb-false}
 use Rattle.laws.proofs.Picks.{test}
 use Rattle.harq.specs.Held.{above, smallest, upTo, incrementOf}
 use Rattle.harq.specs.declared.Harq.{Harq}
@@ -34,3 +34,11 @@ module _ (q : Harq) (c : Choice) (r : CodesRange q c) where
   pub increment-range : (h : ℕ) → (1 ≤ incrementOf q h (c .slot)) × (incrementOf q h (c .slot) ≤ maxBits)
   unfolding incrementOf
   increment-range h = up-to-range h (c .slot) (r .slot) (q .ends) (r .ends)
+
+-- from the six ends of a profile
+pub codes-range : (q : Harq) (c : Choice) → (1 ≤ c .slot) × (c .slot ≤ maxBits) → length (q .ends) ≤ 6 → ((i : ℕ) → i < 6 → getD (q .ends) i 0 ≤ maxBits) → CodesRange q c
+codes-range q c s six e =
+    record {
+      slot = s;
+      ends = λ k. test (ltb k 6) (λ t. e k (ltb-true k 6 t)) (λ t. omega (arith, List·getD-eq-default (q .ends) 0 {n = k} (omega (arith, ltb-false k 6 t))));
+    }
