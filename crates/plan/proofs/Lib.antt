@@ -1,0 +1,4 @@
+pub mod Turns
+pub mod Increments
+pub mod Plans
+pub mod Choices

@@ -1,0 +1,167 @@
+-- Turns of the plan's loops, and its choices by cases. Assumes nothing.
+use mathlib.Core.Path.{_≡_, refl, sym, ap, ap₂, _∙_}
+use mathlib.Core.List.{List, [], _∷_, _++_}
+use mathlib.Core.Bool.{Bool, true, false, cond, _&&_, _||_}
+use Prim.Native.Nat.{ℕ, zero, suc, _+_, _-_, _*_, _≤_, _<_, max}
+use native.Mathlib.Nat.{zero-add, add-zero, add-assoc, mul-le-mul}
+use native.Mathlib.Omega.{arith}
+use native.Mathlib.Numerals.{add-one}
+use lib.Ieee.{Float}
+use lib.ListN.{length, take, drop, getD}
+use lib.Seq.{drop-cons, take-suc, take-length}
+use lib.Dec.{ltb, eqb}
+use borrow.Author.Tests.{eq-eqb, ne-eqb}
+use Rattle.laws.proofs.Picks.{by}
+use Rattle.harq.specs.Held.{incrementOf}
+use Rattle.harq.specs.declared.Harq.{Harq}
+use Rattle.ledger.specs.Limits.{maxSlots, maxBits, partialMax}
+use Rattle.plan.specs.declared.Choice.{Choice}
+use Rattle.plan.specs.declared.Planned.{Planned}
+use Rattle.plan.specs.Planning.{tooBig, parityBits, popped, parityOf, offered, oneMore, roomFrom, planned}
+
+-- bits of whole pieces
+pub wholes-small : (r s : ℕ) → r ≤ maxSlots → s ≤ maxBits → (r + 1) * s ≤ 1064960
+wholes-small r s h k = let p : (r + 1) * s ≤ 65 * maxBits = mul-le-mul {n₂ = 65} (omega arith) k in omega arith
+
+-- ---- room
+
+module _ (c : Choice) (n stored b r : ℕ) where
+  module _ (h : r < maxSlots) where
+    room-step : roomFrom c n stored b (maxSlots - r) r ≡ cond (oneMore c n stored b r) (roomFrom c n stored b (maxSlots - (r + 1)) (r + 1)) r
+    unfolding roomFrom
+    room-step =
+        ap (λ (k : ℕ). roomFrom c n stored b k r) (let e : maxSlots - r ≡ suc (maxSlots - (r + 1)) = omega arith in e)
+        ∙ ap (λ (k : ℕ). cond (oneMore c n stored b r) (roomFrom c n stored b (maxSlots - (r + 1)) k) r) (sym (add-one r))
+
+    pub room-more : oneMore c n stored b r ≡ true → roomFrom c n stored b (maxSlots - r) r ≡ roomFrom c n stored b (maxSlots - (r + 1)) (r + 1)
+    room-more e = room-step ∙ rw e
+
+    pub room-stop : oneMore c n stored b r ≡ false → roomFrom c n stored b (maxSlots - r) r ≡ r
+    room-stop e = room-step ∙ rw e
+
+  pub room-end : maxSlots ≤ r → roomFrom c n stored b (maxSlots - r) r ≡ r
+  unfolding roomFrom
+  room-end h = ap (λ (k : ℕ). roomFrom c n stored b k r) (let e : maxSlots - r ≡ 0 = omega arith in e)
+
+module _ (q : Harq) (c : Choice) where
+  -- ---- the increments' bits
+
+  pub bits-turn : (bs : List ℕ) (i : ℕ) → i < length bs → parityBits q c (drop i bs) ≡ incrementOf q (getD bs i 0) (c .slot) + parityBits q c (drop (i + 1) bs)
+  unfolding parityBits
+  bits-turn bs i h = ap (parityBits q c) (drop-cons bs i 0 h ∙ ap (λ (k : ℕ). getD bs i 0 ∷ drop k bs) (sym (add-one i)))
+
+  bits-append : (xs ys : List ℕ) → parityBits q c (xs ++ ys) ≡ parityBits q c xs + parityBits q c ys
+  unfolding parityBits
+  bits-append [] ys = sym (zero-add _)
+  bits-append (x ∷ xs) ys = ap (λ (k : ℕ). incrementOf q x (c .slot) + k) (bits-append xs ys) ∙ sym (add-assoc _ _ _)
+
+  -- the last increment of n
+  pub bits-last : (bs : List ℕ) (n : ℕ) → 0 < n → n ≤ length bs
+      → parityBits q c (take n bs) ≡ parityBits q c (take (n - 1) bs) + incrementOf q (getD bs (n - 1) 0) (c .slot)
+  unfolding parityBits
+  bits-last bs n h k =
+      ap (λ (j : ℕ). parityBits q c (take j bs)) (let e : n ≡ suc (n - 1) = omega arith in e)
+      ∙ ap (parityBits q c) (take-suc bs (n - 1) 0 (omega arith)) ∙ bits-append (take (n - 1) bs) (getD bs (n - 1) 0 ∷ [])
+      ∙ ap (λ (j : ℕ). parityBits q c (take (n - 1) bs) + j) (add-zero _)
+
+  pub bits-all : (bs : List ℕ) → parityBits q c bs ≡ parityBits q c (take (length bs) bs)
+  bits-all bs = ap (parityBits q c) (sym (take-length bs))
+
+  module _ (bs : List ℕ) where
+    -- ---- popped increments
+
+    -- whether the n-th increment is popped
+    abbrev pub goes : ℕ → Bool
+    goes n = ltb partialMax n || tooBig c (c .«max_s») n (parityBits q c (take n bs))
+
+    module _ (n : ℕ) (h : 0 < n) where
+      pop-step : popped q c bs n ≡ cond (goes n) (popped q c bs (n - 1)) n
+      unfolding popped
+      pop-step =
+          let e : n ≡ suc (n - 1) = omega arith in
+          ap (popped q c bs) e ∙ ap (λ (k : ℕ). cond (goes k) (popped q c bs (n - 1)) k) (sym e)
+
+      pub pop-less : goes n ≡ true → popped q c bs n ≡ popped q c bs (n - 1)
+      pop-less e = pop-step ∙ ap (λ (t : Bool). cond t (popped q c bs (n - 1)) n) e
+
+      pub pop-stop : goes n ≡ false → popped q c bs n ≡ n
+      pop-stop e = pop-step ∙ ap (λ (t : Bool). cond t (popped q c bs (n - 1)) n) e
+
+    pub pop-end : (n : ℕ) → n ≤ 0 → popped q c bs n ≡ 0
+    unfolding popped
+    pop-end n h = ap (popped q c bs) (let e : n ≡ 0 = omega arith in e)
+
+    pub pop-le : (n : ℕ) → popped q c bs n ≤ n
+    unfolding popped
+    pop-le zero = omega arith
+    pop-le (suc n) = by (λ (k : ℕ). k ≤ suc n) (goes (suc n)) (λ e. omega (arith, pop-le n)) (λ e. omega arith)
+
+    -- ---- how many increments
+
+    abbrev sum : ℕ → ℕ
+    sum n = parityBits q c (take n bs)
+
+    -- of n with b bits those that fit, and all or none
+    abbrev partly : ℕ → ℕ → ℕ
+    partly n b = cond (tooBig c (c .«max_s») n b) (popped q c bs n) n
+
+    abbrev whole : ℕ → ℕ → ℕ
+    whole n b = cond (tooBig c (c .«parity_s») n b) 0 n
+
+    abbrev pick : ℕ → ℕ
+    pick n = cond (c .partial) (partly n (sum n)) (whole n (sum n))
+
+    cond-same : (b : Bool) (x : ℕ) → cond b x x ≡ x
+    cond-same true x = refl
+    cond-same false x = refl
+
+    pub parity-none : (c .long && c .«same_wave») ≡ false → parityOf q c bs ≡ 0
+    unfolding parityOf popped
+    parity-none e =
+        ap (λ (b : Bool). pick (cond b (length bs) 0)) e
+        ∙ ap₂ (λ (x y : ℕ). cond (c .partial) x y) (cond-same (tooBig c (c .«max_s») 0 (sum 0)) 0) (cond-same (tooBig c (c .«parity_s») 0 (sum 0)) 0)
+        ∙ cond-same (c .partial) 0
+
+    module _ (e : (c .long && c .«same_wave») ≡ true) (s : ℕ) (t : s ≡ parityBits q c bs) where
+      all-offered : parityOf q c bs ≡ pick (length bs)
+      unfolding parityOf
+      all-offered = ap (λ (b : Bool). pick (cond b (length bs) 0)) e
+
+      sum-is : sum (length bs) ≡ s
+      sum-is = sym (t ∙ bits-all bs)
+
+      pub parity-partly : c .partial ≡ true → (b : Bool) → tooBig c (c .«max_s») (length bs) s ≡ b → parityOf q c bs ≡ cond b (popped q c bs (length bs)) (length bs)
+      parity-partly p b h =
+          all-offered ∙ ap (λ (t : Bool). cond t (partly (length bs) (sum (length bs))) (whole (length bs) (sum (length bs)))) p
+          ∙ ap (partly (length bs)) sum-is ∙ ap (λ (t : Bool). cond t (popped q c bs (length bs)) (length bs)) h
+
+      pub parity-whole : c .partial ≡ false → (b : Bool) → tooBig c (c .«parity_s») (length bs) s ≡ b → parityOf q c bs ≡ cond b 0 (length bs)
+      parity-whole p b h =
+          all-offered ∙ ap (λ (t : Bool). cond t (partly (length bs) (sum (length bs))) (whole (length bs) (sum (length bs)))) p
+          ∙ ap (whole (length bs)) sum-is ∙ ap (λ (t : Bool). cond t 0 (length bs)) h
+
+    pick-le : (n : ℕ) → pick n ≤ n
+    pick-le n =
+        by (λ (k : ℕ). k ≤ n) (c .partial)
+        (λ e. by (λ (k : ℕ). k ≤ n) (tooBig c (c .«max_s») n (sum n)) (λ d. pop-le n) (λ d. omega arith))
+        (λ e. by (λ (k : ℕ). k ≤ n) (tooBig c (c .«parity_s») n (sum n)) (λ d. omega arith) (λ d. omega arith))
+
+    pub parity-le : parityOf q c bs ≤ length bs
+    unfolding parityOf
+    parity-le =
+        let o : offered q c bs ≤ length bs = by (λ (k : ℕ). k ≤ length bs) (c .long && c .«same_wave») (λ e. omega arith) (λ e. omega arith) in
+        omega (arith, pick-le (offered q c bs))
+
+    -- ---- the plan
+
+    module _ (n : ℕ) (p : n ≡ parityOf q c bs) where
+      pub plan-none : (r : ℕ) → n ≡ 0 → r ≡ max 1 (roomFrom c 0 0 0 maxSlots 0) → _≡_ {A = Planned} (record { parity = 0; «parity_bits» = 0; stored = 0; room = r }) (planned q c bs)
+      unfolding planned parityBits
+      plan-none r z e = let y : parityOf q c bs ≡ 0 = sym p ∙ z in rw (y, e)
+
+      pub plan-some : (r s : ℕ) → (n ≡ 0 → ⊥) → s ≡ parityBits q c (take n bs) → r ≡ roomFrom c n (length bs) s maxSlots 0
+          → _≡_ {A = Planned} (record { parity = n; «parity_bits» = s; stored = length bs; room = r }) (planned q c bs)
+      unfolding planned
+      plan-some r s z f e =
+          let t : eqb n 0 ≡ false = ne-eqb n 0 z in
+          rw (← p, t, e, f)

@@ -1,0 +1,174 @@
+// The plan of data_burst (sender.rs): how many held pieces go as increments, and how many whole pieces.
+use harq::Harq;
+ghost use mathlib.Core.Path.{_≡_};
+ghost use Prim.Native.Nat.{_≤_};
+ghost use lib.ListN.{length};
+ghost use Rattle.ledger.specs.Limits.{maxSlots, maxBits, maxBurstBits};
+ghost use Rattle.plan.specs.Planning.{CodesRange, fits, parityBits, capOf, tooBig, popped, parityOf, oneMore, roomFrom, planned};
+
+// Frames that a short ack lists, and codewords that the peer holds at most.
+const TINY_ACK_FRAMES: usize = 6;
+
+const MAX_SLOTS: usize = 64;
+
+const PARTIAL_MAX: usize = 62;
+
+// What the gear, the level and the profile say of the next burst: seconds on the air are pre_s + bits / rate + cue_s.
+pub struct Choice {
+    pub long: bool,
+    // The level's wave is the one that the held pieces were stored from.
+    pub same_wave: bool,
+    // A cue goes, with harq_partial.
+    pub partial: bool,
+    pub slot: u32,
+    pub pre_s: f64,
+    pub rate: f64,
+    // 0 without a cue.
+    pub cue_s: f64,
+    pub max_s: f64,
+    pub parity_s: f64,
+    pub max_bits: u32,
+}
+
+// parity.len(), parity_bits, stored and room.
+pub struct Planned {
+    pub parity: usize,
+    pub parity_bits: u32,
+    pub stored: usize,
+    pub room: usize,
+}
+
+impl Choice {
+    // cap
+    fn cap(self) -> usize
+        ensures { λ r. ⌜ (r ≡ capOf self) × (r ≤ maxSlots) ⌝ }
+    {
+        if self.long {
+            return MAX_SLOTS;
+        }
+        TINY_ACK_FRAMES
+    }
+
+    // data_s(level, bits, cue) <= s
+    fn fits(self, bits: u32, s: f64) -> bool
+        ensures { λ r. ⌜ r ≡ fits self s bits ⌝ }
+    {
+        float::gear::duration(self.pre_s, self.rate, bits as u64) + self.cue_s <= s
+    }
+
+    // too_big
+    fn too_big(self, n: usize, bits: u32, s: f64) -> bool
+        ensures { λ r. ⌜ r ≡ tooBig self s n bits ⌝ }
+    {
+        (self.cap() < n) | ((0 < n) & !self.fits(bits, s))
+    }
+}
+
+// parity_bits: the bits of all increments.
+fn parity_bits(q: Harq, c: Choice, bits: &[u32]) -> u32
+    requires { ⌜ CodesRange q c × (length (now bits) ≤ maxSlots) ⌝ }
+    ensures { λ r. ⌜ (r ≡ parityBits q c (now (bits .entry))) × (r ≤ maxBurstBits) ⌝ }
+{
+    let slot = c.slot;
+    let mut sum: u32 = 0;
+    let mut i = 0;
+    while i < bits.len() {
+        sum = sum + q.increment(bits[i], slot);
+        i += 1;
+    }
+    sum
+}
+
+// Increments that do not fit are left out, from the back.
+fn pop(q: Harq, c: Choice, bits: &[u32]) -> usize
+    requires { ⌜ CodesRange q c × (length (now bits) ≤ maxSlots) ⌝ }
+    ensures { λ r. ⌜ r ≡ popped q c (now (bits .entry)) (length (now (bits .entry))) ⌝ }
+{
+    let slot = c.slot;
+    let limit = c.max_s;
+    let mut n = bits.len();
+    let mut sum = parity_bits(q, c, bits);
+    while 0 < n {
+        if !((PARTIAL_MAX < n) | c.too_big(n, sum, limit)) {
+            return n;
+        }
+        n = n - 1;
+        sum = sum - q.increment(bits[n], slot);
+    }
+    0
+}
+
+// How many increments go: behind a cue with harq_partial those that fit, else all or none.
+fn parity(q: Harq, c: Choice, bits: &[u32]) -> usize
+    requires { ⌜ CodesRange q c × (length (now bits) ≤ maxSlots) ⌝ }
+    ensures { λ r. ⌜ (r ≡ parityOf q c (now (bits .entry))) × (r ≤ length (now (bits .entry))) ⌝ }
+{
+    if !(c.long & c.same_wave) {
+        return 0;
+    }
+    let n = bits.len();
+    let sum = parity_bits(q, c, bits);
+    let limit = c.max_s;
+    let stretch = c.parity_s;
+    if c.partial {
+        if c.too_big(n, sum, limit) {
+            return pop(q, c, bits);
+        }
+        return n;
+    }
+    if c.too_big(n, sum, stretch) {
+        return 0;
+    }
+    n
+}
+
+// Whether one more whole piece fits beside n increments of `bits` bits, with `stored` held, and r whole pieces.
+fn one_more(c: Choice, n: usize, stored: usize, bits: u32, r: usize) -> bool
+    requires { ⌜ (c .slot ≤ maxBits) × (n ≤ maxSlots) × (stored ≤ maxSlots) × (bits ≤ maxBurstBits) × (r ≤ maxSlots) ⌝ }
+    ensures { λ q. ⌜ q ≡ oneMore c n stored bits r ⌝ }
+{
+    let t = bits + (r as u32 + 1) * c.slot;
+    (n + r < c.cap()) & (stored + r < MAX_SLOTS) & c.fits(t, c.max_s) & (t <= c.max_bits)
+}
+
+// room, before at least one piece goes.
+fn room(c: Choice, n: usize, stored: usize, bits: u32) -> usize
+    requires { ⌜ (c .slot ≤ maxBits) × (n ≤ maxSlots) × (stored ≤ maxSlots) × (bits ≤ maxBurstBits) ⌝ }
+    ensures { λ q. ⌜ (q ≡ roomFrom c n stored bits maxSlots 0) × (q ≤ maxSlots) ⌝ }
+{
+    let mut r = 0;
+    while r < MAX_SLOTS {
+        if !one_more(c, n, stored, bits, r) {
+            return r;
+        }
+        r += 1;
+    }
+    r
+}
+
+// The plan of a burst, where the peer holds `bits` of each held piece.
+pub fn plan(q: Harq, c: Choice, bits: &[u32]) -> Planned
+    requires { ⌜ CodesRange q c × (length (now bits) ≤ maxSlots) ⌝ }
+    ensures { λ r. ⌜ r ≡ planned q c (now (bits .entry)) ⌝ }
+{
+    let n = parity(q, c, bits);
+    if n == 0 {
+        let r = room(c, 0, 0, 0);
+        let at_least = if r == 0 { 1 } else { r };
+        return Planned {
+            parity: 0,
+            parity_bits: 0,
+            stored: 0,
+            room: at_least,
+        };
+    }
+    let sum = parity_bits(q, c, &bits[..n]);
+    let stored = bits.len();
+    let r = room(c, n, stored, sum);
+    Planned {
+        parity: n,
+        parity_bits: sum,
+        stored,
+        room: r,
+    }
+}
