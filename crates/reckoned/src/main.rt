@@ -6,12 +6,12 @@ use harq::burst_check_bits;
 use harq::partial_field;
 use io::print_decimal;
 use io::write_all;
-use ladder::level_for;
 use level::air_code;
 use level::next_burst_id;
 use level::top_level_in;
 use level::user_bits;
 use libc::STDOUT_FILENO;
+use reach::level_for;
 
 fn say(text: &[u8], n: u64) {
     write_all(STDOUT_FILENO, text);

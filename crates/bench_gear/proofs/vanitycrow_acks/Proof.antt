@@ -14,7 +14,7 @@ use Rattle.limits.proofs.Accepted.{default-in-range}
 use Rattle.goodput.specs.declared.Gear.{Gear}
 use Rattle.gear.specs.declared.Outcome.{Outcome}
 use Rattle.gear.specs.Judging.{onAck}
-use Rattle.gear.proofs.LevelLaws.{on-ack-low}
+use Rattle.gear_laws.proofs.LevelLaws.{on-ack-low}
 use Rattle.bench_gear.specs.Acks.{tried, nine, acks}
 use Rattle.bench_gear.proofs.vanitycrow_acks.Statement.{statement}
 use Rattle.bench_gear.proofs.vanitycrow_acks.Tie as tie
@@ -26,7 +26,7 @@ next-is : (p : Profile) (o : Outcome) (snr now : Float) (i : ℕ) (g x : Gear) �
 next-is p o snr now i g x e q r = r ∙ ap (λ (y : Profile). onAck y g o snr now) e ∙ ap (λ (y : Outcome). onAck newProfile g y snr now) q
 
 next-low : (snr now : Float) (i : ℕ) (g x : Gear) → g .level ≤ 16 → x ≡ next snr now i g → x .level ≤ 16
-next-low snr now i g x h e = subst (λ (y : Gear). y .level ≤ 16) (sym e) (on-ack-low newProfile refl g nine snr now h)
+next-low snr now i g x h e = subst (λ (y : Gear). y .level ≤ 16) (sym e) (on-ack-low newProfile g nine snr now h)
 
 abbrev Inv-loop : tie.InvT-loop
 Inv-loop n snr-db now cfg burst g₀ i₀ g i = (i ≤ n) × (g ≡ steps (next snr-db now) i tried) × (g .level ≤ 16) × (cfg ≡ newProfile) × (burst ≡ nine)
