@@ -6,10 +6,12 @@ use std::process::ExitCode;
 
 mod active;
 mod audit;
+mod bench;
 mod chan;
 mod compare;
 mod exp;
 mod fec;
+mod gear;
 mod generate;
 mod harness;
 mod link;
@@ -31,6 +33,8 @@ const USAGE: &str = "usage:
   oracle transcript LIST                     the original's transcript of a call list (- for standard input)
   oracle generate SEED LISTS CALLS [KIND]    LISTS call lists of about CALLS calls each
   oracle audit [SEED LISTS CALLS]            demand 3 and the sound record on generated lists
+  oracle gear SEED COUNT                     COUNT decisions of the original's gear, as crates/gear_cases reads them
+  oracle bench                               nanoseconds of the original's on_ack in Goodput: the median, the quartiles
   oracle compare PROGRAM SECONDS SEED        PROGRAM, which reads a list and writes its transcript, against the original";
 
 fn read_list(name: &str) -> Result<Vec<u8>, String> {
@@ -73,6 +77,11 @@ fn run(args: &[&str]) -> Result<(), String> {
             count(calls)?,
             Some(kind),
         )?),
+        ["gear", seed, replies] => put(&gear::gear(number(seed)?, number(replies)?.clamp(1, 1_000_000))),
+        ["bench"] => {
+            let [low, median, high] = bench::bench();
+            put(format!("{median:.1} {low:.1} {high:.1}\n").as_bytes())
+        }
         ["audit"] => audit::audit(1, 4000, 80),
         ["audit", seed, lists, calls] => audit::audit(number(seed)?, number(lists)?, count(calls)?),
         ["compare", program, seconds, seed] => compare::compare(program, number(seconds)?, number(seed)?),

@@ -147,6 +147,13 @@ fn stored_answers() {
     assert!(seen >= 90, "{seen} stored lists");
 }
 
+/// What crates/gear_cases is run on: the decisions of seed 1.
+#[test]
+fn stored_decisions() {
+    let stored = Path::new(env!("CARGO_MANIFEST_DIR")).join("../crates/gear_cases/stdin");
+    assert!(fs::read(stored).unwrap() == crate::gear::gear(1, 8000));
+}
+
 fn connect(t: f64, db: f32) -> Call {
     Call::Connect {
         t,

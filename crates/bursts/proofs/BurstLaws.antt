@@ -20,7 +20,7 @@ use Rattle.level.proofs.Laws.{wave-lt}
 use Rattle.config.specs.declared.Profile.{Profile}
 use Rattle.config.specs.Durations.{durationAt, dataS}
 use Rattle.limits.specs.Ranged.{Ranged}
-use Rattle.goodput.proofs.RateLaws.{cue-in}
+use Rattle.rates.proofs.RateLaws.{cue-in}
 use Rattle.goodput.specs.declared.Gear.{Gear}
 use Rattle.goodput.specs.Goodput.{cueFor}
 use Rattle.bursts.specs.Bursts.{cleanBurst, burstLen, steady, far, adapted}

@@ -16,7 +16,7 @@ use Rattle.goodput.specs.declared.Gear.{Gear}
 use Rattle.gear.specs.declared.Outcome.{Outcome}
 use Rattle.goodput.specs.Setters.{some, withLevel, withBurst, withAim, withTries, withHolds}
 use Rattle.ladder.specs.Ladders.{airDb, heeded, familyOk, levelFor, usableBelow, climbAbove, stepDown}
-use Rattle.goodput.specs.Rates.{levelRate}
+use Rattle.rates.specs.Rates.{levelRate}
 use Rattle.goodput.specs.Goodput.{marksOf, cueFor, pickByGoodput}
 use Rattle.bursts.specs.Bursts.{adapted}
 use Rattle.memory.specs.Memory.{pushed, aimOf, noted, failed, cleared, channelFailed, others, heldUntil}

@@ -1,2 +1,1 @@
-pub mod RateLaws
 pub mod GoodputLaws

@@ -16,7 +16,7 @@ use Rattle.config.specs.declared.Profile.{Profile}
 use Rattle.laws.specs.Span.{upto, fold}
 use Rattle.level.specs.Ladder.{waveRank, longFrame}
 use Rattle.ladder.specs.Ladders.{airDb, heeded, familyOk, usableBelow}
-use Rattle.goodput.specs.Rates.{levelRate}
+use Rattle.rates.specs.Rates.{levelRate}
 use Rattle.goodput.specs.declared.Best.{Best}
 use Rattle.memory.specs.declared.Tries.{Tries}
 use Rattle.goodput.specs.declared.Gear.{Gear}

@@ -1,3 +1,2 @@
 pub mod Setters
-pub mod Rates
 pub mod Goodput

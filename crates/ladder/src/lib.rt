@@ -56,29 +56,6 @@ pub fn family_ok(class: ChanClass, l: usize) -> bool
     }
 }
 
-// Whether an SNR, moved to what level l would see, is enough for it.
-fn enough(marks: Marks, power: u8, class: ChanClass, l: usize, snr_db: f32) -> bool
-    requires { ⌜ l < 17 ⌝ }
-    ensures { λ r. ⌜ r ≡ enough marks power class l «snr_db» ⌝ }
-{
-    family_ok(class, l) & (snr_db + air_db(power, l) >= marks.entry(l))
-}
-
-// The highest level that an SNR allows, in a waveform that the channel class allows.
-pub fn level_for(marks: Marks, power: u8, class: ChanClass, top: usize, snr_db: f32) -> usize
-    requires { ⌜ top < 17 ⌝ }
-    ensures { λ r. ⌜ r ≡ levelFor marks power class top «snr_db» ⌝ }
-{
-    let mut l = top + 1;
-    while l > 0 {
-        l -= 1;
-        if enough(marks, power, class, l, snr_db) {
-            return l;
-        }
-    }
-    FLOOR
-}
-
 impl Holds {
     // Level k does not keep level l from being used: its hold is over, or it failed by the channel and l's guard is longer.
     fn passes(self, k: usize, l: usize, now: f64) -> bool
@@ -151,72 +128,6 @@ impl Holds {
                 k += 1;
             }
         }
-        to
-    }
-}
-
-// The highest level below `at` whose waveform the class allows, or the floor.
-fn allowed_below(class: ChanClass, at: usize) -> usize
-    requires { ⌜ at < 17 ⌝ }
-    ensures { λ r. ⌜ r ≡ allowedBelow class at ⌝ }
-{
-    let mut k = at;
-    while k > 0 {
-        k -= 1;
-        if family_ok(class, k) {
-            return k;
-        }
-    }
-    FLOOR
-}
-
-// The lowest level below `at` that the class allows and that has long frames, or the floor.
-fn lowest_long(class: ChanClass, at: usize) -> usize
-    requires { ⌜ at < 17 ⌝ }
-    ensures { λ r. ⌜ r ≡ lowestLong class at ⌝ }
-{
-    for k in 0..at {
-        if family_ok(class, k) & level::long_frame(k) {
-            return k;
-        }
-    }
-    FLOOR
-}
-
-pub fn larger(a: usize, b: usize) -> usize
-    ensures { λ r. ⌜ r ≡ max a b ⌝ }
-{
-    if a < b { b } else { a }
-}
-
-pub fn smaller(a: usize, b: usize) -> usize
-    ensures { λ r. ⌜ r ≡ min a b ⌝ }
-{
-    if b < a { b } else { a }
-}
-
-// The first allowed level below `at`, or the second.
-fn nth_below(class: ChanClass, at: usize, second: bool) -> usize
-    requires { ⌜ at < 17 ⌝ }
-    ensures { λ r. ⌜ r ≡ nthBelow class at second ⌝ }
-{
-    let one = allowed_below(class, at);
-    if second {
-        allowed_below(class, one)
-    } else {
-        one
-    }
-}
-
-// One level below `at`, or two: from a long-frame level no further than the lowest allowed one with long frames.
-pub fn step_down(class: ChanClass, at: usize, second: bool) -> usize
-    requires { ⌜ at < 17 ⌝ }
-    ensures { λ r. ⌜ r ≡ stepDown class at second ⌝ }
-{
-    let to = nth_below(class, at, second);
-    if level::long_frame(at) {
-        larger(to, lowest_long(class, at))
-    } else {
         to
     }
 }

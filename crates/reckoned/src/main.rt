@@ -8,9 +8,9 @@ use header::next_burst_id;
 use header::user_bits;
 use io::print_decimal;
 use io::write_all;
-use ladder::level_for;
 use level::top_level_in;
 use libc::STDOUT_FILENO;
+use reach::level_for;
 use report::ChanClass;
 
 fn say(text: &[u8], n: u64) {

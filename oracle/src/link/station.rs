@@ -290,6 +290,11 @@ impl Station {
         self.sender_rx(&incoming(rank, snr_db), None, &[Some(frame)], now);
     }
 
+    /// The original's `on_ack` of the outstanding burst.
+    pub fn judge(&mut self, bitmap: u64, snr_db: f32, now: f64) {
+        self.on_ack(self.burst_id, bitmap, false, snr_db, now);
+    }
+
     /// The original's `data_burst`. What it only counts is dropped.
     pub fn send(&mut self) -> Outgoing {
         let burst = self.data_burst();

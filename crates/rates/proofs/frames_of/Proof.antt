@@ -1,0 +1,14 @@
+use Rattle.rates.specs.Rates.{framesOf}
+use borrow.Author.Needs.{needs}
+use Rattle.rates.proofs.frames_of.Statement.{statement}
+use Rattle.rates.proofs.frames_of.Tie as tie
+
+max64-requires : tie.Need-max64-requires
+max64-requires c κs = search needs
+
+returns : tie.Need-returns
+unfolding framesOf
+returns c = simp (c .max64 .ensures)
+
+pub frames-of-spec : {M : Type 1} → statement M
+frames-of-spec = tie.close (tie.spec max64-requires returns)
