@@ -6,11 +6,10 @@ use Prim.Native.Nat.{ℕ, zero, suc, _+_, _-_, _*_, _≤_, _<_, max}
 use native.Mathlib.Nat.{zero-add, add-zero, add-assoc, mul-le-mul}
 use native.Mathlib.Omega.{arith}
 use native.Mathlib.Numerals.{add-one}
-use lib.Ieee.{Float}
 use lib.ListN.{length, take, drop, getD}
 use lib.Seq.{drop-cons, take-suc, take-length}
 use lib.Dec.{ltb, eqb}
-use borrow.Author.Tests.{eq-eqb, ne-eqb}
+use borrow.Author.Tests.{ne-eqb}
 use Rattle.laws.proofs.Picks.{by}
 use Rattle.harq.specs.Held.{incrementOf}
 use Rattle.harq.specs.declared.Harq.{Harq}

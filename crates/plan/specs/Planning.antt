@@ -1,6 +1,6 @@
 -- The plan of `data_burst` (sender.rs; document 01, module 6), over the held pieces' bits. Definitions only.
 use mathlib.Core.List.{List, [], _∷_}
-use mathlib.Core.Bool.{Bool, true, cond, not, _&&_, _||_}
+use mathlib.Core.Bool.{Bool, cond, not, _&&_, _||_}
 use Prim.Native.Nat.{ℕ, zero, suc, _+_, _*_, _≤_, max}
 use lib.Dec.{leb, ltb, eqb}
 use lib.ListN.{length, take, getD}

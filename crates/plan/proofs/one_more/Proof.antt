@@ -1,7 +1,6 @@
 use Rattle.plan.specs.Planning.{oneMore}
 use Rattle.plan.proofs.Turns.{wholes-small}
-use Prim.Native.Nat.{_+_, _-_}
-use mathlib.Core.Path.{refl, sym}
+use mathlib.Core.Path.{refl}
 use native.Mathlib.Omega.{arith}
 use native.Mathlib.Numerals.{add-one}
 use borrow.Author.Needs.{needs}

@@ -1,7 +1,7 @@
 use Rattle.plan.specs.Planning.{oneMore, roomFrom}
 use Rattle.plan.proofs.Turns.{room-more, room-stop, room-end}
 use Rattle.ledger.specs.Limits.{maxSlots}
-use Prim.Native.Nat.{_+_, _-_, _≤_}
+use Prim.Native.Nat.{_-_, _≤_}
 use mathlib.Core.Path.{_≡_, refl, sym, _∙_}
 use native.Mathlib.Omega.{arith}
 use borrow.Author.Needs.{needs}
