@@ -9,7 +9,7 @@ db-ok-requires c κs = search needs
 
 returns : tie.Need-returns
 unfolding maybeDbOk
-returns c = simp (c .db-ok .ensures)
+returns c = cc
 
 pub maybe-db-ok-spec : {M : Type 1} → statement M
 maybe-db-ok-spec = tie.close (tie.spec db-ok-requires returns)
