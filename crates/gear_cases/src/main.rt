@@ -27,27 +27,41 @@ use same::differing;
 ghost use Prim.Native.Nat.{_<_};
 ghost use Rattle.limits.specs.Ranged.{Ranged};
 
-// The replies of each kind.
+// Counts: of profiles, of replies in goodput and in ladder, of each kind of reply from 3 on, and of differences.
 pub struct Counts {
-    pub connects: u64,
-    pub empty: u64,
-    pub increments: u64,
-    pub matched: u64,
-    pub unmatched: u64,
-    pub turns: u64,
-    pub quiet_turns: u64,
-    pub goodput: u64,
-    pub ladder: u64,
-    pub profiles: u64,
-    pub differences: u64,
+    pub of: [u64; 11],
 }
+
+const CONNECT: usize = 3;
+
+const MATCHED: usize = 4;
+
+const UNMATCHED: usize = 5;
+
+const INCREMENTS: usize = 6;
+
+const EMPTY: usize = 7;
+
+const TURN: usize = 8;
+
+const QUIET_TURN: usize = 9;
 
 fn wide(n: u8) -> usize {
     n as usize
 }
 
-fn more(n: u64) -> u64 {
+fn bump(n: u64) -> u64 {
     if n < 1000000000000 { n + 1 } else { n }
+}
+
+impl Counts {
+    fn more(mut self, at: usize) -> Counts
+        requires { ⌜ at < 11 ⌝ }
+    {
+        let n = bump(self.of[at]);
+        self.of[at] = n;
+        self
+    }
 }
 
 // A reply, or zeros where the input ends.
@@ -222,32 +236,39 @@ fn with_levels(want: Gear, n: u8) -> Gear {
     out
 }
 
-// One reply more, of its kind.
-fn counted(mut c: Counts, goodput: bool, a: &[u8; 60]) -> Counts {
-    if goodput {
-        c.goodput = more(c.goodput);
-    } else {
-        c.ladder = more(c.ladder);
-    }
-    let own = a[6] == 1;
-    if a[0] == 1 {
-        c.connects = more(c.connects);
-    } else if a[0] == 2 {
-        if a[4] == 1 {
-            c.empty = more(c.empty);
-        } else if (a[5] == 0) & own {
-            c.increments = more(c.increments);
-        } else if own {
-            c.matched = more(c.matched);
+// The kind of a reply.
+fn kind(tag: u8, empty: bool, fresh: bool, own: bool) -> usize
+    ensures { λ r. ⌜ r < 11 ⌝ }
+{
+    if tag == 1 {
+        CONNECT
+    } else if tag == 2 {
+        if empty {
+            EMPTY
+        } else if !own {
+            UNMATCHED
+        } else if fresh {
+            MATCHED
         } else {
-            c.unmatched = more(c.unmatched);
+            INCREMENTS
         }
-    } else if a[4] == 1 {
-        c.quiet_turns = more(c.quiet_turns);
+    } else if empty {
+        QUIET_TURN
     } else {
-        c.turns = more(c.turns);
+        TURN
     }
-    c
+}
+
+fn mode(goodput: bool) -> usize
+    ensures { λ r. ⌜ r < 11 ⌝ }
+{
+    if goodput { 1 } else { 2 }
+}
+
+// One reply more, of its kind.
+fn counted(c: Counts, goodput: bool, a: &[u8; 60]) -> Counts {
+    let at = kind(a[0], a[4] == 1, a[5] == 1, a[6] == 1);
+    c.more(mode(goodput)).more(at)
 }
 
 fn say(text: &[u8], n: u64) {
@@ -256,16 +277,15 @@ fn say(text: &[u8], n: u64) {
 }
 
 // A difference is written: where it is, and the field.
-fn noted(mut c: Counts, reply: u32, field: usize) -> Counts {
+fn noted(c: Counts, reply: u32, field: usize) -> Counts {
     if field == 0 {
         return c;
     }
-    say(b"profile ", c.profiles);
+    say(b"profile ", c.of[0]);
     say(b", reply ", reply as u64);
     say(b": field ", field as u64);
     write_all(STDOUT_FILENO, b" differs\n");
-    c.differences = more(c.differences);
-    c
+    c.more(10)
 }
 
 // The original's record, and the counts.
@@ -305,17 +325,17 @@ fn replies(cfg: Profile, c: Counts, n: u32) -> Counts
 }
 
 fn print_counts(c: Counts) {
-    say(b"profiles: ", c.profiles);
-    say(b"\nreplies in goodput: ", c.goodput);
-    say(b"\nreplies in ladder: ", c.ladder);
-    say(b"\nconnect answers: ", c.connects);
-    say(b"\nacks with the burst's number: ", c.matched);
-    say(b"\nacks with another number: ", c.unmatched);
-    say(b"\nacks of increments only: ", c.increments);
-    say(b"\nacks of an empty burst: ", c.empty);
-    say(b"\nturns with a burst outstanding: ", c.turns);
-    say(b"\nturns without: ", c.quiet_turns);
-    say(b"\ndifferences: ", c.differences);
+    say(b"profiles: ", c.of[0]);
+    say(b"\nreplies in goodput: ", c.of[1]);
+    say(b"\nreplies in ladder: ", c.of[2]);
+    say(b"\nconnect answers: ", c.of[CONNECT]);
+    say(b"\nacks with the burst's number: ", c.of[MATCHED]);
+    say(b"\nacks with another number: ", c.of[UNMATCHED]);
+    say(b"\nacks of increments only: ", c.of[INCREMENTS]);
+    say(b"\nacks of an empty burst: ", c.of[EMPTY]);
+    say(b"\nturns with a burst outstanding: ", c.of[TURN]);
+    say(b"\nturns without: ", c.of[QUIET_TURN]);
+    say(b"\ndifferences: ", c.of[10]);
     write_all(STDOUT_FILENO, b"\n");
 }
 
@@ -330,27 +350,14 @@ fn profile(c: Counts, a: &[u8; 640]) -> Counts {
 }
 
 fn main() {
-    let mut c = Counts {
-        connects: 0,
-        empty: 0,
-        increments: 0,
-        matched: 0,
-        unmatched: 0,
-        turns: 0,
-        quiet_turns: 0,
-        goodput: 0,
-        ladder: 0,
-        profiles: 0,
-        differences: 0,
-    };
+    let mut c = Counts { of: [0; 11] };
     let mut i: u32 = 0;
     while i < 1000000 {
         let mut a = [0u8; 640];
         if io::read_full(STDIN_FILENO, &mut a) < 640 {
             break;
         }
-        c.profiles = more(c.profiles);
-        c = profile(c, &a);
+        c = profile(c.more(0), &a);
         i += 1;
     }
     print_counts(c);

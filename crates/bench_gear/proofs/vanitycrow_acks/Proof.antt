@@ -34,35 +34,27 @@ Inv-loop n snr-db now cfg burst g₀ i₀ g i = (i ≤ n) × (g ≡ steps (next 
 abbrev μ-loop : tie.MeasureT-loop
 μ-loop n snr-db now cfg burst g₀ i₀ g i = n - i
 
--- src/lib.rt:58:9
 new-profile-requires : tie.Need-new-profile-requires Inv-loop μ-loop
 new-profile-requires c κs = search needs
 
--- src/lib.rt:66:9
 tried-requires : tie.Need-tried-requires Inv-loop μ-loop
 tried-requires c κs = search needs
 
--- src/lib.rt:68:5
 loop-holds : tie.Need-loop-holds Inv-loop μ-loop
 loop-holds c = let e = c .tried .ensures in (omega arith, e ∙ steps-none _ _, subst (λ (y : Gear). y .level ≤ 16) (sym e) (omega arith), c .before .new-profile .ensures, refl)
 
--- src/lib.rt:69:9
 on-ack-requires : tie.Need-on-ack-requires Inv-loop μ-loop
 on-ack-requires c κs = let i = c .before .loop .inv in (omega (arith, i .2), subst Ranged (sym (i .3)) (ranged newProfile default-in-range))
 
--- src/lib.rt:70:9
 add-i : tie.Need-add-i Inv-loop μ-loop
 add-i c = search needs
 
--- src/lib.rt:68:5
 loop-less : tie.Need-loop-less Inv-loop μ-loop
 loop-less c = search needs
 
--- src/lib.rt:68:5
 loop-again : tie.Need-loop-again Inv-loop μ-loop
 loop-again c = let i = c .before .before .loop .inv in let e = next-is _ _ _ _ (c .before .before .loop .i) _ _ (i .3) (i .4) (c .on-ack .ensures) in (omega arith, steps-more _ _ _ _ _ (i .1) e, next-low _ _ (c .before .before .loop .i) _ _ (i .2) e, i .3, i .4)
 
--- src/lib.rt:54:1
 returns : tie.Need-returns Inv-loop μ-loop
 unfolding acks
 returns c =

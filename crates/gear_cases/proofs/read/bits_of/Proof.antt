@@ -1,14 +1,8 @@
-use Prim.Native.Nat.{ℕ, _+_, _-_, _≤_, _<_}
-use mathlib.Core.Path.{_≡_, refl, sym, ap, _∙_}
-use mathlib.Core.List.{List, [], _∷_, _++_}
-use native.Mathlib.Omega.{arith}
-use lib.ListN.{length, getD, length-set}
+-- `read::bits_of` is safe: it stays within its arrays, and ends. Assumes nothing.
+use Prim.Native.Nat.{_-_, _≤_}
 use borrow.Author.Needs.{needs}
 use Rattle.gear_cases.proofs.read.bits_of.Statement.{statement}
 use Rattle.gear_cases.proofs.read.bits_of.Tie as tie
-use Rattle.gear_cases.proofs.read.bits_of.Reads as reads
-use Rattle.gear_cases.proofs.read.bits_of.Lts as lts
-use Rattle.moves.proofs.load32.Reads as load32-reads
 
 abbrev Inv-loop : tie.InvT-loop
 Inv-loop a at x₀ l₀ x l = l ≤ 17
@@ -16,43 +10,33 @@ Inv-loop a at x₀ l₀ x l = l ≤ 17
 abbrev μ-loop : tie.MeasureT-loop
 μ-loop a at x₀ l₀ x l = 17 - l
 
--- src/read.rt:69:5
 loop-holds : tie.Need-loop-holds Inv-loop μ-loop
 loop-holds c = search needs
 
--- src/read.rt:70:31
 mul-load32 : tie.Need-mul-load32 Inv-loop μ-loop
 mul-load32 c = search needs
 
--- src/read.rt:70:26
 add-load32 : tie.Need-add-load32 Inv-loop μ-loop
 add-load32 c = search needs
 
--- src/read.rt:70:16
 load32-requires : tie.Need-load32-requires Inv-loop μ-loop
 load32-requires c κs = search needs
 
--- src/read.rt:70:9
 mul-x : tie.Need-mul-x Inv-loop μ-loop
 mul-x c = search needs
 
--- src/read.rt:70:9
 array-write-x : tie.Need-array-write-x Inv-loop μ-loop
 array-write-x c = search needs
 
--- src/read.rt:71:9
 add-l : tie.Need-add-l Inv-loop μ-loop
 add-l c = search needs
 
--- src/read.rt:69:5
 loop-less : tie.Need-loop-less Inv-loop μ-loop
 loop-less c = search needs
 
--- src/read.rt:69:5
 loop-again : tie.Need-loop-again Inv-loop μ-loop
 loop-again c = search needs
 
--- src/read.rt:64:1
 returns : tie.Need-returns Inv-loop μ-loop
 returns c = search needs
 

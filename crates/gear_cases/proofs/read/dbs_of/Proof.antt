@@ -1,14 +1,8 @@
-use Prim.Native.Nat.{ℕ, _+_, _-_, _≤_, _<_}
-use mathlib.Core.Path.{_≡_, refl, sym, ap, _∙_}
-use mathlib.Core.List.{List, [], _∷_, _++_}
-use native.Mathlib.Omega.{arith}
-use lib.ListN.{length, getD, length-set}
+-- `read::dbs_of` is safe: it stays within its arrays, and ends. Assumes nothing.
+use Prim.Native.Nat.{_-_, _≤_}
 use borrow.Author.Needs.{needs}
 use Rattle.gear_cases.proofs.read.dbs_of.Statement.{statement}
 use Rattle.gear_cases.proofs.read.dbs_of.Tie as tie
-use Rattle.gear_cases.proofs.read.dbs_of.Reads as reads
-use Rattle.gear_cases.proofs.read.dbs_of.Lts as lts
-use Rattle.gear_cases.proofs.read.f32_at.Reads as f32-at-reads
 
 abbrev Inv-loop : tie.InvT-loop
 Inv-loop a at x₀ l₀ x l = l ≤ 17
@@ -16,43 +10,33 @@ Inv-loop a at x₀ l₀ x l = l ≤ 17
 abbrev μ-loop : tie.MeasureT-loop
 μ-loop a at x₀ l₀ x l = 17 - l
 
--- src/read.rt:105:5
 loop-holds : tie.Need-loop-holds Inv-loop μ-loop
 loop-holds c = search needs
 
--- src/read.rt:106:31
 mul-f32-at : tie.Need-mul-f32-at Inv-loop μ-loop
 mul-f32-at c = search needs
 
--- src/read.rt:106:26
 add-f32-at : tie.Need-add-f32-at Inv-loop μ-loop
 add-f32-at c = search needs
 
--- src/read.rt:106:16
 f32-at-requires : tie.Need-f32-at-requires Inv-loop μ-loop
 f32-at-requires c κs = search needs
 
--- src/read.rt:106:9
 mul-x : tie.Need-mul-x Inv-loop μ-loop
 mul-x c = search needs
 
--- src/read.rt:106:9
 array-write-x : tie.Need-array-write-x Inv-loop μ-loop
 array-write-x c = search needs
 
--- src/read.rt:107:9
 add-l : tie.Need-add-l Inv-loop μ-loop
 add-l c = search needs
 
--- src/read.rt:105:5
 loop-less : tie.Need-loop-less Inv-loop μ-loop
 loop-less c = search needs
 
--- src/read.rt:105:5
 loop-again : tie.Need-loop-again Inv-loop μ-loop
 loop-again c = search needs
 
--- src/read.rt:100:1
 returns : tie.Need-returns Inv-loop μ-loop
 returns c = search needs
 

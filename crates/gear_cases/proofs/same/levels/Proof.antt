@@ -1,15 +1,8 @@
-use Prim.Native.Nat.{ℕ, _+_, _-_, _≤_, _<_}
-use mathlib.Core.Path.{_≡_, refl, sym, ap, _∙_}
-use mathlib.Core.List.{List, [], _∷_, _++_}
-use native.Mathlib.Omega.{arith}
-use lib.ListN.{length, getD, length-set}
+-- `same::levels` is safe: it stays within its arrays, and ends. Assumes nothing.
+use Prim.Native.Nat.{_-_, _≤_}
 use borrow.Author.Needs.{needs}
 use Rattle.gear_cases.proofs.same.levels.Statement.{statement}
 use Rattle.gear_cases.proofs.same.levels.Tie as tie
-use Rattle.gear_cases.proofs.same.levels.Reads as reads
-use Rattle.gear_cases.proofs.same.levels.Lts as lts
-use Rattle.gear_cases.proofs.same.same_holds.Reads as same-holds-reads
-use Rattle.gear_cases.proofs.same.same_tries.Reads as same-tries-reads
 
 abbrev Inv-loop : tie.InvT-loop
 Inv-loop g want k₀ k = k ≤ 17
@@ -17,35 +10,27 @@ Inv-loop g want k₀ k = k ≤ 17
 abbrev μ-loop : tie.MeasureT-loop
 μ-loop g want k₀ k = 17 - k
 
--- src/same.rt:63:5
 loop-holds : tie.Need-loop-holds Inv-loop μ-loop
 loop-holds c = search needs
 
--- src/same.rt:64:13
 same-tries-requires : tie.Need-same-tries-requires Inv-loop μ-loop
 same-tries-requires c κs = search needs
 
--- src/same.rt:64:51
 same-holds-requires : tie.Need-same-holds-requires Inv-loop μ-loop
 same-holds-requires c κs = search needs
 
--- src/same.rt:65:13
 returns : tie.Need-returns Inv-loop μ-loop
 returns c = search needs
 
--- src/same.rt:67:9
 add-k : tie.Need-add-k Inv-loop μ-loop
 add-k c = search needs
 
--- src/same.rt:63:5
 loop-less : tie.Need-loop-less Inv-loop μ-loop
 loop-less c = search needs
 
--- src/same.rt:63:5
 loop-again : tie.Need-loop-again Inv-loop μ-loop
 loop-again c = search needs
 
--- src/same.rt:61:1
 returns-2 : tie.Need-returns-2 Inv-loop μ-loop
 returns-2 c = search needs
 
