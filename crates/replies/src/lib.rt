@@ -1,12 +1,63 @@
 // The ConnAck, Ack and Turn arms of sender_rx and its frame loop (sender.rs), for accepted replies.
+use ack::AckInfo;
+use config::MaybeDb;
+use config::Profile;
 use gear::Outcome;
+use gear::on_ack;
+use meeting::on_turn;
 use record::LastBurst;
+use record::Sender;
+use report::ChanClass;
+use settle::settle_burst;
 ghost use mathlib.Core.Path.{_≡_};
 ghost use Prim.Native.Nat.{_+_, _≤_, _<_};
 ghost use lib.ListN.{length};
 ghost use Rattle.laws.specs.Lists.{one};
 ghost use Rattle.ledger.specs.Limits.{maxSlots};
+ghost use Rattle.limits.specs.Ranged.{Ranged};
+ghost use Rattle.settle.specs.Settle.{Settling};
 ghost use Rattle.replies.specs.Outcomes.{tallied, outcomeIn};
+ghost use Rattle.replies.specs.Replies.{ackedBy, bitsFor, withoutBurst};
+
+// When and how a reply was heard: the time, the wave by rank, and the dB measured here.
+pub struct Heard {
+    pub time: f64,
+    pub wave: u8,
+    pub snr_db: f32,
+}
+
+// Tiny::ConnAck, with the session. `cue`: the called station's capabilities include CUE.
+pub struct ConnAck {
+    pub session: u8,
+    pub snr_db: f32,
+    pub class: ChanClass,
+    pub slot: u8,
+    pub cue: bool,
+}
+
+// Tiny::Ack.
+pub struct Ack {
+    pub burst: u8,
+    pub bitmap: u8,
+    pub snr_db: f32,
+    pub want_turn: bool,
+    pub want_disc: bool,
+    pub stored: bool,
+    pub class: ChanClass,
+    pub slot: u8,
+}
+
+// The flags of a long ack's frame.
+pub struct LongAck {
+    pub want_turn: bool,
+    pub want_disc: bool,
+    pub stored: bool,
+}
+
+// Tiny::Turn.
+pub struct Turn {
+    pub report: MaybeDb,
+}
 
 // Counts over a burst's frames: those sent fresh, those of them that came through, and all that came through.
 pub struct Came {
@@ -73,4 +124,57 @@ fn outcome(s: LastBurst, bitmap: u64, matched: bool) -> Outcome
         sent: t.fresh,
         got: t.fresh_got,
     }
+}
+
+// The bits of a short ack for a burst of n frames.
+fn bits_for(n: usize, bitmap: u8) -> u64
+    ensures { λ r. ⌜ r ≡ bitsFor n bitmap ⌝ }
+{
+    if (6 < n) & (bitmap == 63) {
+        return 18446744073709551615;
+    }
+    bitmap as u64
+}
+
+// The burst is outstanding no more, and nothing is settled.
+fn clear_burst(s: Sender) -> Sender
+    ensures { λ r. ⌜ r ≡ withoutBurst s ⌝ }
+{
+    let mut q = s;
+    q.last_burst.n = 0;
+    q.link.awaiting = false;
+    q
+}
+
+// ack_in: an ack that is awaited.
+fn ack_in(
+    p: Profile,
+    s: Sender,
+    a: &mut [u8],
+    burst: u8,
+    bitmap: u64,
+    stored: bool,
+    snr_db: f32,
+    time: f64,
+) -> Sender
+    requires { ⌜ Ranged p ⌝ ∗ ⌜ (s .gear .level < 17) × Settling s (now a) ⌝ }
+    ensures { λ q. ⌜ (q, now (a .exit)) ≡ ackedBy p burst bitmap stored «snr_db» time s (now (a .entry)) ⌝ }
+{
+    let g = s.gear;
+    let k = s.link;
+    let b = s.last_burst;
+    let level = g.level;
+    let n = b.n;
+    let matched = burst == k.burst_id;
+    let h = on_ack(g, p, outcome(b, bitmap, matched), snr_db, time);
+    let mut q = s;
+    q.gear = h;
+    if matched & (0 < n) {
+        let w = level::wave_rank(level);
+        q.link.peer_wave = w;
+        let keep = stored & (p.harq & level::long_frame(level));
+        let top = p.codes.h_max();
+        return settle_burst(q, a, bitmap, top, keep);
+    }
+    clear_burst(q)
 }
