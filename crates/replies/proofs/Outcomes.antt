@@ -83,7 +83,7 @@ module _ (m : ℕ) (r : Reply) (s : Sender) (a : List ℕ) (ar : Arrays s) (few 
   n₃ : length (take (last .n) (last .held)) ≡ last .n
   n₃ = length-take-le (last .n) (last .held) (omega (arith, ar .sentHeld))
 
-  length-sent : length fs ≡ last .n
+  pub length-sent : length fs ≡ last .n
   length-sent = sent-length (take (last .n) (last .off)) (take (last .n) (last .bits)) (take (last .n) (last .held)) (n₁ ∙ sym n₂) (n₁ ∙ sym n₃) ∙ n₁
 
   counts : tallied m (take (last .n) (last .bits)) (take (last .n) (last .held)) ≡ record { fresh = freshSent fs; «fresh_got» = freshGot b 0 fs; got = allGot b 0 fs }
