@@ -1,13 +1,9 @@
-// The ConnAck, Ack and Turn arms of sender_rx and its frame loop (sender.rs), for accepted replies.
-use ack::AckInfo;
-use config::MaybeDb;
+// What a reply says of the outstanding burst, and an ack that is awaited (`ack_in` of sender.rs, `on_ack` of gear.rs).
 use config::Profile;
 use gear::Outcome;
 use gear::on_ack;
-use meeting::on_turn;
 use record::LastBurst;
 use record::Sender;
-use report::ChanClass;
 use settle::settle_burst;
 ghost use mathlib.Core.Path.{_≡_};
 ghost use Prim.Native.Nat.{_+_, _≤_, _<_};
@@ -18,46 +14,6 @@ ghost use Rattle.limits.specs.Ranged.{Ranged};
 ghost use Rattle.settle.specs.Settle.{Settling};
 ghost use Rattle.replies.specs.Outcomes.{tallied, outcomeIn};
 ghost use Rattle.replies.specs.Replies.{ackedBy, bitsFor, withoutBurst};
-
-// When and how a reply was heard: the time, the wave by rank, and the dB measured here.
-pub struct Heard {
-    pub time: f64,
-    pub wave: u8,
-    pub snr_db: f32,
-}
-
-// Tiny::ConnAck, with the session. `cue`: the called station's capabilities include CUE.
-pub struct ConnAck {
-    pub session: u8,
-    pub snr_db: f32,
-    pub class: ChanClass,
-    pub slot: u8,
-    pub cue: bool,
-}
-
-// Tiny::Ack.
-pub struct Ack {
-    pub burst: u8,
-    pub bitmap: u8,
-    pub snr_db: f32,
-    pub want_turn: bool,
-    pub want_disc: bool,
-    pub stored: bool,
-    pub class: ChanClass,
-    pub slot: u8,
-}
-
-// The flags of a long ack's frame.
-pub struct LongAck {
-    pub want_turn: bool,
-    pub want_disc: bool,
-    pub stored: bool,
-}
-
-// Tiny::Turn.
-pub struct Turn {
-    pub report: MaybeDb,
-}
 
 // Counts over a burst's frames: those sent fresh, those of them that came through, and all that came through.
 pub struct Came {
@@ -100,7 +56,7 @@ fn tally(bits: &[u32], held: &[u32], bitmap: u64) -> Came
 }
 
 // What a reply says of the outstanding burst: the fresh frames count, or all where none is fresh.
-fn outcome(s: LastBurst, bitmap: u64, matched: bool) -> Outcome
+pub fn outcome(s: LastBurst, bitmap: u64, matched: bool) -> Outcome
     requires { ⌜ s .n ≤ maxSlots ⌝ }
     ensures { λ r. ⌜ r ≡ outcomeIn bitmap matched s ⌝ }
 {
@@ -127,7 +83,7 @@ fn outcome(s: LastBurst, bitmap: u64, matched: bool) -> Outcome
 }
 
 // The bits of a short ack for a burst of n frames.
-fn bits_for(n: usize, bitmap: u8) -> u64
+pub fn bits_for(n: usize, bitmap: u8) -> u64
     ensures { λ r. ⌜ r ≡ bitsFor n bitmap ⌝ }
 {
     if (6 < n) & (bitmap == 63) {
@@ -137,7 +93,7 @@ fn bits_for(n: usize, bitmap: u8) -> u64
 }
 
 // The burst is outstanding no more, and nothing is settled.
-fn clear_burst(s: Sender) -> Sender
+pub fn clear_burst(s: Sender) -> Sender
     ensures { λ r. ⌜ r ≡ withoutBurst s ⌝ }
 {
     let mut q = s;
@@ -147,7 +103,7 @@ fn clear_burst(s: Sender) -> Sender
 }
 
 // ack_in: an ack that is awaited.
-fn ack_in(
+pub fn ack_in(
     p: Profile,
     s: Sender,
     a: &mut [u8],
