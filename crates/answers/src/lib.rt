@@ -99,7 +99,7 @@ fn turn_db(h: Heard, r: Turn) -> f32
 }
 
 // A short ack. One that is not awaited leaves only its wishes, its number and its time.
-pub fn short_ack(p: Profile, s: Sender, a: &mut [u8], h: Heard, r: Ack) -> Sender
+pub fn hear_short(p: Profile, s: Sender, a: &mut [u8], h: Heard, r: Ack) -> Sender
     requires { ⌜ Ranged p ⌝ ∗ ⌜ Answerable p s (now a) ⌝ }
     ensures { λ q. ⌜ (q, now (a .exit)) ≡ shortAcked p h r s (now (a .entry)) ⌝ }
 {
@@ -126,7 +126,7 @@ pub fn short_ack(p: Profile, s: Sender, a: &mut [u8], h: Heard, r: Ack) -> Sende
 }
 
 // A long ack, as AckInfo::from_bytes read it.
-pub fn long_ack(p: Profile, s: Sender, a: &mut [u8], h: Heard, r: LongAck, i: AckInfo) -> Sender
+pub fn hear_long(p: Profile, s: Sender, a: &mut [u8], h: Heard, r: LongAck, i: AckInfo) -> Sender
     requires { ⌜ Ranged p ⌝ ∗ ⌜ Answerable p s (now a) ⌝ }
     ensures { λ q. ⌜ (q, now (a .exit)) ≡ longAcked p h r i s (now (a .entry)) ⌝ }
 {
@@ -146,7 +146,7 @@ pub fn long_ack(p: Profile, s: Sender, a: &mut [u8], h: Heard, r: LongAck, i: Ac
 }
 
 // A turn while we already send: the outstanding burst is lost.
-pub fn turn(p: Profile, s: Sender, h: Heard, r: Turn) -> Sender
+pub fn hear_turn(p: Profile, s: Sender, h: Heard, r: Turn) -> Sender
     requires { ⌜ Ranged p ⌝ ∗ ⌜ (s .gear .level < 17) × (s .«last_burst» .n ≤ maxSlots) ⌝ }
     ensures { λ q. ⌜ q ≡ turnedTo p h r s ⌝ }
 {
@@ -159,7 +159,7 @@ pub fn turn(p: Profile, s: Sender, h: Heard, r: Turn) -> Sender
 }
 
 // A connect answer.
-pub fn conn_ack(p: Profile, s: Sender, h: Heard, r: ConnAck) -> Sender
+pub fn hear_connect(p: Profile, s: Sender, h: Heard, r: ConnAck) -> Sender
     requires { ⌜ Ranged p ⌝ }
     ensures { λ q. ⌜ q ≡ connectedTo p h r s ⌝ }
 {

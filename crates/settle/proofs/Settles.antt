@@ -40,7 +40,7 @@ use Rattle.settle.proofs.Laws.{held-more}
 -- ---- bits
 
 -- the bits of a bitmap from place i on
-half-bit : (m i : ℕ) → bitAt (m / 2) i ≡ bitAt m (suc i)
+pub half-bit : (m i : ℕ) → bitAt (m / 2) i ≡ bitAt m (suc i)
 half-bit m i = ap (λ (x : ℕ). eqb (x % 2) 1) (div-div-eq-div-mul m 2 (2 ^ i) ∙ ap (λ (x : ℕ). m / x) (sym (pow-succ' 2 i)))
 
 -- b has the bits of m, from place i on
