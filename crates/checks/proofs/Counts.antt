@@ -1,12 +1,10 @@
 -- The test of the counts: what it says, and a part of it that says no. Assumes nothing.
-use mathlib.Core.Path.{_≡_, refl, sym, _∙_}
+use mathlib.Core.Path.{_≡_, sym, _∙_}
 use mathlib.Core.Bool.{Bool, true, false, _&&_, true≢false}
-use mathlib.Core.List.{List, [], _∷_}
 use Prim.Native.Nat.{ℕ, _+_, _≤_}
 use native.Mathlib.Omega.{arith}
 use lib.Dec.{leb}
 use borrow.Author.Tests.{leb-true, leb-false, lt-leb, eqb-true}
-use Rattle.laws.specs.Tests.{all}
 use Rattle.laws.proofs.Picks.{test, and-yes, and-left, and-right}
 use Rattle.laws.proofs.Tests.{all-at}
 use Rattle.ledger.specs.Limits.{maxSlots, maxFlying, maxWaiting, maxPieces, maxTaken}

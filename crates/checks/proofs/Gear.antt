@@ -1,14 +1,13 @@
 -- The tests of the gear and of the link are their facts, both ways. Assumes nothing.
 use mathlib.Core.Path.{_≡_, refl, sym}
 use mathlib.Core.Bool.{Bool, true, false, not, _&&_, _||_, false≢true}
-use mathlib.Core.List.{List, [], _∷_}
-use Prim.Native.Nat.{ℕ, _<_, _≤_}
+use Prim.Native.Nat.{ℕ, _≤_}
 use native.Mathlib.Omega.{arith}
 use borrow.Author.Tests.{leb-true, le-leb, not-true}
 use denote.Floats.{passes, is-true}
-use lib.Dec.{T, leb}
+use lib.Dec.{T}
 use lib.ListN.{getD}
-use lib.Ieee.{Float, nan, le, lt, neg}
+use lib.Ieee.{Float, nan, le, neg}
 use Rattle.laws.proofs.Picks.{and-first, and-second, and-yes}
 use Rattle.laws.proofs.Tests.{all-at, all-none, all-more}
 use Rattle.laws.proofs.Span.{every-all, all-every}

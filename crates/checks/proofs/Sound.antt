@@ -1,12 +1,11 @@
 -- The test of the sound record is `SoundRecord`, both ways; what follows from it for callers; a fresh record is sound.
 -- Assumes nothing.
 use mathlib.Core.Path.{_≡_, refl, sym, ap, ap₂, subst, _∙_}
-use mathlib.Core.Bool.{Bool, true, false, not, _&&_}
+use mathlib.Core.Bool.{true, not, _&&_}
 use mathlib.Core.List.{List, [], _∷_, _++_}
-use Prim.Native.Nat.{ℕ, zero, suc, _+_, _-_, _≤_, _<_, min}
+use Prim.Native.Nat.{ℕ, zero, suc, _+_, _-_, _≤_, _<_}
 use native.Mathlib.Omega.{arith}
 use borrow.Author.Tests.{leb-true, le-leb, eq-eqb}
-use lib.Dec.{leb, eqb}
 use lib.ListN.{length, take, drop, length-take, length-drop, take-append-drop}
 use lib.Seq.{length-take-le}
 use lib.Ieee.{le, lt, eq, neg, ofInt, ofBits}
@@ -21,17 +20,16 @@ use Rattle.laws.proofs.Tests.{all-at, all-none, all-more}
 use Rattle.config.specs.declared.Profile.{Profile}
 use Rattle.limits.specs.Ranges.{inOrder}
 use Rattle.limits.specs.Ranged.{Ranged}
-use Rattle.ledger.specs.Limits.{Sizes, SizeRange, maxSlots, maxFlying, maxWaiting, maxPieces, maxTaken, maxNumber}
-use Rattle.ledger.specs.Ledger.{Piece, Held, Sent, size, heldOffs, sentOffs}
+use Rattle.ledger.specs.Limits.{SizeRange, maxSlots, maxFlying, maxWaiting, maxTaken, maxNumber}
+use Rattle.ledger.specs.Ledger.{Held, size, heldOffs, sentOffs}
 use Rattle.ledger.specs.Sound.{Sound, Flying}
 use Rattle.ledger.proofs.Stream.{length-bytesOf}
 use Rattle.ledger.proofs.Kept.{fresh-sound}
-use Rattle.table.specs.Layout.{areaBytes, streamBytes}
+use Rattle.table.specs.Layout.{areaBytes}
 use Rattle.table.specs.Table.{rowsFrom, total}
 use Rattle.table.specs.declared.Row.{Row}
-use Rattle.sound.specs.Sound.{rowOffs, tableOk, allFlying, heldBitsOk, sentBitsOk, noneListed}
+use Rattle.sound.specs.Sound.{rowOffs, tableOk, allFlying}
 use Rattle.pieces.specs.Pieces.{piecesOf}
-use Rattle.pieces.specs.Lists.{heldOf, sentOf}
 use Rattle.pieces.proofs.Lists.{held-offs, held-length, sent-offs, sent-length}
 use Rattle.pieces.proofs.Sound.{size-rows, table-total, table-pieces, pieces-table, flying-pieces, pieces-flying, flying-two, two-flying, held-bits, bits-held, sent-bits, bits-sent}
 use Rattle.record.specs.Fresh.{fresh, freshGear, freshLink}
@@ -42,7 +40,7 @@ use Rattle.record.specs.declared.LastBurst.{LastBurst}
 use Rattle.record.specs.declared.Sender.{Sender}
 use Rattle.record.proofs.View.{Arrays, Counted, bytes-pieces, view-fresh}
 use Rattle.settle.specs.Settle.{Settling}
-use Rattle.checks.specs.Checked.{keptOk, keptIfOk, reportsOk, levelOk, gearOk, linkOk, countsOk, listsOk, soundOk, SoundGear, SoundLink, SoundRecord}
+use Rattle.checks.specs.Checked.{keptOk, keptIfOk, reportsOk, levelOk, gearOk, linkOk, countsOk, listsOk, soundOk, SoundRecord}
 use Rattle.checks.proofs.Counts.{held-few, rest-few, out-few, sent-few, waiting-few, flying-few, pieces-few, taken-few, acked-is}
 use Rattle.checks.proofs.Gear.{gear-sound, sound-gear, link-sound, sound-link}
 

@@ -15,7 +15,7 @@ use Rattle.memory.specs.declared.Reports.{Reports}
 use Rattle.memory.specs.declared.Tries.{Tries}
 use Rattle.ladder.specs.declared.Holds.{Holds}
 use Rattle.goodput.specs.declared.Gear.{Gear}
-use Rattle.ledger.specs.Limits.{Sizes, maxSlots, maxNumber, maxFlying, maxWaiting, maxPieces, maxTaken}
+use Rattle.ledger.specs.Limits.{maxSlots, maxNumber, maxFlying, maxWaiting, maxPieces, maxTaken}
 use Rattle.ledger.specs.Sound.{Sound}
 use Rattle.table.specs.Layout.{areaBytes}
 use Rattle.table.specs.Table.{rowsFrom, total}

@@ -1,7 +1,6 @@
 use Rattle.laws.specs.Tests.{all}
 use Rattle.checks.specs.Checked.{gearOk}
 use lib.Ieee.{ofInt, ofBits}
-use Prim.Native.Nat.{_-_}
 use borrow.Author.Needs.{needs}
 use Rattle.checks.proofs.gear_ok.Statement.{statement}
 use Rattle.checks.proofs.gear_ok.Tie as tie
@@ -20,7 +19,8 @@ levels-ok-requires c κs = search needs
 
 returns : tie.Need-returns
 unfolding all gearOk ofInt ofBits
-returns c = cc
+returns c =
+    simp (c .before .before .before .kept-if-ok .ensures, c .before .before .kept-if-ok2 .ensures, c .before .reports-ok .ensures, c .levels-ok .ensures)
 
 pub gear-ok-spec : {M : Type 1} → statement M
 gear-ok-spec = tie.close (tie.spec kept-if-ok-requires kept-if-ok-requires-2 reports-ok-requires levels-ok-requires returns)

@@ -1,14 +1,15 @@
 use denote.Ref.{now}
-use mathlib.Core.Bool.{Bool, true, false, _&&_}
+use mathlib.Core.Bool.{Bool, true, _&&_}
 use mathlib.Core.List.{List}
 use mathlib.Core.Path.{_≡_, sym, ap, ap₂, _∙_}
-use Prim.Native.Nat.{ℕ, _+_, _-_, _≤_, _<_}
+use Prim.Native.Nat.{ℕ}
 use native.Mathlib.Omega.{arith}
 use borrow.Author.Tests.{not-true, not-false, le-leb, lt-leb}
 use Rattle.laws.specs.Tests.{all}
 use Rattle.laws.proofs.Picks.{and-first}
 use Rattle.harq.specs.Held.{hMax}
 use Rattle.frame.specs.Frame.{maxPayload}
+use Rattle.table.specs.Layout.{areaBytes}
 use Rattle.table.specs.declared.Row.{Row}
 use Rattle.table.specs.Table.{rowsFrom}
 use Rattle.sound.specs.Sound.{tableOk, rowOffs}
@@ -65,7 +66,7 @@ h-max-requires c κs = c .before .before .before .before .before .before .pre .c
 
 returns : tie.Need-returns
 unfolding soundOk all
-returns c = simp (lt-leb _ _ (c .if1 .taken))
+returns c = simp (lt-leb areaBytes _ (c .if1 .taken))
 
 counts-ok-requires : tie.Need-counts-ok-requires
 counts-ok-requires c κs = search needs

@@ -1,5 +1,4 @@
 use Rattle.checks.specs.Checked.{keptIfOk}
-use Prim.Native.Nat.{_-_}
 use borrow.Author.Needs.{needs}
 use Rattle.checks.proofs.kept_if_ok.Statement.{statement}
 use Rattle.checks.proofs.kept_if_ok.Tie as tie

@@ -1,6 +1,5 @@
 use Rattle.checks.specs.Checked.{keptOk}
 use lib.Ieee.{ofInt, ofBits, neg}
-use Prim.Native.Nat.{_-_}
 use borrow.Author.Needs.{needs}
 use Rattle.checks.proofs.kept_ok.Statement.{statement}
 use Rattle.checks.proofs.kept_ok.Tie as tie

@@ -1,7 +1,7 @@
+use mathlib.Core.Path.{refl}
 use Rattle.laws.specs.Tests.{all}
 use Rattle.checks.specs.Checked.{levelOk}
 use lib.Ieee.{ofInt, ofBits}
-use Prim.Native.Nat.{_-_}
 use borrow.Author.Needs.{needs}
 use Rattle.checks.proofs.level_ok.Statement.{statement}
 use Rattle.checks.proofs.level_ok.Tie as tie
@@ -26,7 +26,7 @@ element-copy-out-result-2 c = search needs
 
 returns : tie.Need-returns
 unfolding all levelOk ofInt ofBits
-returns c = cc
+returns c = refl
 
 pub level-ok-spec : {M : Type 1} → statement M
 level-ok-spec =

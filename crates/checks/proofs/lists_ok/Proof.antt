@@ -1,21 +1,20 @@
 use denote.Ref.{now}
-use mathlib.Core.Bool.{Bool, true, false, _&&_}
-use mathlib.Core.Path.{_≡_, refl, sym, ap, _∙_}
+use mathlib.Core.Bool.{true}
+use mathlib.Core.Path.{_≡_, sym, ap, _∙_}
 use mathlib.Core.List.{List, [], _∷_}
-use Prim.Native.Nat.{ℕ, zero, suc, _+_, _-_, _≤_, _<_}
+use Prim.Native.Nat.{ℕ, zero, suc, _-_}
 use native.Mathlib.Nat.{sub-zero}
 use native.Mathlib.Omega.{arith}
-use lib.ListN.{length, take, drop}
+use lib.ListN.{take, drop}
 use lib.Seq.{length-take-le, take-nil}
 use borrow.Author.Tests.{not-true, not-false}
-use borrow.Author.Needs.{length-unmapped}
 use Rattle.laws.specs.Tests.{all}
 use Rattle.table.specs.Table.{rowsFrom}
-use Rattle.sound.specs.Sound.{rowOffs, allFlying, heldBitsOk, sentBitsOk, noneListed}
+use Rattle.sound.specs.Sound.{rowOffs, allFlying, heldBitsOk, noneListed}
 use Rattle.record.proofs.View.{Arrays}
 use Rattle.checks.specs.Checked.{listsOk}
 use Rattle.checks.proofs.Counts.{held-few, rest-few, sent-few, pieces-few}
-use borrow.Author.Needs.{needs}
+use borrow.Author.Needs.{needs, length-unmapped}
 use Rattle.checks.proofs.lists_ok.Statement.{statement}
 use Rattle.checks.proofs.lists_ok.Tie as tie
 

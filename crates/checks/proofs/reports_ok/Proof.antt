@@ -1,6 +1,5 @@
 use Rattle.laws.specs.Tests.{all}
 use Rattle.checks.specs.Checked.{reportsOk}
-use Prim.Native.Nat.{_-_}
 use borrow.Author.Needs.{needs}
 use Rattle.checks.proofs.reports_ok.Statement.{statement}
 use Rattle.checks.proofs.reports_ok.Tie as tie
