@@ -1,0 +1,52 @@
+use borrow.Author.Tests.{not-true, not-false}
+use Rattle.laws.proofs.Picks.{told-yes, told-no}
+use Rattle.laws.specs.Span.{every, upto}
+use Rattle.laws.proofs.Span.{every-pass, every-fail, every-end}
+use Rattle.checks.specs.Checked.{levelOk}
+use Prim.Native.Nat.{_-_, _≤_}
+use mathlib.Core.Path.{_≡_, refl, sym, _∙_}
+use native.Mathlib.Omega.{arith}
+use borrow.Author.Needs.{needs}
+use Rattle.checks.proofs.levels_ok.Statement.{statement}
+use Rattle.checks.proofs.levels_ok.Tie as tie
+
+abbrev Inv-loop : tie.InvT-loop
+Inv-loop t h k₀ k = (k ≤ 17) × (every (levelOk t h) (upto 0 17) ≡ every (levelOk t h) (upto k 17))
+
+abbrev μ-loop : tie.MeasureT-loop
+μ-loop t h k₀ k = 17 - k
+
+loop-holds : tie.Need-loop-holds Inv-loop μ-loop
+loop-holds c = (omega arith, refl)
+
+level-ok-requires : tie.Need-level-ok-requires Inv-loop μ-loop
+level-ok-requires c κs = search needs
+
+returns : tie.Need-returns Inv-loop μ-loop
+returns c = sym (c .before .before .before .loop .inv .1 ∙ every-fail _ _ _ (omega arith) (told-no _ _ (c .before .level-ok .ensures) (not-true _ (c .if1 .taken))))
+
+add-k : tie.Need-add-k Inv-loop μ-loop
+add-k c = search needs
+
+loop-less : tie.Need-loop-less Inv-loop μ-loop
+loop-less c = search needs
+
+loop-again : tie.Need-loop-again Inv-loop μ-loop
+loop-again c = (omega arith, c .before .before .before .loop .inv .1 ∙ every-pass _ _ _ (omega arith) (told-yes _ _ (c .before .level-ok .ensures) (not-false _ (c .if1 .left))))
+
+returns-2 : tie.Need-returns-2 Inv-loop μ-loop
+returns-2 c = sym (c .before .loop .inv .1 ∙ every-end _ _ _ (omega arith))
+
+pub levels-ok-spec : {M : Type 1} → statement M
+levels-ok-spec =
+    tie.close
+    (tie.spec
+    Inv-loop
+    μ-loop
+    loop-holds
+    level-ok-requires
+    returns
+    add-k
+    loop-less
+    loop-again
+    returns-2)
