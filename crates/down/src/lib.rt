@@ -4,7 +4,7 @@ use level::FLOOR;
 use reach::larger;
 use report::ChanClass;
 ghost use mathlib.Core.Path.{_≡_};
-ghost use Prim.Native.Nat.{_<_, _≤_};
+ghost use Prim.Native.Nat.{_<_};
 ghost use Rattle.ladder.specs.Ladders.{allowedBelow, lowestLong, nthBelow, stepDown};
 
 // The highest level below `at` whose waveform the class allows, or the floor.

@@ -13,11 +13,10 @@ use rates::level_rate;
 use report::ChanClass;
 ghost use mathlib.Core.Path.{_≡_};
 ghost use mathlib.Core.Bool.{false};
-ghost use Prim.Native.Nat.{_+_, _*_, _<_, _≤_, min};
-ghost use lib.ListN.{getD};
+ghost use Prim.Native.Nat.{_<_};
 ghost use lib.Ieee.{inf};
 ghost use Rattle.limits.specs.Ranged.{Ranged};
-ghost use Rattle.goodput.specs.Goodput.{priorOf, memoryS, remembered, chanceOf, marksOf, cueFor, roomOf, scoreOf, barOf, worthOf, inReach, candidate, over, noBest, weighed, pickByGoodput};
+ghost use Rattle.goodput.specs.Goodput.{priorOf, memoryS, remembered, chanceOf, marksOf, cueFor, roomOf, scoreOf, barOf, worthOf, inReach, candidate, over, weighed, pickByGoodput};
 
 // The gear record.
 pub struct Gear {

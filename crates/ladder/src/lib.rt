@@ -1,8 +1,7 @@
 // Which levels may be used: channel class, holds, steps up and down.
 ghost use mathlib.Core.Path.{_≡_};
-ghost use Prim.Native.Nat.{_+_, _<_, _≤_, min, max};
-ghost use Rattle.ladder.specs.Ladders.{airDb, heeded, familyOk, enough, levelFor, passes, usable, usableBelow, climbs, climbAbove, allowedBelow, lowestLong, nthBelow, stepDown};
-use config::Marks;
+ghost use Prim.Native.Nat.{_<_};
+ghost use Rattle.ladder.specs.Ladders.{airDb, heeded, familyOk, passes, usable, usableBelow, climbs, climbAbove};
 use config::MaybeLevel;
 use level::FLOOR;
 use report::ChanClass;

@@ -1,11 +1,9 @@
 // What the gear remembers of each level: shares, failures, holds; and the last three reports.
 ghost use mathlib.Core.Path.{_≡_};
-ghost use Prim.Native.Nat.{_+_, _<_, _≤_, min};
+ghost use Prim.Native.Nat.{_+_, _<_, min};
 ghost use lib.ListN.{getD};
 ghost use lib.Ieee.{nan};
-ghost use Rattle.float.specs.Gear.{lossOf};
-ghost use Rattle.memory.specs.Memory.{pushed, aimOf, shareAfter, noted, failed, cleared, faded, hits, marked, channelFailed, holding, others, heldUntil};
-use ladder::Holds;
+ghost use Rattle.memory.specs.Memory.{pushed, aimOf, shareAfter, noted, failed, cleared, faded, hits, marked, channelFailed};
 
 // Per level: whether it was tried, the share of its frames that came through, the time of that, and the bursts lost whole.
 pub struct Tries {

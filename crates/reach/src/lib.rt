@@ -5,7 +5,7 @@ use ladder::family_ok;
 use level::FLOOR;
 use report::ChanClass;
 ghost use mathlib.Core.Path.{_≡_};
-ghost use Prim.Native.Nat.{_+_, _<_, _≤_, min, max};
+ghost use Prim.Native.Nat.{_<_, min, max};
 ghost use Rattle.ladder.specs.Ladders.{enough, levelFor};
 
 // Whether an SNR, moved to what level l would see, is enough for it.
