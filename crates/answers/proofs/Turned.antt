@@ -1,0 +1,58 @@
+-- A turn leaves what the ledger leaves.
+-- Assumes nothing.
+use mathlib.Core.Path.{_≡_, refl, sym, ap, _∙_}
+use mathlib.Core.List.{List}
+use mathlib.Core.Bool.{Bool, true, false}
+use Prim.Native.Nat.{ℕ, _+_, _/_, _%_, _^_, _≤_, _<_}
+use native.Mathlib.Omega.{arith}
+use native.Mathlib.Nat.{zero-div}
+use lib.Dec.{eqb}
+use lib.ListN.{length}
+use borrow.Author.Tests.{ne-eqb}
+use Rattle.laws.proofs.Little.{Bytes}
+use Rattle.config.specs.declared.Profile.{Profile}
+use Rattle.goodput.specs.declared.Gear.{Gear}
+use Rattle.gear.specs.declared.Outcome.{Outcome}
+use Rattle.meeting.specs.Meeting.{onTurn}
+use Rattle.ledger.specs.Ledger.{clearBurst}
+use Rattle.ledger.specs.Limits.{maxSlots}
+use Rattle.record.specs.View.{view, store, storeArea}
+use Rattle.record.specs.declared.Sender.{Sender}
+use Rattle.record.proofs.View.{Counted, Arrays}
+use Rattle.settle.proofs.Settles.{Bits}
+use Rattle.replies.specs.Outcomes.{outcomeOf, outcomeIn}
+use Rattle.replies.specs.Replies.{withGear, withLink, withoutBurst}
+use Rattle.replies.proofs.Outcomes.{outcome-is}
+use Rattle.replies.proofs.Awaited.{cleared}
+use Rattle.answers.specs.declared.Heard.{Heard}
+use Rattle.answers.specs.declared.Turn.{Turn}
+use Rattle.answers.specs.Answers.{timed, turnDb, nothingHeard, Answerable, turned, turnedTo}
+
+no-bits : (n : ℕ) → Bits (λ (i : ℕ). false) 0 0 n
+no-bits n j h = sym (ap (λ (x : ℕ). eqb (x % 2) 1) (zero-div (2 ^ j)))
+
+module _ (p : Profile) (s : Sender) (a : List ℕ) (an : Answerable p s a) (ar : Arrays s) (by : Bytes a) (h : Heard) (r : Turn) where
+  counted : Counted s a
+  counted =
+      let n = an .settling in
+      record { area = n .area; held = n .held; rest = n .rest; sent = omega (arith, n .out); pieces = n .pieces; flying = n .flying; stream = omega (arith, n .flies, n .waits) }
+
+  few : s .«last_burst» .n ≤ maxSlots
+  few = omega (arith, an .settling .out)
+
+  other-number : eqb ((s .link .«burst_id» + 1) % 4) (s .link .«burst_id») ≡ false
+  unfolding view
+  other-number = ne-eqb ((s .link .«burst_id» + 1) % 4) (s .link .«burst_id») (λ e. omega (arith, e, an .sound .number))
+
+  outcome : outcomeIn 0 false (s .«last_burst») ≡ outcomeOf (nothingHeard (view s a)) (view s a)
+  unfolding view
+  outcome = ap (λ (b : Bool). outcomeIn 0 b (s .«last_burst»)) (sym other-number) ∙ outcome-is 0 (nothingHeard (view s a)) s a ar few (no-bits (s .«last_burst» .n))
+
+  abbrev next : Outcome → Sender
+  next o = withLink (withGear s (onTurn p (s .gear) o (turnDb h r) (h .wave) (h .time))) (timed (s .link) (h .time))
+
+  pub turned-is : _≡_ {A = Sender × List ℕ} (turnedTo p h r s, a) (turned p h r s a)
+  unfolding turnedTo turned
+  turned-is =
+      cleared s a counted ar by (onTurn p (s .gear) (outcomeIn 0 false (s .«last_burst»)) (turnDb h r) (h .wave) (h .time)) (timed (s .link) (h .time)) refl
+      ∙ ap (λ (o : Outcome). (store (clearBurst (view s a)) (next o), storeArea (clearBurst (view s a)) a)) outcome
