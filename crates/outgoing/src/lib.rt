@@ -97,10 +97,13 @@ pub fn frames_out(q: Harq, s: Slots) -> Frames
     let n = s.n;
     let mut i = 0;
     while i < n {
+        let held = s.held[i];
+        let more = s.bits[i];
+        let before = held - more;
         off[i] = s.off[i];
         len[i] = s.len[i];
-        start[i] = q.start(s.held[i] - s.bits[i]);
-        bits[i] = s.bits[i];
+        start[i] = q.start(before);
+        bits[i] = more;
         i += 1;
     }
     Frames {

@@ -42,6 +42,21 @@ abbrev μ-loop : tie.MeasureT-loop
 loop-holds : tie.Need-loop-holds Inv-loop μ-loop
 loop-holds c = (omega arith, rw sub-zero refl, rw sub-zero refl, rw sub-zero refl, rw sub-zero refl)
 
+mul-held : tie.Need-mul-held Inv-loop μ-loop
+mul-held c = search needs
+
+element-copy-out-held : tie.Need-element-copy-out-held Inv-loop μ-loop
+element-copy-out-held c = search needs
+
+mul-more : tie.Need-mul-more Inv-loop μ-loop
+mul-more c = search needs
+
+element-copy-out-more : tie.Need-element-copy-out-more Inv-loop μ-loop
+element-copy-out-more c = search needs
+
+sub-before : tie.Need-sub-before Inv-loop μ-loop
+sub-before c = let d = c .before .before in d .before .before .pre .2 (d .before .loop .i) (d .loop-test .taken)
+
 mul-off : tie.Need-mul-off Inv-loop μ-loop
 mul-off c = search needs
 
@@ -66,38 +81,17 @@ mul-len-2 c = search needs
 array-write-len : tie.Need-array-write-len Inv-loop μ-loop
 array-write-len c = search needs
 
-mul-start : tie.Need-mul-start Inv-loop μ-loop
-mul-start c = search needs
-
-element-copy-out-start : tie.Need-element-copy-out-start Inv-loop μ-loop
-element-copy-out-start c = search needs
-
-mul-start-2 : tie.Need-mul-start-2 Inv-loop μ-loop
-mul-start-2 c = search needs
-
-element-copy-out-start-2 : tie.Need-element-copy-out-start-2 Inv-loop μ-loop
-element-copy-out-start-2 c = search needs
-
-sub-start : tie.Need-sub-start Inv-loop μ-loop
-sub-start c = let d = c .before .before .before .before in d .before .before .pre .2 (d .before .loop .i) (d .loop-test .taken)
-
 start-requires : tie.Need-start-requires Inv-loop μ-loop
 start-requires c κs = search needs
 
-mul-start-3 : tie.Need-mul-start-3 Inv-loop μ-loop
-mul-start-3 c = search needs
+mul-start : tie.Need-mul-start Inv-loop μ-loop
+mul-start c = search needs
 
 array-write-start : tie.Need-array-write-start Inv-loop μ-loop
 array-write-start c = search needs
 
 mul-bits : tie.Need-mul-bits Inv-loop μ-loop
 mul-bits c = search needs
-
-element-copy-out-bits : tie.Need-element-copy-out-bits Inv-loop μ-loop
-element-copy-out-bits c = search needs
-
-mul-bits-2 : tie.Need-mul-bits-2 Inv-loop μ-loop
-mul-bits-2 c = search needs
 
 array-write-bits : tie.Need-array-write-bits Inv-loop μ-loop
 array-write-bits c = search needs
@@ -110,7 +104,7 @@ loop-less c = search needs
 
 loop-again : tie.Need-loop-again Inv-loop μ-loop
 loop-again c =
-    let d = c .before .before .before .before .before .before in
+    let d = c .before .before .before .before .before in
     let p = d .before in
     let s = p .before .args .t2 in
     let h = d .loop-test .taken in
@@ -118,7 +112,7 @@ loop-again c =
       omega arith,
       p .loop .inv .1 ∙ stored-turn off-of s (s .n) i (p .loop .off) _ h refl,
       p .loop .inv .2 ∙ stored-turn len-of s (s .n) i (p .loop .len) _ h refl,
-      p .loop .inv .3 ∙ stored-turn (start-of (p .before .args .q)) s (s .n) i (p .loop .start) _ h (c .before .start .ensures),
+      p .loop .inv .3 ∙ stored-turn (start-of (p .before .args .q)) s (s .n) i (p .loop .start) _ h (c .start .ensures),
       p .loop .inv .4 ∙ stored-turn bits-of s (s .n) i (p .loop .bits) _ h refl,
     )
 
@@ -143,6 +137,11 @@ frames-out-spec =
     Inv-loop
     μ-loop
     loop-holds
+    mul-held
+    element-copy-out-held
+    mul-more
+    element-copy-out-more
+    sub-before
     mul-off
     element-copy-out-off
     mul-off-2
@@ -151,17 +150,10 @@ frames-out-spec =
     element-copy-out-len
     mul-len-2
     array-write-len
-    mul-start
-    element-copy-out-start
-    mul-start-2
-    element-copy-out-start-2
-    sub-start
     start-requires
-    mul-start-3
+    mul-start
     array-write-start
     mul-bits
-    element-copy-out-bits
-    mul-bits-2
     array-write-bits
     add-i
     loop-less
