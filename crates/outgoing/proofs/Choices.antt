@@ -1,0 +1,33 @@
+-- The choice of a profile in its ranges is in the ledger's. Assumes nothing.
+use Prim.Native.Nat.{_≤_, _<_}
+use native.Mathlib.Omega.{arith}
+use lib.ListN.{length}
+use Rattle.header.proofs.Laws.{burst-id-lt}
+use Rattle.config.specs.declared.Profile.{Profile}
+use Rattle.limits.specs.Ranged.{Ranged}
+use Rattle.rates.proofs.RateLaws.{cue-in}
+use Rattle.goodput.specs.declared.Gear.{Gear}
+use Rattle.ledger.specs.Plan.{ChoiceRange, Longer}
+use Rattle.plan.specs.Planning.{CodesRange}
+use Rattle.plan.proofs.Increments.{codes-range}
+use Rattle.plan.proofs.Choices.{choice-range, choice-longer}
+use Rattle.record.specs.declared.Link.{Link}
+use Rattle.record.specs.declared.Sender.{Sender}
+use Rattle.outgoing.specs.Choosing.{chosen, choice, cue, nextNumber}
+
+module _ (p : Profile) (r : Ranged p) where
+  pub chosen-codes : (g : Gear) (k : Link) → g .level < 17 → length (p .codes .ends) ≤ 6 → CodesRange (p .codes) (chosen p g k)
+  unfolding chosen
+  chosen-codes g k l six = codes-range (p .codes) (chosen p g k) (r .air .level (g .level) l .slot) six (λ i h. r .codes .ends i h .1)
+
+  module _ (s : Sender) (l : s .gear .level < 17) where
+    pub choice-ranged : length (p .codes .ends) ≤ 6 → ChoiceRange (choice p s)
+    choice-ranged six =
+        choice-range (p .codes) (chosen p (s .gear) (s .link)) (p .«merge_pieces») (nextNumber (s .link)) (chosen-codes (s .gear) (s .link) l six)
+        (omega (arith, burst-id-lt (s .link .«burst_id») (s .link .heard) (s .link .«peer_heard»)))
+
+    pub choice-long : Longer (choice p s)
+    unfolding chosen
+    choice-long =
+        let k = r .air .level (s .gear .level) l in
+        choice-longer (p .codes) (chosen p (s .gear) (s .link)) (p .«merge_pieces») (nextNumber (s .link)) (k .pre) (k .rate) (cue-in p r (s .gear .level) l (cue p (s .gear)))
