@@ -18,7 +18,7 @@ use Rattle.harq.specs.declared.Harq.{Harq}
 use Rattle.frame.specs.Frame.{maxPayload}
 use Rattle.ledger.specs.Limits.{Sizes, SizeRange, maxSlots, maxPieces, maxTaken, maxHeld, maxNumber}
 use Rattle.ledger.specs.Ledger as L
-use Rattle.ledger.specs.Ledger.{Piece, Held, Sent, Plan, size, bytesOf, heldOffs, sentOffs, find, frames, dataBurst}
+use Rattle.ledger.specs.Ledger.{Piece, Held, Sent, Plan, size, bytesOf, heldOffs, sentOffs, Frame, find, frames, dataBurst}
 use Rattle.ledger.specs.Plan as P
 use Rattle.ledger.specs.Cover.{Ascend}
 use Rattle.ledger.specs.Sound.{Sound, Fits}
@@ -359,3 +359,134 @@ module _ (z : Sizes) (zr : SizeRange z) (q : Harq) (c : Choice) (merging : Bool)
           shown = shown;
           fit = rw (gone-is, slots-back, length-over a (place 0) (tableBytes (rs ++ new))) (fit (length a) fits-w);
         }
+
+  -- ---- what is left is the ledger's
+
+  sent-is : sentSlots xs ≡ after .sent
+  sent-is = burst-sent z zr l g so fi rs a os hs w pieces-are kept-are sides waiting-is fits-w q same
+
+  -- the work area: no byte of the stream moves
+  stream-same : overwrite a 0 (bytesOf (after .pieces) ++ after .waiting) ≡ a
+  unfolding view
+  stream-same =
+      ap (overwrite a 0)
+      (stream-burst g l
+      ∙ ap (λ (b : List ℕ). b ++ part a (s .counts .flying) w) (bytes-pieces rows a ∙ ap (λ (k : ℕ). take k a) (co .flying))
+      ∙ sym (take-add (s .counts .flying) w a))
+      ∙ over-part a 0 (s .counts .flying + w)
+
+  rows-then : rowsOf (after .pieces) ≡ rs ++ new
+  rows-then = ap rowsOf (sym then-pieces) ∙ rows-pieces (rs ++ new) a (omega (arith, then-fits, fits-w))
+
+  area-after : withRows a 0 (rs ++ new) ≡ storeArea after a
+  unfolding storeArea
+  area-after = sym (ap₂ (λ (b : List ℕ) (ss : List Row). overwrite b (place 0) (tableBytes ss)) stream-same rows-then)
+
+  -- the counts
+  next-is : after .next ≡ s .counts .«next_offset» + total new
+  unfolding view
+  next-is = burst-next z zr l g so fi rs a os hs w pieces-are kept-are sides waiting-is fits-w
+
+  acked-is : s .counts .«bytes_acked» ≡ after .acked
+  unfolding dataBurst view
+  acked-is = refl
+
+  new-few : total new ≤ w
+  new-few = omega (arith, then-fits, total-append rs new)
+
+  counts-after : countsOf (s .counts) added ≡ storeCounts after (s .counts)
+  unfolding storeCounts
+  counts-after =
+      let e₁ : w - total new ≡ length (after .waiting) =
+          sym (ap length (burst-waiting z zr l g so fi rs a os hs w pieces-are kept-are sides waiting-is fits-w) ∙ length-part a (total (rs ++ new)) (w - total new) (omega (arith, total-append rs new, fits-w, new-few))) in
+      let e₂ : s .counts .flying + total new ≡ size (after .pieces) =
+          omega (arith, ap size then-pieces, size-rows (rs ++ new) a (omega (arith, then-fits, fits-w)), total-append rs new, rs-total) in
+      let e₃ : length (rs ++ new) ≡ length (after .pieces) = sym (length-pieces (rs ++ new) a) ∙ ap length then-pieces in
+      λ i. record { «next_offset» = sym next-is i; waiting = e₁ i; flying = e₂ i; pieces = e₃ i; «bytes_acked» = acked-is i; «airtime_ms» = s .counts .«airtime_ms» }
+
+  -- the held list
+  rest-length : length (after .rest) ≡ kp .rest
+  unfolding dataBurst
+  rest-length = omega (arith, length-drop (g .parity) (L.kept g l), kept-length, par, kept-rest h (pl .parity))
+
+  bits-kept : map (λ (x : Held). x .bits) (L.kept g l) ≡ hs
+  bits-kept = ap (map (λ (x : Held). x .bits)) kept-are ∙ bits-of os hs sides
+
+  held-after : kp ≡ storeHeld after h
+  unfolding storeHeld dataBurst
+  held-after =
+      let o : overwrite (h .off) 0 (heldOffs (L.kept g l)) ≡ h .off =
+          ap (overwrite (h .off) 0) (kept-offs ∙ ap (take (kp .n)) (kept-off h (pl .parity))) ∙ over-part (h .off) 0 (kp .n) in
+      let b : overwrite (h .bits) 0 (map (λ (x : Held). x .bits) (L.kept g l)) ≡ h .bits =
+          ap (overwrite (h .bits) 0) (bits-kept ∙ ap (take (kp .n)) (kept-bits h (pl .parity))) ∙ over-part (h .bits) 0 (kp .n) in
+      λ i. record { off = (kept-off h (pl .parity) ∙ sym o) i; bits = (kept-bits h (pl .parity) ∙ sym b) i; n = sym kept-length i; rest = sym rest-length i }
+
+  -- the outstanding burst
+  sent-after : lastOf (added .slots) ≡ storeSent after last
+  unfolding storeSent
+  sent-after =
+      let o : map (λ (x : Slot). x .off) xs ≡ sentOffs (after .sent) = sym (sentSlots-offs xs) ∙ ap sentOffs sent-is in
+      let b : map (λ (x : Slot). x .bits) xs ≡ map (λ (f : Sent). f .bits) (after .sent) =
+          sym (map-map (λ (f : Sent). f .bits) (λ (x : Slot). record { off = x .off; bits = x .bits; held = x .held }) xs) ∙ ap (map (λ (f : Sent). f .bits)) sent-is in
+      let k : map (λ (x : Slot). x .held) xs ≡ map (λ (f : Sent). f .held) (after .sent) =
+          sym (map-map (λ (f : Sent). f .held) (λ (x : Slot). record { off = x .off; bits = x .bits; held = x .held }) xs) ∙ ap (map (λ (f : Sent). f .held)) sent-is in
+      let n : added .slots .n ≡ length (after .sent) = count-slots ∙ sym (sentSlots-length xs) ∙ ap length sent-is in
+      λ i. record {
+        off = (push-all-off (slotsIn last) xs ∙ ap (overwrite (last .off) 0) o) i;
+        bits = (push-all-bits (slotsIn last) xs ∙ ap (overwrite (last .bits) 0) b) i;
+        held = (push-all-held (slotsIn last) xs ∙ ap (overwrite (last .held) 0) k) i;
+        n = n i;
+      }
+
+  next-after : nextOf s kp added number ≡ store after s
+  unfolding nextOf store storeLink dataBurst
+  next-after =
+      λ i. record { gear = s .gear; link = storeLink after (s .link); counts = counts-after i; «at_peer» = held-after i; «last_burst» = sent-after i }
+
+  -- each frame's offset and length, as the answer tells them
+  frames-told : frames (after .pieces) (after .sent) ≡ map (λ (x : Slot). record { off = x .off; len = x .len }) xs
+  frames-told = burst-frames z zr l g so fi rs a os hs w pieces-are kept-are sides waiting-is fits-w q same
+
+  -- the slots of the burst, as arrays
+  abbrev slots : Slots
+  slots = gone q c payload merging s a .0 .slots
+
+  slots-are : slots ≡ added .slots
+  slots-are = ap (λ (x : Added × List ℕ). x .0 .slots) gone-is
+
+  last-is : lastOf slots ≡ storeSent after last
+  last-is = ap lastOf slots-are ∙ sent-after
+
+  pub slots-len : slots .len ≡ overwrite (replicate maxSlots 0) 0 (map (λ (f : Sent). length (find (f .off) (after .pieces))) (after .sent))
+  slots-len =
+      let e : map (λ (x : Slot). x .len) xs ≡ map (λ (f : Sent). length (find (f .off) (after .pieces))) (after .sent) =
+          sym (map-map (λ (f : Frame). f .len) (λ (x : Slot). record { off = x .off; len = x .len }) xs)
+          ∙ ap (map (λ (f : Frame). f .len)) (sym frames-told)
+          ∙ map-map (λ (f : Frame). f .len) (λ (f : Sent). record { off = f .off; len = length (find (f .off) (after .pieces)) }) (after .sent) in
+      ap (λ (x : Slots). x .len) slots-are ∙ push-all-len (slotsIn last) xs ∙ ap (overwrite (replicate maxSlots 0) 0) e
+
+  pub slots-off : slots .off ≡ overwrite (last .off) 0 (sentOffs (after .sent))
+  unfolding storeSent
+  slots-off = ap (λ (x : LastBurst). x .off) last-is
+
+  pub slots-bits : slots .bits ≡ overwrite (last .bits) 0 (map (λ (f : Sent). f .bits) (after .sent))
+  unfolding storeSent
+  slots-bits = ap (λ (x : LastBurst). x .bits) last-is
+
+  pub slots-held : slots .held ≡ overwrite (last .held) 0 (map (λ (f : Sent). f .held) (after .sent))
+  unfolding storeSent
+  slots-held = ap (λ (x : LastBurst). x .held) last-is
+
+  pub slots-count : slots .n ≡ length (after .sent)
+  unfolding storeSent
+  slots-count = ap (λ (x : LastBurst). x .n) last-is
+
+  -- the next record, the work area and the output are those that hold what the ledger leaves
+  module _ (size : ℕ) (out : List ℕ) (frame : payload ≤ maxPayload size) (room : maxSlots * size ≤ length out) where
+    pub bursts : burstRows q c payload merging s a number size out
+        ≡ (record { slots = slots; plan = pl; next = store after s }, (storeArea after a, overwrite out 0 (framesSent size (after .pieces) (after .sent))))
+    unfolding burstRows
+    bursts =
+        λ i.
+        (record { slots = slots; plan = pl; next = (ap (λ (x : Added × List ℕ). nextOf s kp (x .0) number) gone-is ∙ next-after) i },
+        ((ap (λ (x : Added × List ℕ). x .1) gone-is ∙ area-after) i, overwrite out 0 (frames-are size out frame room i)))
