@@ -1,36 +1,35 @@
 -- A burst out of a sound record: it can go, and what it leaves of the record, the work area and the output is what the ledger leaves.
 -- Assumes nothing.
 use mathlib.Core.Path.{_≡_, refl, sym, ap, ap₂, subst, _∙_}
-use mathlib.Core.List.{List, [], _∷_, _++_, map}
-use mathlib.Core.Bool.{Bool, true, false, cond, _&&_}
-use Prim.Native.Nat.{ℕ, zero, suc, _+_, _-_, _*_, _≤_, _<_}
+use mathlib.Core.List.{List, [], _++_, map}
+use mathlib.Core.Bool.{Bool, cond}
+use Prim.Native.Nat.{ℕ, _+_, _-_, _*_, _≤_, _<_}
 use native.Mathlib.Omega.{arith}
 use native.Mathlib.Nat.{zero-add, mul-le-mul-right}
-use lib.ListN.{length, take, drop, getD, replicate, length-take, length-drop, length-append, length-replicate}
+use lib.ListN.{length, take, getD, replicate, length-drop, length-append, length-replicate}
 use lib.Dec.{eqb}
 use lib.Seq.{take-take, take-add, length-take-le, getD-take}
 use Rattle.laws.specs.Bytes.{overwrite, part}
 use Rattle.laws.proofs.Bytes.{length-over, length-part, over-cat, over-part}
-use Rattle.laws.proofs.Little.{Bytes}
 use Rattle.laws.proofs.Lists.{map-map}
 use Rattle.harq.specs.Held.{incrementOf}
 use Rattle.harq.specs.declared.Harq.{Harq}
 use Rattle.frame.specs.Frame.{maxPayload}
 use Rattle.ledger.specs.Limits.{Sizes, SizeRange, maxSlots, maxPieces, maxTaken, maxHeld, maxNumber}
 use Rattle.ledger.specs.Ledger as L
-use Rattle.ledger.specs.Ledger.{Piece, Held, Sent, Plan, size, bytesOf, heldOffs, sentOffs, Frame, find, frames, dataBurst}
+use Rattle.ledger.specs.Ledger.{Held, Sent, Plan, size, bytesOf, heldOffs, sentOffs, Frame, find, frames, dataBurst}
 use Rattle.ledger.specs.Plan as P
 use Rattle.ledger.specs.Cover.{Ascend}
 use Rattle.ledger.specs.Sound.{Sound, Fits}
 use Rattle.ledger.proofs.Planned.{planned-fits}
 use Rattle.ledger.proofs.Stream.{stream-burst}
 use Rattle.ledger.proofs.Burst.{burst-sound, burst-ascend}
-use Rattle.table.specs.Layout.{place, areaBytes, streamBytes}
+use Rattle.table.specs.Layout.{place, streamBytes}
 use Rattle.table.specs.Table.{rowAt, rowsFrom, tableBytes, withRows, total, Small}
 use Rattle.table.specs.declared.Row.{Row}
-use Rattle.table.proofs.Laws.{length-rows, length-table, table-cat, rows-written}
-use Rattle.recut.specs.Recut.{splitRows, mergeRows}
-use Rattle.slots.specs.Slots.{pushAll, slotsFrom, unheldSlots, incrementSlots, chunkRows, newPieces}
+use Rattle.table.proofs.Laws.{length-table, table-cat, rows-written}
+use Rattle.recut.specs.Recut.{splitRows}
+use Rattle.slots.specs.Slots.{pushAll, slotsFrom, unheldSlots, incrementSlots, newPieces}
 use Rattle.slots.specs.declared.Added.{Added}
 use Rattle.slots.specs.declared.Slot.{Slot}
 use Rattle.slots.specs.declared.Slots.{Slots}
@@ -53,13 +52,12 @@ use Rattle.pieces.proofs.Room.{payload-some, split-few, table-few, table-room, 
 use Rattle.pieces.proofs.Carried.{waiting-count, burst-fits, burst-pieces, burst-waiting, burst-next, burst-sent, burst-few, burst-carry, burst-frames, burst-fit}
 use Rattle.pieces.proofs.Slots.{push-all-off, push-all-bits, push-all-held, push-all-len, slots-read}
 use Rattle.record.specs.declared.AtPeer.{AtPeer}
-use Rattle.record.specs.declared.Counts.{Counts}
 use Rattle.record.specs.declared.LastBurst.{LastBurst}
 use Rattle.record.specs.declared.Sender.{Sender}
 use Rattle.record.specs.View.{heldIn, view, rowsOf, storeArea, storeHeld, storeSent, storeCounts, storeLink, store}
 use Rattle.record.proofs.View.{Counted, Arrays, rows-pieces, bytes-pieces}
 use Rattle.burst.specs.declared.Sending.{Sending}
-use Rattle.burst.specs.Rows.{keptHeld, cutAt, cutTable, slotsIn, incs, olds, picked, Pickable, nextOf, lastOf, countsOf, plan, kept, recut, gone, burstRows, Ready}
+use Rattle.burst.specs.Rows.{cutAt, cutTable, slotsIn, olds, picked, Pickable, nextOf, lastOf, countsOf, plan, kept, recut, gone, burstRows, Ready}
 use Rattle.burst.specs.Rows as R
 use Rattle.burst.proofs.Laws.{kept-off}
 use Rattle.burst.proofs.Lists.{split-same, cut-recut, small-front, bits-of, bits-below, kept-list, kept-bits, kept-count, kept-more, kept-rest, frames-before, frames-length}
@@ -92,7 +90,7 @@ module _ (z : Sizes) (zr : SizeRange z) (q : Harq) (c : Choice) (merging : Bool)
 
   -- ---- the plan
 
-  abbrev pl : Planned
+  abbrev pub pl : Planned
   pl = plan q c payload merging s a
 
   held-off : length (take (h .n) (h .off)) ≡ h .n
@@ -105,11 +103,17 @@ module _ (z : Sizes) (zr : SizeRange z) (q : Harq) (c : Choice) (merging : Bool)
   unfolding view
   bits-are = bits-of (take (h .n) (h .off)) (take (h .n) (h .bits)) (held-off ∙ sym held-bits)
 
+  -- the plan's numbers are the ledger's
+  pub plan-told : (P.parity z (choiceOf q c merging number) l ≡ pl .parity)
+      × (P.parityBits z (choiceOf q c merging number) l (P.parity z (choiceOf q c merging number) l) ≡ pl .«parity_bits»)
+      × (P.stored z (choiceOf q c merging number) l ≡ pl .stored) × (P.room z (choiceOf q c merging number) l ≡ pl .room)
+  plan-told = plan-is q c merging number z l (take (h .n) (h .bits)) bits-are
+
   par : g .parity ≡ pl .parity
-  par = plan-is q c merging number z l (take (h .n) (h .bits)) bits-are .0
+  par = plan-told .0
 
   rm : g .room ≡ pl .room
-  rm = plan-is q c merging number z l (take (h .n) (h .bits)) bits-are .3
+  rm = plan-told .3
 
   parity-held : pl .parity ≤ h .n
   unfolding planned
@@ -316,13 +320,13 @@ module _ (z : Sizes) (zr : SizeRange z) (q : Harq) (c : Choice) (merging : Bool)
   unfolding view
   cuts = split-few z zr l g so fi rows a rows-fit refl
 
-  -- ---- frames of `size` bytes have room for the payload, and the output has room for 64 of them
-  module _ (size : ℕ) (out : List ℕ) (frame : payload ≤ maxPayload size) (room : maxSlots * size ≤ length out) where
+  -- ---- with the level's payload m, frames of `size` bytes that have room for it, and an output that has room for 64 of them
+  module _ (m : ℕ) (level : m ≡ planIn .payload) (size : ℕ) (out : List ℕ) (frame : m ≤ maxPayload size) (room : maxSlots * size ≤ length out) where
     fit : (used : ℕ) → total rs + w ≤ used → Fit size used xs
-    fit used u = burst-fit z zr l g so fi rs a os hs w pieces-are kept-are sides waiting-is fits-w q size used frame u
+    fit used u = burst-fit z zr l g so fi rs a os hs w pieces-are kept-are sides waiting-is fits-w q size used (omega (arith, level, frame)) u
 
     sized : 10 ≤ size
-    sized = omega (arith, frame, payload-some z zr l g so fi)
+    sized = omega (arith, level, frame, payload-some z zr l g so fi)
 
     -- the frames that are written are those of the ledger's pieces
     frames-are : R.frames q c payload merging s a size ≡ framesSent size (after .pieces) (after .sent)
@@ -342,8 +346,8 @@ module _ (z : Sizes) (zr : SizeRange z) (q : Harq) (c : Choice) (merging : Bool)
           mul-le-mul-right size few-slots,
         )
 
-    pub ready : Ready q c payload merging s a size out
-    ready =
+    ready-so : Ready q c payload merging s a size out
+    ready-so =
         record {
           codes = codes;
           area = co .area;
@@ -359,6 +363,10 @@ module _ (z : Sizes) (zr : SizeRange z) (q : Harq) (c : Choice) (merging : Bool)
           shown = shown;
           fit = rw (gone-is, slots-back, length-over a (place 0) (tableBytes (rs ++ new))) (fit (length a) fits-w);
         }
+
+    -- what the code needs of the numbers holds
+    pub ready : Ready q c m merging s a size out
+    ready = subst (λ (k : ℕ). Ready q c k merging s a size out) (sym level) ready-so
 
   -- ---- what is left is the ledger's
 
@@ -398,9 +406,9 @@ module _ (z : Sizes) (zr : SizeRange z) (q : Harq) (c : Choice) (merging : Bool)
   unfolding storeCounts
   counts-after =
       let e₁ : w - total new ≡ length (after .waiting) =
-          sym (ap length (burst-waiting z zr l g so fi rs a os hs w pieces-are kept-are sides waiting-is fits-w) ∙ length-part a (total (rs ++ new)) (w - total new) (omega (arith, total-append rs new, fits-w, new-few))) in
+      sym (ap length (burst-waiting z zr l g so fi rs a os hs w pieces-are kept-are sides waiting-is fits-w) ∙ length-part a (total (rs ++ new)) (w - total new) (omega (arith, total-append rs new, fits-w, new-few))) in
       let e₂ : s .counts .flying + total new ≡ size (after .pieces) =
-          omega (arith, ap size then-pieces, size-rows (rs ++ new) a (omega (arith, then-fits, fits-w)), total-append rs new, rs-total) in
+      omega (arith, ap size then-pieces, size-rows (rs ++ new) a (omega (arith, then-fits, fits-w)), total-append rs new, rs-total) in
       let e₃ : length (rs ++ new) ≡ length (after .pieces) = sym (length-pieces (rs ++ new) a) ∙ ap length then-pieces in
       λ i. record { «next_offset» = sym next-is i; waiting = e₁ i; flying = e₂ i; pieces = e₃ i; «bytes_acked» = acked-is i; «airtime_ms» = s .counts .«airtime_ms» }
 
@@ -416,9 +424,9 @@ module _ (z : Sizes) (zr : SizeRange z) (q : Harq) (c : Choice) (merging : Bool)
   unfolding storeHeld dataBurst
   held-after =
       let o : overwrite (h .off) 0 (heldOffs (L.kept g l)) ≡ h .off =
-          ap (overwrite (h .off) 0) (kept-offs ∙ ap (take (kp .n)) (kept-off h (pl .parity))) ∙ over-part (h .off) 0 (kp .n) in
+      ap (overwrite (h .off) 0) (kept-offs ∙ ap (take (kp .n)) (kept-off h (pl .parity))) ∙ over-part (h .off) 0 (kp .n) in
       let b : overwrite (h .bits) 0 (map (λ (x : Held). x .bits) (L.kept g l)) ≡ h .bits =
-          ap (overwrite (h .bits) 0) (bits-kept ∙ ap (take (kp .n)) (kept-bits h (pl .parity))) ∙ over-part (h .bits) 0 (kp .n) in
+      ap (overwrite (h .bits) 0) (bits-kept ∙ ap (take (kp .n)) (kept-bits h (pl .parity))) ∙ over-part (h .bits) 0 (kp .n) in
       λ i. record { off = (kept-off h (pl .parity) ∙ sym o) i; bits = (kept-bits h (pl .parity) ∙ sym b) i; n = sym kept-length i; rest = sym rest-length i }
 
   -- the outstanding burst
@@ -427,9 +435,9 @@ module _ (z : Sizes) (zr : SizeRange z) (q : Harq) (c : Choice) (merging : Bool)
   sent-after =
       let o : map (λ (x : Slot). x .off) xs ≡ sentOffs (after .sent) = sym (sentSlots-offs xs) ∙ ap sentOffs sent-is in
       let b : map (λ (x : Slot). x .bits) xs ≡ map (λ (f : Sent). f .bits) (after .sent) =
-          sym (map-map (λ (f : Sent). f .bits) (λ (x : Slot). record { off = x .off; bits = x .bits; held = x .held }) xs) ∙ ap (map (λ (f : Sent). f .bits)) sent-is in
+      sym (map-map (λ (f : Sent). f .bits) (λ (x : Slot). record { off = x .off; bits = x .bits; held = x .held }) xs) ∙ ap (map (λ (f : Sent). f .bits)) sent-is in
       let k : map (λ (x : Slot). x .held) xs ≡ map (λ (f : Sent). f .held) (after .sent) =
-          sym (map-map (λ (f : Sent). f .held) (λ (x : Slot). record { off = x .off; bits = x .bits; held = x .held }) xs) ∙ ap (map (λ (f : Sent). f .held)) sent-is in
+      sym (map-map (λ (f : Sent). f .held) (λ (x : Slot). record { off = x .off; bits = x .bits; held = x .held }) xs) ∙ ap (map (λ (f : Sent). f .held)) sent-is in
       let n : added .slots .n ≡ length (after .sent) = count-slots ∙ sym (sentSlots-length xs) ∙ ap length sent-is in
       λ i. record {
         off = (push-all-off (slotsIn last) xs ∙ ap (overwrite (last .off) 0) o) i;
@@ -448,7 +456,7 @@ module _ (z : Sizes) (zr : SizeRange z) (q : Harq) (c : Choice) (merging : Bool)
   frames-told = burst-frames z zr l g so fi rs a os hs w pieces-are kept-are sides waiting-is fits-w q same
 
   -- the slots of the burst, as arrays
-  abbrev slots : Slots
+  abbrev pub slots : Slots
   slots = gone q c payload merging s a .0 .slots
 
   slots-are : slots ≡ added .slots
@@ -460,9 +468,9 @@ module _ (z : Sizes) (zr : SizeRange z) (q : Harq) (c : Choice) (merging : Bool)
   pub slots-len : slots .len ≡ overwrite (replicate maxSlots 0) 0 (map (λ (f : Sent). length (find (f .off) (after .pieces))) (after .sent))
   slots-len =
       let e : map (λ (x : Slot). x .len) xs ≡ map (λ (f : Sent). length (find (f .off) (after .pieces))) (after .sent) =
-          sym (map-map (λ (f : Frame). f .len) (λ (x : Slot). record { off = x .off; len = x .len }) xs)
-          ∙ ap (map (λ (f : Frame). f .len)) (sym frames-told)
-          ∙ map-map (λ (f : Frame). f .len) (λ (f : Sent). record { off = f .off; len = length (find (f .off) (after .pieces)) }) (after .sent) in
+      sym (map-map (λ (f : Frame). f .len) (λ (x : Slot). record { off = x .off; len = x .len }) xs)
+      ∙ ap (map (λ (f : Frame). f .len)) (sym frames-told)
+      ∙ map-map (λ (f : Frame). f .len) (λ (f : Sent). record { off = f .off; len = length (find (f .off) (after .pieces)) }) (after .sent) in
       ap (λ (x : Slots). x .len) slots-are ∙ push-all-len (slotsIn last) xs ∙ ap (overwrite (replicate maxSlots 0) 0) e
 
   pub slots-off : slots .off ≡ overwrite (last .off) 0 (sentOffs (after .sent))
@@ -482,11 +490,18 @@ module _ (z : Sizes) (zr : SizeRange z) (q : Harq) (c : Choice) (merging : Bool)
   slots-count = ap (λ (x : LastBurst). x .n) last-is
 
   -- the next record, the work area and the output are those that hold what the ledger leaves
-  module _ (size : ℕ) (out : List ℕ) (frame : payload ≤ maxPayload size) (room : maxSlots * size ≤ length out) where
-    pub bursts : burstRows q c payload merging s a number size out
-        ≡ (record { slots = slots; plan = pl; next = store after s }, (storeArea after a, overwrite out 0 (framesSent size (after .pieces) (after .sent))))
+  module _ (m : ℕ) (level : m ≡ planIn .payload) (size : ℕ) (out : List ℕ) (frame : m ≤ maxPayload size) (room : maxSlots * size ≤ length out) where
+    abbrev made : Sending × (List ℕ × List ℕ)
+    made = (record { slots = slots; plan = pl; next = store after s }, (storeArea after a, overwrite out 0 (framesSent size (after .pieces) (after .sent))))
+
+    bursts-so : burstRows q c payload merging s a number size out ≡ made
     unfolding burstRows
-    bursts =
-        λ i.
-        (record { slots = slots; plan = pl; next = (ap (λ (x : Added × List ℕ). nextOf s kp (x .0) number) gone-is ∙ next-after) i },
-        ((ap (λ (x : Added × List ℕ). x .1) gone-is ∙ area-after) i, overwrite out 0 (frames-are size out frame room i)))
+    bursts-so =
+        λ i. (
+          record { slots = slots; plan = pl; next = (ap (λ (x : Added × List ℕ). nextOf s kp (x .0) number) gone-is ∙ next-after) i },
+          ((ap (λ (x : Added × List ℕ). x .1) gone-is ∙ area-after) i, overwrite out 0 (frames-are m level size out frame room i)),
+        )
+
+    pub bursts : burstRows q c m merging s a number size out
+        ≡ (record { slots = slots; plan = pl; next = store after s }, (storeArea after a, overwrite out 0 (framesSent size (after .pieces) (after .sent))))
+    bursts = ap (λ (k : ℕ). burstRows q c k merging s a number size out) level ∙ bursts-so

@@ -1,9 +1,9 @@
 -- The steps of a burst, one after the other.
 -- Assumes nothing.
 use mathlib.Core.Path.{_≡_, refl, sym, ap, ap₂, _∙_}
-use mathlib.Core.List.{List, [], _∷_, _++_}
+use mathlib.Core.List.{List}
 use mathlib.Core.Bool.{Bool, true, false, cond}
-use Prim.Native.Nat.{ℕ, _+_, _-_, _≤_, _<_}
+use Prim.Native.Nat.{ℕ, _+_, _-_, _≤_}
 use native.Mathlib.Omega.{arith}
 use lib.Dec.{eqb}
 use lib.ListN.{length, take, length-take}
@@ -14,10 +14,9 @@ use Rattle.laws.proofs.Picks.{by}
 use Rattle.harq.specs.declared.Harq.{Harq}
 use Rattle.ledger.specs.Limits.{maxSlots}
 use Rattle.table.specs.Layout.{place}
-use Rattle.table.specs.Table.{rowsFrom, withRows}
-use Rattle.table.specs.declared.Row.{Row}
+use Rattle.table.specs.Table.{rowsFrom}
 use Rattle.table.proofs.Laws.{length-rows, table-kept}
-use Rattle.recut.specs.Recut.{splitRows, mergeRows, splitTable, mergeTable, newTable}
+use Rattle.recut.specs.Recut.{splitTable, mergeTable, newTable}
 use Rattle.flight.specs.Flight.{Marked, markAll, markCount}
 use Rattle.flight.proofs.Laws.{marked-all}
 use Rattle.slots.specs.Slots.{pushAll, slotsFrom, unheldSlots, newPieces}

@@ -1,17 +1,17 @@
 -- Lists of rows, held pieces and slots, as a burst has them.
 -- Assumes nothing.
-use mathlib.Core.Path.{_≡_, refl, sym, ap, ap₂, _∙_}
+use mathlib.Core.Path.{_≡_, refl, sym, ap, ap₂}
 use mathlib.Core.List.{List, [], _∷_, _++_, map}
 use mathlib.Core.Bool.{Bool, true, false, cond, _&&_}
 use Prim.Native.Nat.{ℕ, zero, suc, _+_, _-_, _*_, _≤_, _<_}
 use native.Mathlib.Omega.{arith}
 use lib.Dec.{eqb}
-use lib.ListN.{length, take, drop, getD, length-append}
+use lib.ListN.{length, drop, getD, length-append}
 use borrow.Author.Tests.{eqb-true}
 use Rattle.laws.specs.Bytes.{overwrite, part}
 use Rattle.laws.proofs.Bytes.{part-before, length-part}
 use Rattle.laws.proofs.Picks.{by, by₂}
-use Rattle.frame.specs.Frame.{frameOf, maxPayload}
+use Rattle.frame.specs.Frame.{frameOf}
 use Rattle.frame.proofs.Laws.{length-frame}
 use Rattle.ledger.specs.Ledger.{Held}
 use Rattle.ledger.specs.Cover.{Ascend}

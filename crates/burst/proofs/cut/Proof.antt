@@ -1,5 +1,4 @@
 -- `burst::cut` meets its contract.
-use denote.Ref.{now}
 use borrow.Author.Tests.{not-true, not-false}
 use borrow.Author.Needs.{needs}
 use Rattle.burst.proofs.Laws.{cut-short, cut-merged, cut-none}

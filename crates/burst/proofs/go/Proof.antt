@@ -6,7 +6,7 @@ use borrow.Author.Needs.{needs, length-unmapped}
 use Rattle.ledger.specs.Limits.{maxSlots}
 use Rattle.flight.proofs.Laws.{length-marks}
 use Rattle.burst.proofs.Laws.{marked-by, parity-few, held-fits, pick-able, shows, bytes-few, done}
-use Prim.Native.Nat.{ℕ, _+_, _-_, _≤_, _<_}
+use Prim.Native.Nat.{ℕ, _-_, _≤_}
 use mathlib.Core.Path.{_≡_, refl, sym, ap, _∙_}
 use native.Mathlib.Omega.{arith}
 use Rattle.burst.proofs.go.Statement.{statement}
