@@ -62,7 +62,7 @@ use Rattle.burst.specs.Rows as R
 use Rattle.burst.proofs.Laws.{kept-off}
 use Rattle.burst.proofs.Lists.{split-same, cut-recut, small-front, bits-of, bits-below, kept-list, kept-bits, kept-count, kept-more, kept-rest, frames-before, frames-length}
 
-module _ (z : Sizes) (zr : SizeRange z) (q : Harq) (c : Choice) (merging : Bool) (number : ℕ) (codes : CodesRange q c) (least : number ≤ maxNumber) (s : Sender) (a : List ℕ)
+module _ (z : Sizes) (zr : SizeRange z) (q : Harq) (c : Choice) (merging : Bool) (number : ℕ) (codes : CodesRange q c) (numbered : number ≤ maxNumber) (s : Sender) (a : List ℕ)
     (so : Sound z (view s a)) (co : Counted s a) (ar : Arrays s) where
   abbrev l : L.Sender
   l = view s a
@@ -86,7 +86,7 @@ module _ (z : Sizes) (zr : SizeRange z) (q : Harq) (c : Choice) (merging : Bool)
   last = s .«last_burst»
 
   fi : Fits z l g
-  fi = planned-fits z (choiceOf q c merging number) l so (choice-range q c merging number codes least)
+  fi = planned-fits z (choiceOf q c merging number) l so (choice-range q c merging number codes numbered)
 
   -- ---- the plan
 
