@@ -26,7 +26,7 @@ ghost use Rattle.table.specs.Layout.{areaBytes, streamBytes};
 ghost use Rattle.table.specs.Table.{rowAt, rowsFrom};
 ghost use Rattle.flight.specs.Flight.{Marked};
 ghost use Rattle.recut.specs.Recut.{splitRows};
-ghost use Rattle.burst.specs.Rows.{keptHeld, cutTable, Pickable, picked, nextOf, Ready, burstRows};
+ghost use Rattle.burst.specs.Rows.{keptHeld, cutTable, slotsIn, Pickable, picked, nextOf, Ready, burstRows};
 
 // The burst's frames and its plan, and the next record.
 pub struct Sending {
@@ -72,6 +72,23 @@ fn cut(
     n
 }
 
+// No slot yet, in the arrays of the burst before.
+fn no_slots(b: LastBurst) -> Slots
+    ensures { λ r. ⌜ r ≡ slotsIn b ⌝ }
+{
+    let off = b.off;
+    let bits = b.bits;
+    let held = b.held;
+    Slots {
+        off,
+        bits,
+        held,
+        start: [0; 64],
+        len: [0; 64],
+        n: 0,
+    }
+}
+
 // What goes: increments, then pieces that are not held, then new ones, whose rows are written.
 fn pick(
     q: Harq,
@@ -94,17 +111,7 @@ fn pick(
     let held = h.n;
     let k = pl.parity;
     let room = pl.room;
-    let went = b.off;
-    let sent = b.bits;
-    let then = b.held;
-    let none = Slots {
-        off: went,
-        bits: sent,
-        held: then,
-        start: [0; 64],
-        len: [0; 64],
-        n: 0,
-    };
+    let none = no_slots(b);
     let s1 = increments(q, slot, a, n, &off[..k], &bits[..k], none);
     let s2 = old_pieces(a, n, marks, &off[..held], room, slot, s1);
     let left = room - (s2.n - s1.n);
