@@ -4,7 +4,7 @@ use mathlib.Core.Bool.{true, false}
 use lib.ListN.{replicate}
 use lib.Ieee.{Float, binary32, binary64, ofBits}
 use Rattle.laws.specs.Steps.{steps}
-use Rattle.config.specs.Default.{newProfile}
+use Rattle.defaults.specs.Default.{newProfile}
 use Rattle.config.specs.declared.MaybeDb.{MaybeDb}
 use Rattle.goodput.specs.declared.Gear.{Gear}
 use Rattle.gear.specs.declared.Outcome.{Outcome}

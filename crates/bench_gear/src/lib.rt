@@ -1,6 +1,6 @@
 // What bench/ measures of the gear, as a function for C.
 use config::MaybeDb;
-use config::default::new_profile;
+use defaults::new_profile;
 use gear::Outcome;
 use gear::on_ack;
 use goodput::Gear;

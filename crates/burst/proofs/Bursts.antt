@@ -49,18 +49,19 @@ use Rattle.pieces.proofs.Sound.{size-rows, length-pieces, total-append}
 use Rattle.pieces.proofs.Lists.{held-offs, held-length, sentSlots-offs, sentSlots-length}
 use Rattle.pieces.proofs.Recut.{recut-pieces, recut-total}
 use Rattle.pieces.proofs.Room.{payload-some, split-few, table-few, table-room, rows-small, rows-within}
+use Rattle.pieces.proofs.Placed.{frames-length}
 use Rattle.pieces.proofs.Carried.{waiting-count, burst-fits, burst-pieces, burst-waiting, burst-next, burst-sent, burst-few, burst-carry, burst-frames, burst-fit}
 use Rattle.pieces.proofs.Slots.{push-all-off, push-all-bits, push-all-held, push-all-len, slots-read}
 use Rattle.record.specs.declared.AtPeer.{AtPeer}
 use Rattle.record.specs.declared.LastBurst.{LastBurst}
 use Rattle.record.specs.declared.Sender.{Sender}
 use Rattle.record.specs.View.{heldIn, view, rowsOf, storeArea, storeHeld, storeSent, storeCounts, storeLink, store}
-use Rattle.record.proofs.View.{Counted, Arrays, rows-pieces, bytes-pieces}
+use Rattle.record.proofs.View.{Counted, Arrays, rows-pieces, bytes-pieces, held-bits-of}
 use Rattle.burst.specs.declared.Sending.{Sending}
 use Rattle.burst.specs.Rows.{cutAt, cutTable, slotsIn, olds, picked, Pickable, nextOf, lastOf, countsOf, plan, kept, recut, gone, burstRows, Ready}
 use Rattle.burst.specs.Rows as R
 use Rattle.burst.proofs.Laws.{kept-off}
-use Rattle.burst.proofs.Lists.{split-same, cut-recut, small-front, bits-of, bits-below, kept-list, kept-bits, kept-count, kept-more, kept-rest, frames-before, frames-length}
+use Rattle.burst.proofs.Lists.{split-same, cut-recut, small-front, bits-below, kept-list, kept-bits, kept-count, kept-more, kept-rest, frames-before}
 
 module _ (z : Sizes) (zr : SizeRange z) (q : Harq) (c : Choice) (merging : Bool) (number : ℕ) (codes : CodesRange q c) (numbered : number ≤ maxNumber) (s : Sender) (a : List ℕ)
     (so : Sound z (view s a)) (co : Counted s a) (ar : Arrays s) where
@@ -101,7 +102,7 @@ module _ (z : Sizes) (zr : SizeRange z) (q : Harq) (c : Choice) (merging : Bool)
 
   bits-are : map (λ (x : Held). x .bits) (l .held) ≡ take (h .n) (h .bits)
   unfolding view
-  bits-are = bits-of (take (h .n) (h .off)) (take (h .n) (h .bits)) (held-off ∙ sym held-bits)
+  bits-are = held-bits-of (take (h .n) (h .off)) (take (h .n) (h .bits)) (held-off ∙ sym held-bits)
 
   -- the plan's numbers are the ledger's
   pub plan-told : (P.parity z (choiceOf q c merging number) l ≡ pl .parity)
@@ -342,7 +343,7 @@ module _ (z : Sizes) (zr : SizeRange z) (q : Harq) (c : Choice) (merging : Bool)
         omega (
           arith,
           ap length (frames-are ∙ e),
-          frames-length size (length a) xs a sized (fit (length a) fits-w) (omega arith),
+          frames-length size a xs sized (fit (length a) fits-w),
           mul-le-mul-right size few-slots,
         )
 
@@ -418,7 +419,7 @@ module _ (z : Sizes) (zr : SizeRange z) (q : Harq) (c : Choice) (merging : Bool)
   rest-length = omega (arith, length-drop (g .parity) (L.kept g l), kept-length, par, kept-rest h (pl .parity))
 
   bits-kept : map (λ (x : Held). x .bits) (L.kept g l) ≡ hs
-  bits-kept = ap (map (λ (x : Held). x .bits)) kept-are ∙ bits-of os hs sides
+  bits-kept = ap (map (λ (x : Held). x .bits)) kept-are ∙ held-bits-of os hs sides
 
   held-after : kp ≡ storeHeld after h
   unfolding storeHeld dataBurst

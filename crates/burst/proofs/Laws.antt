@@ -17,8 +17,6 @@ use Rattle.table.specs.Layout.{place}
 use Rattle.table.specs.Table.{rowsFrom}
 use Rattle.table.proofs.Laws.{length-rows, table-kept}
 use Rattle.recut.specs.Recut.{splitTable, mergeTable, newTable}
-use Rattle.flight.specs.Flight.{Marked, markAll, markCount}
-use Rattle.flight.proofs.Laws.{marked-all}
 use Rattle.slots.specs.Slots.{pushAll, slotsFrom, unheldSlots, newPieces}
 use Rattle.slots.specs.declared.Slot.{Slot}
 use Rattle.slots.specs.declared.Added.{Added}
@@ -100,10 +98,6 @@ module _ (q : Harq) (slot payload : ℕ) (s : Sender) (h : AtPeer) (pl : Planned
       (e₂ ∙ ap (λ (t : Slots). pushAll t (olds q slot payload s h pl n a)) e₁)
 
 -- ---- put together
-
--- marks that `mark` made
-pub marked-by : (m marks xs : List ℕ) → m ≡ markAll marks xs → length marks ≡ markCount → Marked m xs
-marked-by m marks xs e h = rw e (marked-all marks xs h)
 
 module _ (q : Harq) (c : Choice) (payload : ℕ) (merging : Bool) (s : Sender) (a : List ℕ) (size : ℕ) (out : List ℕ) (rd : Ready q c payload merging s a size out)
     (pl : Planned) (e₀ : pl ≡ plan q c payload merging s a) where

@@ -53,12 +53,6 @@ small-front (r ∷ rs) ss h = (h .0, h .1, small-front rs ss (h .2))
 
 -- ---- held pieces
 
-pub bits-of : (os bs : List ℕ) → length os ≡ length bs → map (λ (x : Held). x .bits) (heldOf os bs) ≡ bs
-bits-of [] [] e = refl
-bits-of [] (b ∷ bs) e = absurd (omega (arith, e))
-bits-of (o ∷ os) [] e = absurd (omega (arith, e))
-bits-of (o ∷ os) (b ∷ bs) e = ap (λ (x : List ℕ). b ∷ x) (bits-of os bs (omega (arith, e)))
-
 pub bits-below : (top : ℕ) (os bs : List ℕ) → length os ≡ length bs → HeldBits top (heldOf os bs) → (j : ℕ) → j < length bs → getD bs j 0 < top
 bits-below top [] [] e h j k = absurd (omega (arith, k))
 bits-below top [] (b ∷ bs) e h j k = absurd (omega (arith, e))
@@ -95,16 +89,3 @@ unfolding framesOf
 frames-before size used [] a at bs f h = refl
 frames-before size used (x ∷ xs) a at bs f h =
     ap₂ (λ (p l : List ℕ). frameOf size (x .off) p ++ l) (part-before a at bs (x .start) (x .len) (omega (arith, f .1))) (frames-before size used xs a at bs (f .2) h)
-
-pub frames-length : (size used : ℕ) (xs : List Slot) (a : List ℕ) → 10 ≤ size → Fit size used xs → used ≤ length a → length (framesOf size xs a) ≡ length xs * size
-unfolding framesOf
-frames-length size used [] a z f h = omega arith
-frames-length size used (x ∷ xs) a z f h =
-    let p = part a (x .start) (x .len) in
-    let e : length p ≡ x .len = length-part a (x .start) (x .len) (omega (arith, f .1)) in
-    omega (
-      arith,
-      length-append (frameOf size (x .off) p) (framesOf size xs a),
-      length-frame size (x .off) p (omega (arith, e, f .0)),
-      frames-length size used xs a z (f .2) h,
-    )

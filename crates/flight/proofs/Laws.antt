@@ -78,6 +78,10 @@ marks-set marks (x ∷ xs) l (suc j) h = marks-set (set marks (markPlace x) 1) x
 pub marked-all : (marks xs : List ℕ) → length marks ≡ markCount → Marked (markAll marks xs) xs
 marked-all marks xs l = record { size = length-marks marks xs ∙ l; set = marks-set marks xs l }
 
+-- marks that `mark` made
+pub marked-by : (m marks xs : List ℕ) → m ≡ markAll marks xs → length marks ≡ markCount → Marked m xs
+marked-by m marks xs e h = rw e (marked-all marks xs h)
+
 -- ---- one pass
 
 part-take : (a : List ℕ) (at n m : ℕ) → n ≤ m → take n (part a at m) ≡ part a at n

@@ -210,7 +210,7 @@ module _ (s : Sender) (a : List ℕ) (c : Counted s a) (by : Bytes a) where
 again : (l xs : List ℕ) (n : ℕ) → xs ≡ take n l → overwrite l 0 xs ≡ l
 again l xs n e = ap (overwrite l 0) e ∙ over-part l 0 n
 
-held-bits-of : (os bs : List ℕ) → length os ≡ length bs → bitsH (heldOf os bs) ≡ bs
+pub held-bits-of : (os bs : List ℕ) → length os ≡ length bs → map (λ (x : Held). x .bits) (heldOf os bs) ≡ bs
 held-bits-of [] [] e = refl
 held-bits-of [] (b ∷ bs) e = absurd (omega (arith, e))
 held-bits-of (o ∷ os) [] e = absurd (omega (arith, e))

@@ -21,8 +21,7 @@ use Rattle.record.specs.declared.AtPeer.{AtPeer}
 use Rattle.record.specs.declared.LastBurst.{LastBurst}
 use Rattle.record.specs.declared.Sender.{Sender}
 use Rattle.flight.specs.declared.Kept.{Kept}
-use Rattle.flight.specs.Flight.{removedPieces, Marked, markAll, markCount}
-use Rattle.flight.proofs.Laws.{marked-all}
+use Rattle.flight.specs.Flight.{removedPieces}
 use Rattle.settle.specs.declared.Offsets.{Offsets}
 use Rattle.settle.specs.Settle.{ackedIn, offsetsOf, missedIn, heldMore, heldNone, newHeld, unawaited, withFlight, settled}
 
@@ -182,7 +181,3 @@ module _ (m top : ℕ) (keep : Bool) (s : Sender) (a : List ℕ) where
       → settledTo (k, b) h ≡ settled m top keep s a
   unfolding settled
   settled-is gone b k h e r n = ap₂ settledTo (r ∙ ap (λ (g : List ℕ). removedPieces g (s .counts .pieces) (s .counts .flying + s .counts .waiting) a) e) n
-
--- marks that `mark` made
-pub marked-by : (m marks xs : List ℕ) → m ≡ markAll marks xs → length marks ≡ markCount → Marked m xs
-marked-by m marks xs e h = rw e (marked-all marks xs h)

@@ -7,10 +7,10 @@ use borrow.Author.Needs.{needs}
 use Rattle.laws.specs.Steps.{steps}
 use Rattle.laws.proofs.Steps.{steps-none, steps-more}
 use Rattle.config.specs.declared.Profile.{Profile}
-use Rattle.config.specs.Default.{newProfile}
+use Rattle.defaults.specs.Default.{newProfile}
 use Rattle.limits.specs.Ranged.{Ranged}
 use Rattle.limits.proofs.Ranged.{ranged}
-use Rattle.limits.proofs.Accepted.{default-in-range}
+use Rattle.defaults.proofs.Accepted.{default-in-range}
 use Rattle.goodput.specs.declared.Gear.{Gear}
 use Rattle.gear.specs.declared.Outcome.{Outcome}
 use Rattle.gear.specs.Judging.{onAck}

@@ -4,8 +4,8 @@ use lib.ListN.{length, take, length-take}
 use lib.Seq.{length-take-le}
 use borrow.Author.Needs.{needs, length-unmapped}
 use Rattle.ledger.specs.Limits.{maxSlots}
-use Rattle.flight.proofs.Laws.{length-marks}
-use Rattle.burst.proofs.Laws.{marked-by, parity-few, held-fits, pick-able, shows, bytes-few, done}
+use Rattle.flight.proofs.Laws.{length-marks, marked-by}
+use Rattle.burst.proofs.Laws.{parity-few, held-fits, pick-able, shows, bytes-few, done}
 use Prim.Native.Nat.{ℕ, _-_, _≤_}
 use mathlib.Core.Path.{_≡_, refl, sym, ap, _∙_}
 use native.Mathlib.Omega.{arith}

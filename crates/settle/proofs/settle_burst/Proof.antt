@@ -5,10 +5,10 @@ use lib.Seq.{length-take-le}
 use borrow.Author.Needs.{needs, length-unmapped}
 use Rattle.ledger.specs.Limits.{maxSlots}
 use Rattle.table.specs.Table.{rowsFrom, total}
-use Rattle.flight.proofs.Laws.{length-marks, removed-facts}
+use Rattle.flight.proofs.Laws.{length-marks, removed-facts, marked-by}
 use Rattle.pieces.proofs.Settle.{kept-total}
 use Rattle.settle.specs.Settle.{ackedIn, offsetsOf}
-use Rattle.settle.proofs.Laws.{acked-few, offsets-list, offsets-fit, settled-is, marked-by}
+use Rattle.settle.proofs.Laws.{acked-few, offsets-list, offsets-fit, settled-is}
 use Prim.Native.Nat.{ℕ, _+_, _-_, _≤_, _<_}
 use mathlib.Core.Path.{_≡_, refl, sym, ap, _∙_}
 use mathlib.Core.List.{List}
