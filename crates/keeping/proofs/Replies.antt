@@ -40,7 +40,7 @@ use Rattle.answers.specs.declared.ConnAck.{ConnAck}
 use Rattle.answers.specs.declared.Ack.{Ack}
 use Rattle.answers.specs.declared.LongAck.{LongAck}
 use Rattle.answers.specs.declared.Turn.{Turn}
-use Rattle.answers.specs.Answers.{noted, longDb, shortAcked, longAcked, nothingHeard, turned, connectedTo}
+use Rattle.answers.specs.Answers.{noted, longDb, shortAcked, longAcked, turnDb, nothingHeard, turned, connectedTo}
 use Rattle.checks.specs.Checked.{SoundLink}
 use Rattle.checks.proofs.Sound.{profile-sizes}
 use Rattle.keeping.specs.Keeping.{AckIn, LongAckIn, TurnIn, ConnAckIn}
@@ -110,7 +110,7 @@ module _ (p : Profile) (rg : Ranged p) (io : inOrder p ≡ true) where
   turned-well h r s a i w =
       let k = w .sound .link in
       stored-well p zr _ s a _ _ w (clear-kept (sizesOf p) zr (view s a) (well-kept p s a w))
-      (turn-gear-well p rg (s .gear) (outcomeOf (nothingHeard (view s a)) (view s a)) _ (h .wave) (h .time) (counts (nothingHeard (view s a)) s a w) (i .db) (i .time) (well-gear p s a w))
+      (turn-gear-well p rg (s .gear) (outcomeOf (nothingHeard (view s a)) (view s a)) (turnDb h r) (h .wave) (h .time) (counts (nothingHeard (view s a)) s a w) (i .db) (i .time) (well-gear p s a w))
       (record { time = i .time; number = k .number; heard = k .heard; slot = k .slot; wave = k .wave; notBelow = k .notBelow; notAbove = k .notAbove })
 
   pub connected-well : (h : Heard) (r : ConnAck) (s : Sender) (a : List ℕ) → ConnAckIn h r → Well p s a → Well p (connectedTo p h r s) a
