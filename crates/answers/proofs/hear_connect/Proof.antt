@@ -1,6 +1,6 @@
 -- `answers::hear_connect` meets its contract.
 use borrow.Author.Needs.{needs}
-use Rattle.answers.specs.Answers.{connectedTo}
+use Rattle.answers.proofs.Turned.{connect-is}
 use Rattle.answers.proofs.hear_connect.Statement.{statement}
 use Rattle.answers.proofs.hear_connect.Tie as tie
 
@@ -8,8 +8,7 @@ connect-requires : tie.Need-connect-requires
 connect-requires c κs = search needs
 
 returns : tie.Need-returns
-unfolding connectedTo
-returns c = cc
+returns c = connect-is _ _ _ _ _ (c .before .before .before .before .connect .ensures)
 
 pub hear-connect-spec : {M : Type 1} → statement M
 hear-connect-spec = tie.close (tie.spec connect-requires returns)

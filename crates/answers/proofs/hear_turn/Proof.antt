@@ -1,6 +1,6 @@
 -- `answers::hear_turn` meets its contract.
 use borrow.Author.Needs.{needs}
-use Rattle.answers.specs.Answers.{turnedTo}
+use Rattle.answers.proofs.Turned.{turn-is}
 use Rattle.answers.proofs.hear_turn.Statement.{statement}
 use Rattle.answers.proofs.hear_turn.Tie as tie
 
@@ -17,8 +17,8 @@ clear-burst-requires : tie.Need-clear-burst-requires
 clear-burst-requires c κs = search needs
 
 returns : tie.Need-returns
-unfolding turnedTo
-returns c = cc
+returns c =
+    turn-is _ _ _ _ _ _ _ _ (c .before .before .before .before .outcome .ensures) (c .before .before .before .turn-db .ensures) (c .before .before .on-turn .ensures) (c .clear-burst .ensures)
 
 pub hear-turn-spec : {M : Type 1} → statement M
 hear-turn-spec =
