@@ -1,4 +1,4 @@
--- A BURST KEEPS THE RECORD WELL, and its air allowance.
+-- A BURST KEEPS THE RECORD WELL; a well record can be answered.
 -- Assumes nothing.
 use mathlib.Core.Path.{_≡_, sym, subst}
 use mathlib.Core.List.{List, [], _∷_, _++_}
@@ -25,7 +25,8 @@ use Rattle.record.specs.declared.Sender.{Sender}
 use Rattle.outgoing.specs.Choosing.{choice}
 use Rattle.outgoing.specs.Outgoing.{after, withAirtime}
 use Rattle.outgoing.proofs.Choices.{choice-ranged}
-use Rattle.checks.proofs.Sound.{profile-sizes, sound-level}
+use Rattle.answers.specs.Answers.{Answerable}
+use Rattle.checks.proofs.Sound.{profile-sizes, sound-level, sound-settling}
 use Rattle.keeping.proofs.Ledgers.{Kept, PieceBytes, bytes-append, bytes-of}
 use Rattle.keeping.proofs.Well.{Well, well-gear, well-kept, stored-well}
 
@@ -77,3 +78,7 @@ module _ (p : Profile) where
       let zr = profile-sizes p rg io in
       let k = burst-kept (sizesOf p) zr (view s a) (planOf (sizesOf p) (choice p s) (view s a)) (choice-fits rg s a w six) (well-kept p s a w) in
       airtime-well s a _ _ (stored-well p zr (after p s a) s a (s .gear) (s .link) w k (well-gear p s a w) (w .sound .link))
+
+  -- what replies ask of the record
+  pub well-answerable : (s : Sender) (a : List ℕ) → Well p s a → Answerable p s a
+  well-answerable s a w = record { level = sound-level p s a (w .sound); settling = sound-settling p s a (w .sound) (w .arrays); sound = w .sound .ledger }
