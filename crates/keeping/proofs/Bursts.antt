@@ -1,4 +1,4 @@
--- A BURST KEEPS THE RECORD WELL; a well record can be answered.
+-- A BURST KEEPS THE RECORD WELL, and its air allowance; a well record can be answered.
 -- Assumes nothing.
 use mathlib.Core.Path.{_≡_, sym, subst}
 use mathlib.Core.List.{List, [], _∷_, _++_}
@@ -15,16 +15,16 @@ use Rattle.ledger.specs.Ledger as L
 use Rattle.ledger.specs.Ledger.{Piece, Plan, bytesOf, dataBurst}
 use Rattle.ledger.specs.Sound.{Fits}
 use Rattle.ledger.specs.Calls.{bursts}
-use Rattle.ledger.specs.Plan.{planOf}
+use Rattle.ledger.specs.Plan.{planOf, KeepsAir}
 use Rattle.ledger.proofs.Kept.{step-sound}
-use Rattle.ledger.proofs.Planned.{planned-fits}
+use Rattle.ledger.proofs.Planned.{planned-fits, keeps-air}
 use Rattle.ledger.proofs.Stream.{stream-burst}
 use Rattle.record.specs.Profiles.{sizesOf}
 use Rattle.record.specs.View.{view, store, storeArea}
 use Rattle.record.specs.declared.Sender.{Sender}
 use Rattle.outgoing.specs.Choosing.{choice}
 use Rattle.outgoing.specs.Outgoing.{after, withAirtime}
-use Rattle.outgoing.proofs.Choices.{choice-ranged}
+use Rattle.outgoing.proofs.Choices.{choice-ranged, choice-long}
 use Rattle.answers.specs.Answers.{Answerable}
 use Rattle.checks.proofs.Sound.{profile-sizes, sound-level, sound-settling}
 use Rattle.keeping.proofs.Ledgers.{Kept, PieceBytes, bytes-append, bytes-of}
@@ -78,6 +78,12 @@ module _ (p : Profile) where
       let zr = profile-sizes p rg io in
       let k = burst-kept (sizesOf p) zr (view s a) (planOf (sizesOf p) (choice p s) (view s a)) (choice-fits rg s a w six) (well-kept p s a w) in
       airtime-well s a _ _ (stored-well p zr (after p s a) s a (s .gear) (s .link) w k (well-gear p s a w) (w .sound .link))
+
+  -- two frames or more, or parity, keep the allowance of the record's choice
+  pub choice-keeps-air : Ranged p → (s : Sender) (a : List ℕ) → Well p s a → length (p .codes .ends) ≤ 6 → KeepsAir (sizesOf p) (choice p s) (view s a)
+  choice-keeps-air rg s a w six =
+      let l = sound-level p s a (w .sound) in
+      keeps-air (sizesOf p) (choice p s) (view s a) (w .sound .ledger) (choice-ranged p rg s l six) (choice-long p rg s l)
 
   -- what replies ask of the record
   pub well-answerable : (s : Sender) (a : List ℕ) → Well p s a → Answerable p s a
