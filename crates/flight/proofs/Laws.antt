@@ -82,6 +82,20 @@ marked-all marks xs l = record { size = length-marks marks xs ∙ l; set = marks
 pub marked-by : (m marks xs : List ℕ) → m ≡ markAll marks xs → length marks ≡ markCount → Marked m xs
 marked-by m marks xs e h = rw e (marked-all marks xs h)
 
+-- behind the last offset none needs a mark
+pub marked-end : (marks xs : List ℕ) (i : ℕ) → length xs ≤ i → length marks ≡ markCount → Marked marks (drop i xs)
+marked-end marks xs i h l = record { size = l; set = λ j k. absurd (let z : suc j ≤ 0 = omega (arith, length-drop i xs) in not-suc-le-zero z) }
+
+-- one offset more in front
+pub marked-more : (m marks xs : List ℕ) (x : ℕ) → m ≡ markAll marks (x ∷ []) → Marked marks xs → Marked m (x ∷ xs)
+marked-more m marks xs x e h = record { size = ap length e ∙ length-marks marks (x ∷ []) ∙ h .size; set = sets }
+  where
+    sets : (j : ℕ) → j < length (x ∷ xs) → getD m (markPlace (getD (x ∷ xs) j 0)) 0 ≡ 1
+    sets zero l = ap (λ (n : List ℕ). getD n (markPlace x) 0) e ∙ marks-set marks (x ∷ []) (h .size) 0 (omega arith)
+    sets (suc j) l =
+        let p = place-in (getD xs j 0) in
+        ap (λ (n : List ℕ). getD n (markPlace (getD xs j 0)) 0) e ∙ mark-stays marks (x ∷ []) (markPlace (getD xs j 0)) (omega (arith, h .size)) (h .set j (omega arith))
+
 -- ---- one pass
 
 part-take : (a : List ℕ) (at n m : ℕ) → n ≤ m → take n (part a at m) ≡ part a at n

@@ -2,12 +2,12 @@
 -- Assumes nothing.
 use mathlib.Core.Path.{_≡_, refl, sym, ap, ap₂, _∙_, subst}
 use mathlib.Core.List.{List, [], _∷_, _++_}
-use mathlib.Core.Bool.{true, false, not, _&&_}
+use mathlib.Core.Bool.{Bool, true, false, not, _&&_, and-false}
 use Prim.Native.Nat.{ℕ, zero, suc, _+_, _-_, _/_, _≤_, _<_}
 use native.Mathlib.Nat.{zero-add, add-zero, add-assoc, not-suc-le-zero}
 use native.Mathlib.Omega.{arith}
 use native.Mathlib.Numerals.{add-one}
-use lib.ListN.{length, drop, getD, drop-of-length-le}
+use lib.ListN.{length, take, drop, getD, drop-of-length-le}
 use lib.Seq.{drop-cons}
 use lib.Dec.{leb, ltb, eqb}
 use borrow.Author.Tests.{leb-true, ltb-true, eq-eqb, ne-eqb}
@@ -117,10 +117,30 @@ module _ (a : List ℕ) (n o : ℕ) where
 
 -- ---- lists
 
-pub flying-turn : (xs os : List ℕ) (i : ℕ) → i < length xs
-    → allFlying (drop i xs) os ≡ ((listed (getD xs i 0) os && not (listed (getD xs i 0) (drop (i + 1) xs))) && allFlying (drop (i + 1) xs) os)
+-- a turn from the end: one offset more in front
+module _ (xs : List ℕ) (i : ℕ) (p : 0 < i) (h : i ≤ length xs) where
+  pub drop-back : drop (i - 1) xs ≡ getD xs (i - 1) 0 ∷ drop i xs
+  drop-back = drop-cons xs (i - 1) 0 (omega arith) ∙ ap (λ (k : ℕ). getD xs (i - 1) 0 ∷ drop k xs) (sym (add-one (i - 1)) ∙ back)
+    where
+      back : i - 1 + 1 ≡ i
+      back = omega arith
+
+  pub take-back : take (i - (i - 1)) (drop (i - 1) xs) ≡ getD xs (i - 1) 0 ∷ []
+  take-back = ap₂ take one-left drop-back
+    where
+      one-left : i - (i - 1) ≡ 1
+      one-left = omega arith
+
+  pub flying-back : (os : List ℕ) → allFlying (drop (i - 1) xs) os ≡ ((listed (getD xs (i - 1) 0) os && not (listed (getD xs (i - 1) 0) (drop i xs))) && allFlying (drop i xs) os)
+  unfolding allFlying
+  flying-back os = ap (λ (l : List ℕ). allFlying l os) drop-back
+
+-- where the last ones fail, all do
+pub flying-part : (xs os : List ℕ) (i : ℕ) → allFlying (drop i xs) os ≡ false → allFlying xs os ≡ false
 unfolding allFlying
-flying-turn xs os i h = ap (λ (l : List ℕ). allFlying l os) (drop-cons xs i 0 h ∙ ap (λ (k : ℕ). getD xs i 0 ∷ drop k xs) (sym (add-one i)))
+flying-part xs os zero e = e
+flying-part [] os (suc i) e = e
+flying-part (x ∷ xs) os (suc i) e = ap (λ (b : Bool). (listed x os && not (listed x xs)) && b) (flying-part xs os i e) ∙ and-false (listed x os && not (listed x xs))
 
 pub flying-end : (xs os : List ℕ) (i : ℕ) → length xs ≤ i → allFlying (drop i xs) os ≡ true
 unfolding allFlying

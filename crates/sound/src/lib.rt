@@ -1,5 +1,6 @@
 // The sound record's tests of the table and of lists of offsets and bits.
-use flight::contains;
+use flight::contains_marked;
+use flight::mark;
 use table::load_row;
 ghost use mathlib.Core.Path.{_≡_};
 ghost use mathlib.Core.Bool.{true};
@@ -78,21 +79,23 @@ fn is_flying(a: &[u8], n: usize, off: u32, long: u32, next: u32) -> bool
     false
 }
 
-// Whether xs are distinct, each the offset of a row.
+// Whether xs are distinct, each the offset of a row. From the end, so that those behind are marked.
 pub fn all_flying(a: &[u8], n: usize, xs: &[u32], long: u32, next: u32) -> bool
     requires { ⌜ (n ≤ maxPieces) × (areaBytes ≤ length (now a)) × (ascends long next 0 (rowsFrom (now a) 0 n) ≡ true) ⌝ }
     ensures { λ r. ⌜ r ≡ allFlying (now (xs .entry)) (rowOffs (rowsFrom (now (a .entry)) 0 n)) ⌝ }
 {
-    let mut i = 0;
-    while i < xs.len() {
-        let x = xs[i];
-        i += 1;
+    let mut marks = [0u8; 2048];
+    let mut i = xs.len();
+    while 0 < i {
+        let x = xs[i - 1];
         if !is_flying(a, n, x, long, next) {
             return false;
         }
-        if contains(&xs[i..], x) {
+        if contains_marked(&marks, &xs[i..], x) {
             return false;
         }
+        mark(&mut marks, &xs[i - 1..i]);
+        i = i - 1;
     }
     true
 }
@@ -139,10 +142,12 @@ pub fn sent_bits_ok(bits: &[u32], held: &[u32]) -> bool
 pub fn none_listed(xs: &[u32], ys: &[u32]) -> bool
     ensures { λ r. ⌜ r ≡ noneListed (now (xs .entry)) (now (ys .entry)) ⌝ }
 {
+    let mut marks = [0u8; 2048];
+    mark(&mut marks, ys);
     let mut i = 0;
     while i < xs.len() {
         let x = xs[i];
-        if contains(ys, x) {
+        if contains_marked(&marks, ys, x) {
             return false;
         }
         i += 1;

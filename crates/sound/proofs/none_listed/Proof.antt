@@ -1,18 +1,25 @@
 -- `sound::none_listed` meets its contract.
 use lib.ListN.{drop, length}
+use Rattle.flight.proofs.Laws.{length-marks, marked-by}
 use Rattle.sound.specs.Sound.{noneListed}
 use Rattle.sound.proofs.Laws.{unlisted-turn, unlisted-end}
 use Prim.Native.Nat.{_-_}
-use mathlib.Core.Path.{_≡_, refl, sym, _∙_}
+use mathlib.Core.Path.{_≡_, refl, sym, ap, _∙_}
 use borrow.Author.Needs.{needs}
 use Rattle.sound.proofs.none_listed.Statement.{statement}
 use Rattle.sound.proofs.none_listed.Tie as tie
 
 abbrev Inv-loop : tie.InvT-loop
-Inv-loop xs ys i₀ i = noneListed xs ys ≡ noneListed (drop i xs) ys
+Inv-loop xs ys marks i₀ i = noneListed xs ys ≡ noneListed (drop i xs) ys
 
 abbrev μ-loop : tie.MeasureT-loop
-μ-loop xs ys i₀ i = length xs - i
+μ-loop xs ys marks i₀ i = length xs - i
+
+slice-aggregate-mark : tie.Need-slice-aggregate-mark Inv-loop μ-loop
+slice-aggregate-mark c = search needs
+
+mark-requires : tie.Need-mark-requires Inv-loop μ-loop
+mark-requires c κs = search needs
 
 loop-holds : tie.Need-loop-holds Inv-loop μ-loop
 loop-holds c = refl
@@ -23,11 +30,14 @@ mul-x c = search needs
 shared-slice-read-x : tie.Need-shared-slice-read-x Inv-loop μ-loop
 shared-slice-read-x c = search needs
 
-contains-requires : tie.Need-contains-requires Inv-loop μ-loop
-contains-requires c κs = search needs
+slice-aggregate-contains-marked : tie.Need-slice-aggregate-contains-marked Inv-loop μ-loop
+slice-aggregate-contains-marked c = sym (ap length (c .before .before .before .before .before .mark .ensures) ∙ length-marks _ _)
+
+contains-marked-requires : tie.Need-contains-marked-requires Inv-loop μ-loop
+contains-marked-requires c κs = marked-by _ _ _ (c .before .before .before .before .before .mark .ensures) refl
 
 returns : tie.Need-returns Inv-loop μ-loop
-returns c = let sr = c .before in let d = sr .before .before in sym (d .before .loop .inv ∙ unlisted-turn _ _ _ (d .loop-test .taken) ∙ simp (sym (sr .contains .ensures) ∙ c .if1 .taken))
+returns c = let sr = c .before in let d = sr .before .before .before in sym (d .before .loop .inv ∙ unlisted-turn _ _ _ (d .loop-test .taken) ∙ simp (sym (sr .contains-marked .ensures) ∙ c .if1 .taken))
 
 add-i : tie.Need-add-i Inv-loop μ-loop
 add-i c = search needs
@@ -36,7 +46,7 @@ loop-less : tie.Need-loop-less Inv-loop μ-loop
 loop-less c = search needs
 
 loop-again : tie.Need-loop-again Inv-loop μ-loop
-loop-again c = let sr = c .before in let d = sr .before .before in d .before .loop .inv ∙ unlisted-turn _ _ _ (d .loop-test .taken) ∙ simp (sym (sr .contains .ensures) ∙ c .if1 .left)
+loop-again c = let sr = c .before in let d = sr .before .before .before in d .before .loop .inv ∙ unlisted-turn _ _ _ (d .loop-test .taken) ∙ simp (sym (sr .contains-marked .ensures) ∙ c .if1 .left)
 
 returns-2 : tie.Need-returns-2 Inv-loop μ-loop
 returns-2 c = sym (c .before .loop .inv ∙ unlisted-end _ _ _ (c .loop-test .left))
@@ -47,10 +57,13 @@ none-listed-spec =
     (tie.spec
     Inv-loop
     μ-loop
+    slice-aggregate-mark
+    mark-requires
     loop-holds
     mul-x
     shared-slice-read-x
-    contains-requires
+    slice-aggregate-contains-marked
+    contains-marked-requires
     returns
     add-i
     loop-less
