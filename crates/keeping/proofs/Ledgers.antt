@@ -59,7 +59,7 @@ store-arrays l s ar =
 
 -- ---- bytes
 
-bytes-append : (xs ys : List ℕ) → Bytes xs → Bytes ys → Bytes (xs ++ ys)
+pub bytes-append : (xs ys : List ℕ) → Bytes xs → Bytes ys → Bytes (xs ++ ys)
 bytes-append [] ys h k i = k i
 bytes-append (x ∷ xs) ys h k zero = h zero
 bytes-append (x ∷ xs) ys h k (suc i) = bytes-append xs ys (λ j. h (suc j)) k i
@@ -87,7 +87,7 @@ abbrev pub PieceBytes : List Piece → Type 0
 PieceBytes [] = Unit {0}
 PieceBytes (p ∷ ps) = Bytes (p .bytes) × PieceBytes ps
 
-bytes-of : (ps : List Piece) → PieceBytes ps → Bytes (bytesOf ps)
+pub bytes-of : (ps : List Piece) → PieceBytes ps → Bytes (bytesOf ps)
 bytes-of [] h i = lit< tt
 bytes-of (p ∷ ps) h i = bytes-append (p .bytes) (bytesOf ps) (h .0) (bytes-of ps (h .1)) i
 

@@ -1,7 +1,7 @@
 -- A sound record's burst is one that can go, and what is put together of it is the burst of document 01. Assumes nothing.
-use mathlib.Core.Path.{_≡_, refl, sym, ap, ap₂, subst, _∙_}
+use mathlib.Core.Path.{_≡_, refl, sym, ap, subst, _∙_}
 use mathlib.Core.List.{List, map}
-use mathlib.Core.Bool.{true, cond}
+use mathlib.Core.Bool.{true}
 use Prim.Native.Nat.{ℕ, _*_, _≤_, _<_}
 use native.Mathlib.Omega.{arith}
 use borrow.Author.Tests.{leb-true}
@@ -35,7 +35,7 @@ use Rattle.record.proofs.View.{Arrays, Counted}
 use Rattle.checks.specs.Checked.{SoundRecord}
 use Rattle.checks.proofs.Sound.{sound-counted, sound-level, profile-sizes}
 use Rattle.outgoing.specs.Choosing.{chosen, choice, nextNumber}
-use Rattle.outgoing.specs.Outgoing.{framesIn, headed, burstBits, airtimeOf, after, outgoing, airtime, withAirtime, output, burstOf}
+use Rattle.outgoing.specs.Outgoing.{framesIn, headed, burstBits, airtimeOf, after, outgoing, airtime, output, burstOf}
 use Rattle.outgoing.specs.declared.Frames.{Frames}
 use Rattle.outgoing.specs.declared.Outgoing.{Outgoing}
 use Rattle.outgoing.proofs.Laws.{slots-length}
@@ -45,6 +45,10 @@ use Rattle.burst.specs.Rows.{burstRows, Ready}
 use Rattle.burst.specs.declared.Sending.{Sending}
 use Rattle.burst.proofs.Bursts as B
 use Rattle.sending.proofs.Told.{sent-told, frames-told}
+
+pub frame-least : (p : Profile) → Ranged p → (l : ℕ) → 10 ≤ frameBytes p l
+unfolding frameBytes
+frame-least p r l = by (λ (n : ℕ). 10 ≤ n) (longFrame l) (λ e. omega (arith, r .long .0)) (λ e. omega (arith, r .short .0))
 
 module _ (p : Profile) (r : Ranged p) (o : inOrder p ≡ true) (s : Sender) (a : List ℕ) (so : SoundRecord p s a) (ar : Arrays s) (six : length (p .codes .ends) ≤ 6) where
   level : s .gear .level < 17
@@ -87,10 +91,6 @@ module _ (p : Profile) (r : Ranged p) (o : inOrder p ≡ true) (s : Sender) (a :
   unfolding frameBytes inOrder
   size-le =
       by (λ (n : ℕ). n ≤ p .«long_bytes») (longFrame (s .gear .level)) (λ e. omega arith) (λ e. leb-true (p .«short_bytes») (p .«long_bytes») o)
-
-  pub size-range : (18 ≤ size) × (size ≤ 512)
-  unfolding frameBytes
-  size-range = by (λ (n : ℕ). (18 ≤ n) × (n ≤ 512)) (longFrame (s .gear .level)) (λ e. r .long) (λ e. r .short)
 
   -- ---- the slots
 

@@ -6,7 +6,7 @@ use lib.ListN.{length}
 use borrow.Author.Needs.{needs, length-unmapped}
 use Rattle.ledger.specs.Limits.{maxSlots}
 use Rattle.record.proofs.View.{Arrays}
-use Rattle.sending.proofs.Sends.{size-range, ready, number-lt, slot-le, slots-few, slots-within, stored-few, parity-few, done}
+use Rattle.sending.proofs.Sends.{frame-least, ready, number-lt, slot-le, slots-few, slots-within, stored-few, parity-few, done}
 use Rattle.sending.proofs.data_burst.Statement.{statement}
 use Rattle.sending.proofs.data_burst.Tie as tie
 
@@ -33,7 +33,7 @@ cast-size : tie.Need-cast-size
 cast-size c = search needs
 
 max-payload-requires : tie.Need-max-payload-requires
-max-payload-requires c κs = let s = c .before .before .before .before .before .before .before in omega (arith, c .frame-bytes .ensures, size-range (s .args .p) (s .pre .0) (s .pre .1 .0) (s .args .s) (now (s .args .a)) (s .pre .1 .1) (arrays s) (six s) .0)
+max-payload-requires c κs = let s = c .before .before .before .before .before .before .before in rw (c .frame-bytes .ensures) (frame-least (s .args .p) (s .pre .0) _)
 
 cast-payload : tie.Need-cast-payload
 cast-payload c = search needs
