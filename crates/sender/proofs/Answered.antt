@@ -1,0 +1,57 @@
+-- Calls that are accepted, put together.
+-- Assumes nothing.
+use mathlib.Core.Path.{_≡_, sym, ap, ap₂, _∙_}
+use mathlib.Core.List.{List}
+use mathlib.Core.Bool.{true}
+use Prim.Native.Nat.{ℕ, _+_}
+use lib.ListN.{length}
+use Rattle.laws.specs.Bytes.{overwrite}
+use Rattle.laws.proofs.Little.{Bytes}
+use Rattle.laws.proofs.Picks.{cond-yes}
+use Rattle.config.specs.declared.Profile.{Profile}
+use Rattle.limits.specs.Ranged.{Ranged}
+use Rattle.limits.proofs.Ranged.{ranged}
+use Rattle.ledger.specs.Ledger as L
+use Rattle.record.specs.View.{view, storeArea}
+use Rattle.record.specs.declared.Sender.{Sender}
+use Rattle.record.proofs.View.{Arrays}
+use Rattle.checks.proofs.Sound.{test-sound, sound-counted, sound-level, sound-settling}
+use Rattle.answers.specs.Answers.{Answerable}
+use Rattle.answers.specs.declared.Heard.{Heard}
+use Rattle.sender.specs.declared.Verdict.{Verdict}
+use Rattle.sender.specs.declared.Reply.{Reply}
+use Rattle.sender.specs.declared.Queued.{Queued}
+use Rattle.sender.specs.declared.Received.{Received}
+use Rattle.sender.specs.Verdicts.{passed, queueVerdict, receiveVerdict}
+use Rattle.sender.specs.Calls.{queueOf, answered, receiveOf}
+use Rattle.sender.proofs.Passed.{queue-passed, queue-room, receive-passed}
+use Rattle.sender.proofs.Queuing.{withWaiting, queue-area, queue-record}
+
+abbrev queued : Verdict → Sender → List ℕ → Queued × List ℕ
+queued v q b = (record { verdict = v; next = q }, b)
+
+abbrev received : Verdict → Sender × List ℕ → Received × List ℕ
+received v x = (record { verdict = v; next = x .0 }, x .1)
+
+module _ (p : Profile) (s : Sender) (a : List ℕ) where
+  pub queue-accepted : Arrays s → Bytes a → (bs b : List ℕ) (v : Verdict) → v ≡ queueVerdict p s a (length bs) → passed (queueVerdict p s a (length bs)) ≡ true
+      → b ≡ overwrite a (s .counts .flying + s .counts .waiting) bs → queued v (withWaiting s (s .counts .waiting + length bs)) b ≡ queueOf p s a bs
+  unfolding queueOf
+  queue-accepted ar by bs b v e ok d =
+      let c = sound-counted p s a (test-sound p s a ar (queue-passed p s a (length bs) ok .1)) in
+      cond-yes _ _ _ _ ok
+      (ap₂ (λ (u : Verdict) (x : List ℕ). queued u (withWaiting s (s .counts .waiting + length bs)) x) e (d ∙ sym (queue-area s a c by bs (queue-room p s a (length bs) ok .0)))
+      ∙ ap (λ (q : Sender). queued (queueVerdict p s a (length bs)) q (storeArea (L.queue bs (view s a)) a)) (sym (queue-record s a c by bs ar)))
+
+  module _ (h : Heard) (r : Reply) (payload : List ℕ) (ok : passed (receiveVerdict p s a h r (length payload)) ≡ true) where
+    pub answer-ranged : Ranged p
+    answer-ranged = ranged p (receive-passed p s a h r (length payload) ok .0)
+
+    pub answerable : Arrays s → Answerable p s a
+    answerable ar =
+        let so = test-sound p s a ar (receive-passed p s a h r (length payload) ok .1) in
+        record { level = sound-level p s a so; settling = sound-settling p s a so ar; sound = so .ledger }
+
+    pub receive-accepted : (q : Sender) (b : List ℕ) (v : Verdict) → v ≡ receiveVerdict p s a h r (length payload) → (q, b) ≡ answered p h r payload s a → received v (q, b) ≡ receiveOf p s a h r payload
+    unfolding receiveOf
+    receive-accepted q b v e d = cond-yes _ _ _ _ ok (ap₂ received e d)

@@ -1,0 +1,36 @@
+-- `sender::find` meets its contract.
+use denote.Ref.{now}
+use mathlib.Core.Bool.{true, false}
+use mathlib.Core.Path.{_≡_, ap, ap₂}
+use Rattle.laws.proofs.Picks.{cond-yes, cond-no}
+use Rattle.lookup.specs.declared.Found.{Found}
+use Rattle.sender.specs.declared.Verdict.{Verdict}
+use Rattle.sender.specs.Verdicts.{passed, standing}
+use Rattle.sender.specs.Calls.{nowhere, findOf}
+use Rattle.sender.proofs.Passed.{is-passed, not-passed, standing-passed, sound-rows}
+use borrow.Author.Needs.{needs}
+use Rattle.sender.proofs.find.Statement.{statement}
+use Rattle.sender.proofs.find.Tie as tie
+
+stands : (c : tie.Else1) → let s = c .before .before .before .before in passed (standing (s .args .p) (s .args .s) (now (s .args .a)) false) ≡ true
+stands c = is-passed _ _ _ (c .before .before .standing .ensures) (c .before .number .ensures) (c .if1 .left)
+
+standing-requires : tie.Need-standing-requires
+standing-requires c κs = search needs
+
+number-requires : tie.Need-number-requires
+number-requires c κs = search needs
+
+returns : tie.Need-returns
+unfolding findOf
+returns c = cond-no _ _ _ _ (not-passed _ _ _ (c .before .before .standing .ensures) (c .before .number .ensures) (c .if1 .taken)) (ap (λ (v : Verdict). record { verdict = v; found = nowhere }) (c .before .before .standing .ensures))
+
+find-requires : tie.Need-find-requires
+find-requires c κs = let s = c .before .before .before .before in let r = sound-rows (s .args .p) (s .args .s) (now (s .args .a)) (standing-passed (s .args .p) (s .args .s) (now (s .args .a)) false (stands c) .1) in (r .0, r .1)
+
+returns-2 : tie.Need-returns-2
+unfolding findOf
+returns-2 c = cond-yes _ _ _ _ (stands (c .before)) (ap₂ (λ (v : Verdict) (f : Found). record { verdict = v; found = f }) (c .before .before .before .standing .ensures) (c .find .ensures))
+
+pub find-spec : {M : Type 1} → statement M
+find-spec = tie.close (tie.spec standing-requires number-requires returns find-requires returns-2)

@@ -1,0 +1,90 @@
+-- `sender::queue` meets its contract.
+use denote.Ref.{now}
+use mathlib.Core.Bool.{true}
+use mathlib.Core.Path.{_≡_, ap}
+use Prim.Native.Nat.{ℕ, _+_, _≤_}
+use native.Mathlib.Omega.{arith}
+use lib.ListN.{length}
+use borrow.Author.Needs.{length-unmapped}
+use Rattle.laws.proofs.Picks.{cond-no}
+use Rattle.ledger.specs.Limits.{maxSlots, maxWaiting}
+use Rattle.table.specs.Layout.{areaBytes, streamBytes}
+use Rattle.record.proofs.View.{Arrays}
+use Rattle.sender.specs.declared.Verdict.{Verdict}
+use Rattle.sender.specs.Verdicts.{passed, queueVerdict}
+use Rattle.sender.specs.Calls.{queueOf}
+use Rattle.sender.proofs.Passed.{is-passed, not-passed, queue-room}
+use Rattle.sender.proofs.Answered.{queue-accepted}
+use borrow.Author.Needs.{needs}
+use Rattle.sender.proofs.queue.Statement.{statement}
+use Rattle.sender.proofs.queue.Tie as tie
+
+arrays : (s : tie.Start) → Arrays (s .args .s)
+arrays s =
+    record {
+      heldOff = length-unmapped ℕ (s .args .s .«at_peer» .off) maxSlots (s .good .1 .0 .1 .1 .1 .1 .1 .0 .1 .1 .0 .1 .0 .1);
+      heldBits = length-unmapped ℕ (s .args .s .«at_peer» .bits) maxSlots (s .good .1 .0 .1 .1 .1 .1 .1 .0 .1 .1 .1 .0 .1 .0 .1);
+      sentOff = length-unmapped ℕ (s .args .s .«last_burst» .off) maxSlots (s .good .1 .0 .1 .1 .1 .1 .1 .1 .0 .1 .1 .0 .1 .0 .1);
+      sentBits = length-unmapped ℕ (s .args .s .«last_burst» .bits) maxSlots (s .good .1 .0 .1 .1 .1 .1 .1 .1 .0 .1 .1 .1 .0 .1 .0 .1);
+      sentHeld = length-unmapped ℕ (s .args .s .«last_burst» .held) maxSlots (s .good .1 .0 .1 .1 .1 .1 .1 .1 .0 .1 .1 .1 .1 .0 .1 .0 .1);
+    }
+
+accepted : (c : tie.Else1) → let s = c .before .before .before .before .before .before in passed (queueVerdict (s .args .p) (s .args .s) (now (s .args .a)) (length (now (s .args .bytes)))) ≡ true
+accepted c = is-passed _ _ _ (c .before .before .queue-verdict .ensures) (c .before .number .ensures) (c .if1 .left)
+
+room : (c : tie.Else1) → let s = c .before .before .before .before .before .before in (s .args .s .counts .flying + s .args .s .counts .waiting + length (now (s .args .bytes)) ≤ streamBytes) × (areaBytes ≤ length (now (s .args .a))) × (s .args .s .counts .waiting + length (now (s .args .bytes)) ≤ maxWaiting)
+room c = let s = c .before .before .before .before .before .before in queue-room (s .args .p) (s .args .s) (now (s .args .a)) (length (now (s .args .bytes))) (accepted c)
+
+queue-verdict-requires : tie.Need-queue-verdict-requires
+queue-verdict-requires c κs = search needs
+
+number-requires : tie.Need-number-requires
+number-requires c κs = search needs
+
+same-length : tie.Need-same-length
+same-length c = search needs
+
+returns : tie.Need-returns
+unfolding queueOf
+returns c = let s = c .before .before .before .before .before .before in cond-no _ _ _ _ (not-passed _ _ _ (c .before .before .queue-verdict .ensures) (c .before .number .ensures) (c .if1 .taken)) (ap (λ (v : Verdict). (record { verdict = v; next = s .args .s }, now (s .args .a))) (c .before .before .queue-verdict .ensures))
+
+cast-at : tie.Need-cast-at
+cast-at c = search needs
+
+cast-at-2 : tie.Need-cast-at-2
+cast-at-2 c = search needs
+
+add-at : tie.Need-add-at
+add-at c = search needs
+
+copy-in-requires : tie.Need-copy-in-requires
+copy-in-requires c κs = let q = room (c .before .before .before .before) in omega (arith, q .0, q .1)
+
+cast-w : tie.Need-cast-w
+cast-w c = let q = room (c .before .before .before .before .before .before .before) in omega (arith, q .2)
+
+add-w : tie.Need-add-w
+add-w c = let q = room (c .before .before .before .before .before .before .before .before) in omega (arith, q .2)
+
+same-length-2 : tie.Need-same-length-2
+same-length-2 c = search needs
+
+returns-2 : tie.Need-returns-2
+returns-2 c = let s = c .before .before .before .before .before .before .before .before .before .before .before .before .before .before .before in queue-accepted (s .args .p) (s .args .s) (now (s .args .a)) (arrays s) (λ k. c .before .before .before .before .before .before .before .before .before .before .before .before .before .before .slice-known .given k .fits) (now (s .args .bytes)) _ _ (c .before .before .before .before .before .before .before .before .before .before .before .queue-verdict .ensures) (accepted (c .before .before .before .before .before .before .before .before .before)) (c .before .before .before .before .copy-in .ensures)
+
+pub queue-spec : {M : Type 1} → statement M
+queue-spec =
+    tie.close
+    (tie.spec
+    queue-verdict-requires
+    number-requires
+    same-length
+    returns
+    cast-at
+    cast-at-2
+    add-at
+    copy-in-requires
+    cast-w
+    add-w
+    same-length-2
+    returns-2)

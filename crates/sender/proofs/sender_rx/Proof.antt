@@ -1,0 +1,65 @@
+-- `sender::sender_rx` meets its contract.
+use denote.Ref.{now}
+use mathlib.Core.Bool.{true}
+use mathlib.Core.Path.{_≡_, ap}
+use Prim.Native.Nat.{ℕ}
+use lib.ListN.{length}
+use borrow.Author.Needs.{length-unmapped}
+use Rattle.laws.proofs.Picks.{cond-no}
+use Rattle.ledger.specs.Limits.{maxSlots}
+use Rattle.record.proofs.View.{Arrays}
+use Rattle.sender.specs.declared.Verdict.{Verdict}
+use Rattle.sender.specs.Verdicts.{passed, receiveVerdict}
+use Rattle.sender.specs.Calls.{receiveOf}
+use Rattle.sender.proofs.Passed.{is-passed, not-passed}
+use Rattle.sender.proofs.Answered.{answer-ranged, answerable, receive-accepted}
+use borrow.Author.Needs.{needs}
+use Rattle.sender.proofs.sender_rx.Statement.{statement}
+use Rattle.sender.proofs.sender_rx.Tie as tie
+
+arrays : (s : tie.Start) → Arrays (s .args .s)
+arrays s =
+    record {
+      heldOff = length-unmapped ℕ (s .args .s .«at_peer» .off) maxSlots (s .good .1 .0 .1 .1 .1 .1 .1 .0 .1 .1 .0 .1 .0 .1);
+      heldBits = length-unmapped ℕ (s .args .s .«at_peer» .bits) maxSlots (s .good .1 .0 .1 .1 .1 .1 .1 .0 .1 .1 .1 .0 .1 .0 .1);
+      sentOff = length-unmapped ℕ (s .args .s .«last_burst» .off) maxSlots (s .good .1 .0 .1 .1 .1 .1 .1 .1 .0 .1 .1 .0 .1 .0 .1);
+      sentBits = length-unmapped ℕ (s .args .s .«last_burst» .bits) maxSlots (s .good .1 .0 .1 .1 .1 .1 .1 .1 .0 .1 .1 .1 .0 .1 .0 .1);
+      sentHeld = length-unmapped ℕ (s .args .s .«last_burst» .held) maxSlots (s .good .1 .0 .1 .1 .1 .1 .1 .1 .0 .1 .1 .1 .1 .0 .1 .0 .1);
+    }
+
+accepted : (c : tie.Else1) → let s = c .before .before .before .before .before .before in passed (receiveVerdict (s .args .p) (s .args .s) (now (s .args .a)) (s .args .h) (s .args .r) (length (now (s .args .payload)))) ≡ true
+accepted c = is-passed _ _ _ (c .before .before .receive-verdict .ensures) (c .before .number .ensures) (c .if1 .left)
+
+receive-verdict-requires : tie.Need-receive-verdict-requires
+receive-verdict-requires c κs = search needs
+
+number-requires : tie.Need-number-requires
+number-requires c κs = search needs
+
+same-length : tie.Need-same-length
+same-length c = search needs
+
+returns : tie.Need-returns
+unfolding receiveOf
+returns c = let s = c .before .before .before .before .before .before in cond-no _ _ _ _ (not-passed _ _ _ (c .before .before .receive-verdict .ensures) (c .before .number .ensures) (c .if1 .taken)) (ap (λ (v : Verdict). (record { verdict = v; next = s .args .s }, now (s .args .a))) (c .before .before .receive-verdict .ensures))
+
+answer-requires : tie.Need-answer-requires
+answer-requires c κs = let s = c .before .before .before .before .before .before .before in let ok = accepted (c .before) in (answer-ranged (s .args .p) (s .args .s) (now (s .args .a)) (s .args .h) (s .args .r) (now (s .args .payload)) ok, answerable (s .args .p) (s .args .s) (now (s .args .a)) (s .args .h) (s .args .r) (now (s .args .payload)) ok (arrays s))
+
+same-length-2 : tie.Need-same-length-2
+same-length-2 c = search needs
+
+returns-2 : tie.Need-returns-2
+returns-2 c = let s = c .before .before .before .before .before .before .before .before .before .before in receive-accepted (s .args .p) (s .args .s) (now (s .args .a)) (s .args .h) (s .args .r) (now (s .args .payload)) (accepted (c .before .before .before .before)) _ _ _ (c .before .before .before .before .before .before .receive-verdict .ensures) (c .before .before .answer .ensures)
+
+pub sender-rx-spec : {M : Type 1} → statement M
+sender-rx-spec =
+    tie.close
+    (tie.spec
+    receive-verdict-requires
+    number-requires
+    same-length
+    returns
+    answer-requires
+    same-length-2
+    returns-2)

@@ -1,0 +1,67 @@
+-- The calls: what each answers, and the record and the work area after it. Definitions only.
+use mathlib.Core.List.{List, []}
+use mathlib.Core.Bool.{false, cond}
+use Prim.Native.Nat.{ℕ}
+use lib.ListN.{length}
+use Rattle.ack.specs.Ack.{ackOf}
+use Rattle.ack.specs.declared.AckRead.{AckRead}
+use Rattle.ack.specs.declared.AckRead.the-variants.{TooShort, Info}
+use Rattle.config.specs.declared.Profile.{Profile}
+use Rattle.ledger.specs.Ledger as L
+use Rattle.table.specs.Table.{rowsFrom}
+use Rattle.lookup.specs.Find.{findFrom}
+use Rattle.lookup.specs.declared.Found.{Found}
+use Rattle.record.specs.View.{view, store, storeArea}
+use Rattle.record.specs.declared.Sender.{Sender}
+use Rattle.answers.specs.Answers.{shortAcked, longAcked, turnedTo, connectedTo}
+use Rattle.answers.specs.declared.Heard.{Heard}
+use Rattle.answers.specs.declared.LongAck as A
+use Rattle.sender.specs.declared.Reply.{Reply}
+use Rattle.sender.specs.declared.Reply.the-variants.{ConnAck, Ack, LongAck, Turn}
+use Rattle.sender.specs.declared.Queued.{Queued}
+use Rattle.sender.specs.declared.Received.{Received}
+use Rattle.sender.specs.declared.Finding.{Finding}
+use Rattle.sender.specs.Verdicts.{passed, standing, queueVerdict, receiveVerdict}
+
+-- ---- queue: 1 2 3 4 8 9
+
+unfoldable pub queueOf : Profile → Sender → List ℕ → List ℕ → Queued × List ℕ
+queueOf p s a bytes =
+    let v = queueVerdict p s a (length bytes) in
+    let after = L.queue bytes (view s a) in
+    cond (passed v) (record { verdict = v; next = store after s }, storeArea after a) (record { verdict = v; next = s }, a)
+
+-- ---- sender_rx: 1 2 3 4 5 6, a long ack also 7
+
+-- a long ack, as AckInfo::from_bytes reads its payload. One that is too short is refused before
+abbrev pub longRead : Profile → Heard → A.LongAck → AckRead → Sender → List ℕ → Sender × List ℕ
+longRead p h r TooShort s a = (s, a)
+longRead p h r (Info i) s a = longAcked p h r i s a
+
+-- a reply that is accepted
+abbrev pub answered : Profile → Heard → Reply → List ℕ → Sender → List ℕ → Sender × List ℕ
+answered p h (ConnAck r) payload s a = (connectedTo p h r s, a)
+answered p h (Ack r) payload s a = shortAcked p h r s a
+answered p h (LongAck r) payload s a = longRead p h r (ackOf payload) s a
+answered p h (Turn r) payload s a = (turnedTo p h r s, a)
+
+unfoldable pub receiveOf : Profile → Sender → List ℕ → Heard → Reply → List ℕ → Received × List ℕ
+receiveOf p s a h r payload =
+    let v = receiveVerdict p s a h r (length payload) in
+    let after = answered p h r payload s a in
+    cond (passed v) (record { verdict = v; next = after .0 }, after .1) (record { verdict = v; next = s }, a)
+
+-- ---- lookup: 1 2 3 4
+
+abbrev pub nowhere : Found
+nowhere = record { here = false; start = 0; len = 0 }
+
+-- where the bytes of the piece at an offset lie in the work area
+unfoldable pub findOf : Profile → Sender → List ℕ → ℕ → Finding
+findOf p s a off =
+    let v = standing p s a false in
+    cond (passed v) (record { verdict = v; found = findFrom off 0 (rowsFrom a 0 (s .counts .pieces)) }) (record { verdict = v; found = nowhere })
+
+-- the bytes of the piece at an offset; none where the call is refused or no piece is there
+unfoldable pub pieceOf : Profile → Sender → List ℕ → ℕ → List ℕ
+pieceOf p s a off = cond (passed (standing p s a false)) (L.find off (view s a .pieces)) []
