@@ -1,17 +1,20 @@
 -- Calls that are accepted, put together.
 -- Assumes nothing.
-use mathlib.Core.Path.{_≡_, sym, ap, ap₂, _∙_}
+use mathlib.Core.Path.{_≡_, refl, sym, ap, ap₂, _∙_}
 use mathlib.Core.List.{List}
-use mathlib.Core.Bool.{true}
+use mathlib.Core.Bool.{true, false}
 use Prim.Native.Nat.{ℕ, _+_}
 use lib.ListN.{length}
 use Rattle.laws.specs.Bytes.{overwrite}
 use Rattle.laws.proofs.Little.{Bytes}
-use Rattle.laws.proofs.Picks.{cond-yes}
+use Rattle.laws.proofs.Picks.{cond-yes, by₂}
 use Rattle.config.specs.declared.Profile.{Profile}
 use Rattle.limits.specs.Ranged.{Ranged}
 use Rattle.limits.proofs.Ranged.{ranged}
 use Rattle.ledger.specs.Ledger as L
+use Rattle.table.specs.Table.{rowsFrom}
+use Rattle.lookup.specs.Find.{bytesAt}
+use Rattle.pieces.proofs.Placed.{found-bytes}
 use Rattle.record.specs.View.{view, storeArea}
 use Rattle.record.specs.declared.Sender.{Sender}
 use Rattle.record.proofs.View.{Arrays}
@@ -22,8 +25,9 @@ use Rattle.sender.specs.declared.Verdict.{Verdict}
 use Rattle.sender.specs.declared.Reply.{Reply}
 use Rattle.sender.specs.declared.Queued.{Queued}
 use Rattle.sender.specs.declared.Received.{Received}
-use Rattle.sender.specs.Verdicts.{passed, queueVerdict, receiveVerdict}
-use Rattle.sender.specs.Calls.{queueOf, answered, receiveOf}
+use Rattle.sender.specs.declared.Finding.{Finding}
+use Rattle.sender.specs.Verdicts.{passed, standing, queueVerdict, receiveVerdict}
+use Rattle.sender.specs.Calls.{queueOf, answered, receiveOf, findOf, pieceOf}
 use Rattle.sender.proofs.Passed.{queue-passed, queue-room, receive-passed}
 use Rattle.sender.proofs.Queuing.{withWaiting, queue-area, queue-record}
 
@@ -55,3 +59,11 @@ module _ (p : Profile) (s : Sender) (a : List ℕ) where
     pub receive-accepted : (q : Sender) (b : List ℕ) (v : Verdict) → v ≡ receiveVerdict p s a h r (length payload) → (q, b) ≡ answered p h r payload s a → received v (q, b) ≡ receiveOf p s a h r payload
     unfolding receiveOf
     receive-accepted q b v e d = cond-yes _ _ _ _ ok (ap₂ received e d)
+
+-- ---- lookup
+
+-- what `find` says where to find is what `piece` hands out
+pub find-piece : (p : Profile) (s : Sender) (a : List ℕ) (off : ℕ) → bytesAt a (findOf p s a off .found) ≡ pieceOf p s a off
+unfolding findOf pieceOf view
+find-piece p s a off =
+    by₂ (λ (f : Finding) (bs : List ℕ). bytesAt a (f .found) ≡ bs) (passed (standing p s a false)) (λ e. found-bytes off 0 a (rowsFrom a 0 (s .counts .pieces))) (λ e. refl)

@@ -2,13 +2,13 @@
 -- Assumes nothing.
 use mathlib.Core.Path.{_≡_, refl, sym, ap, _∙_}
 use mathlib.Core.List.{List}
-use mathlib.Core.Bool.{Bool, true, false, cond, not, false≢true}
+use mathlib.Core.Bool.{Bool, true, false, cond, not, _&&_, _||_, false≢true}
 use Prim.Native.Nat.{ℕ, _+_, _≤_}
 use native.Mathlib.Omega.{arith}
 use lib.Dec.{ltb, eqb}
 use lib.ListN.{length}
 use borrow.Author.Tests.{not-false, eq-eqb, ne-eqb, leb-true, ltb-true, ltb-false}
-use Rattle.laws.proofs.Picks.{test}
+use Rattle.laws.proofs.Picks.{test, cond-no}
 use Rattle.laws.proofs.Tests.{all-at}
 use Rattle.config.specs.declared.Profile.{Profile}
 use Rattle.limits.specs.Ranges.{inRange, inOrder}
@@ -23,7 +23,7 @@ use Rattle.checks.specs.Checked.{countsOk, soundOk}
 use Rattle.checks.proofs.Counts.{flying-few, pieces-few, taken-few}
 use Rattle.answers.specs.declared.Heard.{Heard}
 use Rattle.sender.specs.declared.Verdict.{Verdict}
-use Rattle.sender.specs.declared.Verdict.the-variants.{ProfileOutOfRange, ShortOverLong, Unsound, QueueFull, AllTaken}
+use Rattle.sender.specs.declared.Verdict.the-variants.{Accepted, ProfileOutOfRange, ShortOverLong, Unsound, OutOfTurn, BadTime, BadValue, ShortPayload, QueueFull, AllTaken, ShortOutput}
 use Rattle.sender.specs.declared.Reply.{Reply}
 use Rattle.sender.specs.Verdicts.{numberOf, kindOf, passed, firstOf, standing, roomVerdict, replyVerdict, queueVerdict, receiveVerdict}
 
@@ -33,6 +33,19 @@ not-passed v u n e d h = ne-eqb _ _ (λ z. h (d ∙ ap numberOf e ∙ z))
 
 pub is-passed : (v u : Verdict) (n : ℕ) → v ≡ u → n ≡ numberOf v → n ≡ 0 → passed u ≡ true
 is-passed v u n e d h = eq-eqb _ _ (sym (d ∙ ap numberOf e) ∙ h)
+
+pub passed-is : (v : Verdict) → passed v ≡ true → v ≡ Accepted
+passed-is Accepted h = refl
+passed-is ProfileOutOfRange h = absurd (false≢true h)
+passed-is ShortOverLong h = absurd (false≢true h)
+passed-is Unsound h = absurd (false≢true h)
+passed-is OutOfTurn h = absurd (false≢true h)
+passed-is BadTime h = absurd (false≢true h)
+passed-is BadValue h = absurd (false≢true h)
+passed-is ShortPayload h = absurd (false≢true h)
+passed-is QueueFull h = absurd (false≢true h)
+passed-is AllTaken h = absurd (false≢true h)
+passed-is ShortOutput h = absurd (false≢true h)
 
 -- a test that would have turned the call down
 over-first : (b : Bool) (v w : Verdict) → passed v ≡ false → passed (cond b v w) ≡ true → (b ≡ false) × (passed w ≡ true)
@@ -46,7 +59,19 @@ first-by false v w e h = absurd (false≢true (sym e ∙ h))
 first-passed : (v w : Verdict) → passed (firstOf v w) ≡ true → (passed v ≡ true) × (passed w ≡ true)
 first-passed v w h = first-by (passed v) v w refl h
 
+-- connect comes first, and once
+turn : (x connect : Bool) → x ≡ not connect → ((x && connect) || (not x && not connect)) ≡ false
+turn true true e = absurd (false≢true (sym e))
+turn true false e = refl
+turn false true e = refl
+turn false false e = absurd (false≢true e)
+
 module _ (p : Profile) (s : Sender) (a : List ℕ) where
+  -- nothing but 1 to 4 turns a call down here
+  pub stands : (connect : Bool) → inRange p ≡ true → inOrder p ≡ true → soundOk p s a ≡ true → s .link .connected ≡ not connect → standing p s a connect ≡ Accepted
+  unfolding standing
+  stands connect e₁ e₂ e₃ e₄ = sym (cond-no _ _ _ _ (ap not e₁) (cond-no _ _ _ _ (ap not e₂) (cond-no _ _ _ _ (ap not e₃) (cond-no _ _ _ _ (turn (s .link .connected) connect e₄) refl))))
+
   counts-pass : soundOk p s a ≡ true → countsOk s ≡ true
   unfolding soundOk
   counts-pass e = all-at _ 1 e
