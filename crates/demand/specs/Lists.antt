@@ -3,6 +3,7 @@ use mathlib.Core.List.{List, [], _∷_}
 use mathlib.Core.Bool.{Bool, cond, _&&_}
 use Prim.Native.Nat.{ℕ, _≤_}
 use lib.ListN.{length, take, replicate}
+use Rattle.laws.proofs.Little.{Bytes}
 use Rattle.ack.specs.Ack.{ackOf}
 use Rattle.ack.specs.declared.AckRead.{AckRead}
 use Rattle.ack.specs.declared.AckRead.the-variants.{TooShort, Info}
@@ -34,6 +35,12 @@ pub data Call : Type 0 where
 -- record and work area, "each call gets both as the last one left them"
 abbrev pub State : Type 0
 State = Sender × List ℕ
+
+-- what may be given: the elements of a slice of u8 are bytes
+abbrev pub Given : Call → State → Type 0
+Given (queues bs) c = Bytes bs
+Given (hears h r payload) c = Bytes payload
+Given (bursts out) c = Unit {0}
 
 -- "a fresh record and a work area of zeros, of any length"
 abbrev pub start : ℕ → State

@@ -8,7 +8,7 @@ use native.Mathlib.Omega.{arith}
 use lib.Dec.{ltb, eqb}
 use lib.ListN.{length}
 use borrow.Author.Tests.{not-false, eq-eqb, ne-eqb, leb-true, ltb-true, ltb-false}
-use Rattle.laws.proofs.Picks.{test, cond-no}
+use Rattle.laws.proofs.Picks.{test, cond-no, and-first, and-second}
 use Rattle.laws.proofs.Tests.{all-at}
 use Rattle.config.specs.declared.Profile.{Profile}
 use Rattle.limits.specs.Ranges.{inRange, inOrder}
@@ -25,7 +25,7 @@ use Rattle.answers.specs.declared.Heard.{Heard}
 use Rattle.sender.specs.declared.Verdict.{Verdict}
 use Rattle.sender.specs.declared.Verdict.the-variants.{Accepted, AllTaken, BadTime, BadValue, OutOfTurn, ProfileOutOfRange, QueueFull, ShortOutput, ShortOverLong, ShortPayload, Unsound}
 use Rattle.sender.specs.declared.Reply.{Reply}
-use Rattle.sender.specs.Verdicts.{numberOf, kindOf, passed, firstOf, standing, roomVerdict, replyVerdict, queueVerdict, receiveVerdict, burstVerdict}
+use Rattle.sender.specs.Verdicts.{numberOf, kindOf, passed, firstOf, standing, roomVerdict, replyVerdict, queueVerdict, receiveVerdict, burstVerdict, timeOk, heardOk, replyOk}
 
 -- the number that a call reads says whether it is refused
 pub not-passed : (v u : Verdict) (n : ℕ) → v ≡ u → n ≡ numberOf v → (n ≡ 0 → ⊥) → passed u ≡ false
@@ -146,3 +146,13 @@ module _ (p : Profile) (s : Sender) (a : List ℕ) where
       let g = standing-three false (q .0) in
       let o = over-first (ltb n (maxSlots * p .«long_bytes»)) ShortOutput Accepted refl (q .1) in
       (g .0, g .1, g .2, ltb-false n (maxSlots * p .«long_bytes») (o .0))
+
+  -- nor do 5, 6 and 7
+  pub reply-passed : (h : Heard) (r : Reply) (n : ℕ) → passed (receiveVerdict p s a h r n) ≡ true → (timeOk s (h .time) ≡ true) × (heardOk h ≡ true) × (replyOk r ≡ true)
+  unfolding receiveVerdict replyVerdict
+  reply-passed h r n e =
+      let q = first-passed (standing p s a (eqb (kindOf r) 0)) (replyVerdict s h r n) e in
+      let h₁ = over-first (not (timeOk s (h .time))) BadTime _ refl (q .1) in
+      let h₂ = over-first (not (heardOk h && replyOk r)) BadValue _ refl (h₁ .1) in
+      let b = not-false _ (h₂ .0) in
+      (not-false _ (h₁ .0), and-first (heardOk h) (replyOk r) b, and-second (heardOk h) (replyOk r) b)
