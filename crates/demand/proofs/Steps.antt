@@ -43,7 +43,7 @@ use Rattle.goodput.specs.declared.Gear.{Gear}
 use Rattle.record.specs.declared.Link.{Link}
 use Rattle.ack.specs.declared.AckInfo.{AckInfo}
 use Rattle.replies.specs.Replies.{withGear, withLink, keeps, ackIn}
-use Rattle.answers.specs.Answers.{longDb, shortAcked, longAcked, turned, turnedTo, connectedTo}
+use Rattle.answers.specs.Answers.{longDb, shortAcked, longAcked, turned, connectedTo}
 use Rattle.answers.specs.declared.Ack as A
 use Rattle.answers.specs.declared.LongAck as B
 use Rattle.answers.specs.declared.Turn as D
@@ -52,8 +52,7 @@ use Rattle.answers.specs.declared.Heard.{Heard}
 use Rattle.keeping.proofs.Ledgers.{Kept, sound-fits, sound-holds, store-arrays, queue-kept, on-ack-kept, clear-kept}
 use Rattle.keeping.proofs.Well.{Well, well-kept}
 use Rattle.keeping.proofs.Replies.{queued-well, connected-well, short-well, long-well, turned-well, info-in}
-use Rattle.keeping.proofs.Bursts.{burst-kept, choice-fits, bursted-well, well-answerable}
-use Rattle.answers.proofs.Turned.{turned-is}
+use Rattle.keeping.proofs.Bursts.{burst-kept, choice-fits, bursted-well}
 use Rattle.sender.specs.declared.Reply.{Reply}
 use Rattle.sender.specs.declared.Reply.the-variants.{ConnAck, Ack, LongAck, Turn}
 use Rattle.sender.specs.Calls.{longRead}
@@ -95,9 +94,9 @@ module _ (p : Profile) (rg : Ranged p) (io : inOrder p ≡ true) (six : length (
       let s = c .0 in
       let a = c .1 in
       let n : length (part a (s .counts .flying) (s .counts .waiting)) ≡ s .counts .waiting =
-        length-part a (s .counts .flying) (s .counts .waiting) (let d = sound-counted p s a (w .sound) in omega (arith, d .stream, d .area)) in
+      length-part a (s .counts .flying) (s .counts .waiting) (let d = sound-counted p s a (w .sound) in omega (arith, d .stream, d .area)) in
       let al : Allowed z (C.queues bs) (view s a) =
-        queue-allowed z (view s a) bs (ap (λ (x : ℕ). queueRefusal x (s .counts .«next_offset» + x) (length bs)) n ∙ queue-passed p s a (length bs) e .2) in
+      queue-allowed z (view s a) bs (ap (λ (x : ℕ). queueRefusal x (s .counts .«next_offset» + x) (length bs)) n ∙ queue-passed p s a (length bs) e .2) in
       let k = queue-kept z sizes (view s a) (well-kept p s a w) bs by al in
       record {
         allowed = al;
@@ -149,8 +148,8 @@ module _ (p : Profile) (rg : Ranged p) (io : inOrder p ≡ true) (six : length (
         allowed = f;
         steps = ap shown (burst-yes p c out e) ∙ air-view s a (store (after p s a) s) (storeArea (after p s a) a) ∙ stored (dataBurst g (view s a)) s a k (w .sound .area) (w .arrays);
         tells =
-          burst-told p c out e
-          ∙ ap₂ went (out-number s a) (ap framesIn (out-frames s a) ∙ frames-out (after p s a .pieces) (after p s a .sent) (omega (arith, k .sound .outFew)));
+            burst-told p c out e
+            ∙ ap₂ went (out-number s a) (ap framesIn (out-frames s a) ∙ frames-out (after p s a .pieces) (after p s a .sent) (omega (arith, k .sound .outFew)));
         keeps = subst Ok (sym (burst-yes p c out e)) (bursted-well p rg io s a w six);
       }
 
@@ -241,12 +240,11 @@ module _ (p : Profile) (rg : Ranged p) (io : inOrder p ≡ true) (six : length (
     unfolding ok-at
     does-turn r b e =
         let v = reply-passed p s a h (Turn r) (length b) e in
-        let t = turned-is p s a (well-answerable p s a w) (w .arrays) (w .bytes) h r in
         record {
           allowed = tt;
-          steps = ap shown (hear-yes p c h (Turn r) b e ∙ t) ∙ turn-view r;
+          steps = ap shown (hear-yes p c h (Turn r) b e) ∙ turn-view r;
           tells = hear-told p c h (Turn r) b true e;
-          keeps = subst Ok (sym (hear-yes p c h (Turn r) b e ∙ t)) (turned-well p rg io h r s a (turn-in s h (v .0) (v .1) r (v .2)) w);
+          keeps = subst Ok (sym (hear-yes p c h (Turn r) b e)) (turned-well p rg io h r s a (turn-in s h (v .0) (v .1) r (v .2)) w);
         }
 
     -- a long ack, as it is read

@@ -144,7 +144,7 @@ module _ (p : Profile) (six : length (p .codes .ends) ≤ 6) (n : ℕ) (is : Lis
   turned-down z zr e f i g =
       let refused = refused-by p n f in
       let none : (out : List ℕ) → passed (burstVerdict p (c .0) (c .1) (length out)) ≡ true → ⊥ =
-        λ out ok. false≢true (sym (first-no (standing p fresh (replicate n 0) false) _ (refused false)) ∙ subst (λ (x : State). passed (burstVerdict p (x .0) (x .1) (length out)) ≡ true) (at-start p n refused z zr is gs) ok) in
+      λ out ok. false≢true (sym (first-no (standing p fresh (replicate n 0) false) _ (refused false)) ∙ subst (λ (x : State). passed (burstVerdict p (x .0) (x .1) (length out)) ≡ true) (at-start p n refused z zr is gs) ok) in
       record {
         bytes = subst (λ (x : Sizes). Claimed x i) (sym e) (refused-all p n refused z zr is gs i g);
         written = λ out ok. absurd (none out ok);
@@ -161,8 +161,8 @@ module _ (p : Profile) (six : length (p .codes .ends) ≤ 6) (n : ℕ) (is : Lis
       record {
         bytes = subst (λ (x : Sizes). Claimed x i) (sym (sizes-for true v)) (through p rg io six n l is gs i g);
         written = λ out ok.
-          ap (λ (x : Bursted × (List ℕ × List ℕ)). x .1 .1) (burst-is p c out true ok)
-          ∙ sym (ap (λ (x : L.Sender). overwrite out 0 (framesSent (frameBytes p (c .0 .gear .level)) (x .pieces) (x .sent))) (does-burst p rg io six out c w ok .steps));
+            ap (λ (x : Bursted × (List ℕ × List ℕ)). x .1 .1) (burst-is p c out true ok)
+            ∙ sym (ap (λ (x : L.Sender). overwrite out 0 (framesSent (frameBytes p (c .0 .gear .level)) (x .pieces) (x .sent))) (does-burst p rg io six out c w ok .steps));
         air = λ out ok. choice-keeps-air p rg (c .0) (c .1) w six;
         sound = λ x y. sound-test p (c .0) (c .1) (w .sound) (w .arrays);
       }
@@ -172,6 +172,6 @@ module _ (p : Profile) (six : length (p .codes .ends) ≤ 6) (n : ℕ) (is : Lis
   demand3 i g =
       test (inRange p && inOrder p)
       (λ v. test (leb areaBytes n)
-        (λ l. taken-up v (leb-true areaBytes n l) i g)
-        (λ l. turned-down (sizesOf p) (profile-sizes p (ranged p (and-first (inRange p) (inOrder p) v)) (and-second (inRange p) (inOrder p) v)) (sizes-for true v) (λ x y. omega (arith, leb-false areaBytes n l, y)) i g))
+      (λ l. taken-up v (leb-true areaBytes n l) i g)
+      (λ l. turned-down (sizesOf p) (profile-sizes p (ranged p (and-first (inRange p) (inOrder p) v)) (and-second (inRange p) (inOrder p) v)) (sizes-for true v) (λ x y. omega (arith, leb-false areaBytes n l, y)) i g))
       (λ v. turned-down (record { short = minPayload; long = minPayload; top = 0 }) least-sizes (sizes-for false v) (λ x y. false≢true (sym v ∙ x)) i g)

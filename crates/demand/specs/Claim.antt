@@ -2,7 +2,7 @@
 use mathlib.Core.Path.{_≡_}
 use mathlib.Core.List.{List}
 use mathlib.Core.Bool.{true, _&&_}
-use Prim.Native.Nat.{ℕ, _≤_}
+use Prim.Native.Nat.{ℕ, _+_, _≤_}
 use lib.ListN.{length}
 use Rattle.laws.specs.Bytes.{overwrite}
 use Rattle.config.specs.Durations.{frameBytes}
@@ -34,7 +34,7 @@ pub record Demand (p : Profile) (n : ℕ) (is : List Call) (i : Call) : Type 0 w
   -- a burst writes the frames of the pieces that it leaves, back to back, each with its piece's bytes, and nothing else into the output
   pub written : (out : List ℕ) → passed (burstVerdict p (reached p n is .0) (reached p n is .1) (length out)) ≡ true
       → burstCall p (reached p n is .0) (reached p n is .1) out .1 .1
-        ≡ overwrite out 0 (framesSent (frameBytes p (reached p n is .0 .gear .level)) (shown (next p (bursts out) (reached p n is)) .pieces) (shown (next p (bursts out) (reached p n is)) .sent))
+      ≡ overwrite out 0 (framesSent (frameBytes p (reached p n is .0 .gear .level)) (shown (next p (bursts out) (reached p n is)) .pieces) (shown (next p (bursts out) (reached p n is)) .sent))
   -- a burst of two frames or more, or with parity, keeps its air allowance: `burst_len_s` as the gear gives it for the calls before (crates/outgoing/specs/Choosing.antt)
   pub air : (out : List ℕ) → passed (burstVerdict p (reached p n is .0) (reached p n is .1) (length out)) ≡ true
       → KeepsAir (sizesOf p) (choice p (reached p n is .0)) (shown (reached p n is))

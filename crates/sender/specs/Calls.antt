@@ -13,7 +13,7 @@ use Rattle.lookup.specs.Find.{findFrom}
 use Rattle.lookup.specs.declared.Found.{Found}
 use Rattle.record.specs.View.{view, store, storeArea}
 use Rattle.record.specs.declared.Sender.{Sender}
-use Rattle.answers.specs.Answers.{shortAcked, longAcked, turnedTo, connectedTo}
+use Rattle.answers.specs.Answers.{shortAcked, longAcked, turned, connectedTo}
 use Rattle.answers.specs.declared.Heard.{Heard}
 use Rattle.answers.specs.declared.LongAck as A
 use Rattle.sender.specs.declared.Reply.{Reply}
@@ -47,7 +47,7 @@ abbrev pub answered : Profile → Heard → Reply → List ℕ → Sender → Li
 answered p h (ConnAck r) payload s a = (connectedTo p h r s, a)
 answered p h (Ack r) payload s a = shortAcked p h r s a
 answered p h (LongAck r) payload s a = longRead p h r (ackOf payload) s a
-answered p h (Turn r) payload s a = (turnedTo p h r s, a)
+answered p h (Turn r) payload s a = turned p h r s a
 
 unfoldable pub receiveOf : Profile → Sender → List ℕ → Heard → Reply → List ℕ → Received × List ℕ
 receiveOf p s a h r payload =
