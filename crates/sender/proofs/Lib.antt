@@ -1,3 +1,4 @@
 pub mod Passed
 pub mod Queuing
 pub mod Answered
+pub mod Bursting

@@ -3,16 +3,16 @@
 use mathlib.Core.Path.{_≡_, refl, sym, ap, _∙_}
 use mathlib.Core.List.{List}
 use mathlib.Core.Bool.{Bool, true, false, cond, not, _&&_, _||_, false≢true}
-use Prim.Native.Nat.{ℕ, _+_, _≤_}
+use Prim.Native.Nat.{ℕ, _+_, _*_, _≤_}
 use native.Mathlib.Omega.{arith}
 use lib.Dec.{ltb, eqb}
 use lib.ListN.{length}
 use borrow.Author.Tests.{not-false, eq-eqb, ne-eqb, leb-true, ltb-true, ltb-false}
-use Rattle.laws.proofs.Picks.{test, cond-no}
+use Rattle.laws.proofs.Picks.{test, cond-no, and-first, and-second}
 use Rattle.laws.proofs.Tests.{all-at}
 use Rattle.config.specs.declared.Profile.{Profile}
 use Rattle.limits.specs.Ranges.{inRange, inOrder}
-use Rattle.ledger.specs.Limits.{maxWaiting, maxTaken, maxPieces}
+use Rattle.ledger.specs.Limits.{maxSlots, maxWaiting, maxTaken, maxPieces}
 use Rattle.table.specs.Layout.{areaBytes, streamBytes}
 use Rattle.table.specs.Table.{rowsFrom, total}
 use Rattle.pieces.proofs.Sound.{table-total}
@@ -23,9 +23,9 @@ use Rattle.checks.specs.Checked.{countsOk, soundOk}
 use Rattle.checks.proofs.Counts.{flying-few, pieces-few, taken-few}
 use Rattle.answers.specs.declared.Heard.{Heard}
 use Rattle.sender.specs.declared.Verdict.{Verdict}
-use Rattle.sender.specs.declared.Verdict.the-variants.{Accepted, ProfileOutOfRange, ShortOverLong, Unsound, OutOfTurn, BadTime, BadValue, ShortPayload, QueueFull, AllTaken, ShortOutput}
+use Rattle.sender.specs.declared.Verdict.the-variants.{Accepted, AllTaken, BadTime, BadValue, OutOfTurn, ProfileOutOfRange, QueueFull, ShortOutput, ShortOverLong, ShortPayload, Unsound}
 use Rattle.sender.specs.declared.Reply.{Reply}
-use Rattle.sender.specs.Verdicts.{numberOf, kindOf, passed, firstOf, standing, roomVerdict, replyVerdict, queueVerdict, receiveVerdict}
+use Rattle.sender.specs.Verdicts.{numberOf, kindOf, passed, firstOf, standing, roomVerdict, replyVerdict, queueVerdict, receiveVerdict, burstVerdict, timeOk, heardOk, replyOk}
 
 -- the number that a call reads says whether it is refused
 pub not-passed : (v u : Verdict) (n : ℕ) → v ≡ u → n ≡ numberOf v → (n ≡ 0 → ⊥) → passed u ≡ false
@@ -128,3 +128,31 @@ module _ (p : Profile) (s : Sender) (a : List ℕ) where
   pub receive-passed : (h : Heard) (r : Reply) (n : ℕ) → passed (receiveVerdict p s a h r n) ≡ true → (inRange p ≡ true) × (soundOk p s a ≡ true)
   unfolding receiveVerdict
   receive-passed h r n e = standing-passed (eqb (kindOf r) 0) (first-passed (standing p s a (eqb (kindOf r) 0)) (replyVerdict s h r n) e .0)
+
+  -- 1, 2 and 3 do not turn it down
+  pub standing-three : (connect : Bool) → passed (standing p s a connect) ≡ true → (inRange p ≡ true) × (inOrder p ≡ true) × (soundOk p s a ≡ true)
+  unfolding standing
+  standing-three connect h =
+      let h₁ = over-first (not (inRange p)) ProfileOutOfRange _ refl h in
+      let h₂ = over-first (not (inOrder p)) ShortOverLong _ refl (h₁ .1) in
+      let h₃ = over-first (not (soundOk p s a)) Unsound _ refl (h₂ .1) in
+      (not-false _ (h₁ .0), not-false _ (h₂ .0), not-false _ (h₃ .0))
+
+  -- nor does 10
+  pub burst-passed : (n : ℕ) → passed (burstVerdict p s a n) ≡ true → (inRange p ≡ true) × (inOrder p ≡ true) × (soundOk p s a ≡ true) × (maxSlots * p .«long_bytes» ≤ n)
+  unfolding burstVerdict
+  burst-passed n h =
+      let q = first-passed (standing p s a false) (cond (ltb n (maxSlots * p .«long_bytes»)) ShortOutput Accepted) h in
+      let g = standing-three false (q .0) in
+      let o = over-first (ltb n (maxSlots * p .«long_bytes»)) ShortOutput Accepted refl (q .1) in
+      (g .0, g .1, g .2, ltb-false n (maxSlots * p .«long_bytes») (o .0))
+
+  -- nor do 5, 6 and 7
+  pub reply-passed : (h : Heard) (r : Reply) (n : ℕ) → passed (receiveVerdict p s a h r n) ≡ true → (timeOk s (h .time) ≡ true) × (heardOk h ≡ true) × (replyOk r ≡ true)
+  unfolding receiveVerdict replyVerdict
+  reply-passed h r n e =
+      let q = first-passed (standing p s a (eqb (kindOf r) 0)) (replyVerdict s h r n) e in
+      let h₁ = over-first (not (timeOk s (h .time))) BadTime _ refl (q .1) in
+      let h₂ = over-first (not (heardOk h && replyOk r)) BadValue _ refl (h₁ .1) in
+      let b = not-false _ (h₂ .0) in
+      (not-false _ (h₁ .0), and-first (heardOk h) (replyOk r) b, and-second (heardOk h) (replyOk r) b)

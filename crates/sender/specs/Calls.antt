@@ -2,7 +2,7 @@
 use mathlib.Core.List.{List, []}
 use mathlib.Core.Bool.{false, cond}
 use Prim.Native.Nat.{ℕ}
-use lib.ListN.{length}
+use lib.ListN.{length, replicate}
 use Rattle.ack.specs.Ack.{ackOf}
 use Rattle.ack.specs.declared.AckRead.{AckRead}
 use Rattle.ack.specs.declared.AckRead.the-variants.{TooShort, Info}
@@ -13,7 +13,7 @@ use Rattle.lookup.specs.Find.{findFrom}
 use Rattle.lookup.specs.declared.Found.{Found}
 use Rattle.record.specs.View.{view, store, storeArea}
 use Rattle.record.specs.declared.Sender.{Sender}
-use Rattle.answers.specs.Answers.{shortAcked, longAcked, turnedTo, connectedTo}
+use Rattle.answers.specs.Answers.{shortAcked, longAcked, turned, connectedTo}
 use Rattle.answers.specs.declared.Heard.{Heard}
 use Rattle.answers.specs.declared.LongAck as A
 use Rattle.sender.specs.declared.Reply.{Reply}
@@ -21,7 +21,11 @@ use Rattle.sender.specs.declared.Reply.the-variants.{ConnAck, Ack, LongA
 use Rattle.sender.specs.declared.Queued.{Queued}
 use Rattle.sender.specs.declared.Received.{Received}
 use Rattle.sender.specs.declared.Finding.{Finding}
-use Rattle.sender.specs.Verdicts.{passed, standing, queueVerdict, receiveVerdict}
+use Rattle.ledger.specs.Limits.{maxSlots}
+use Rattle.outgoing.specs.Outgoing.{burstOf}
+use Rattle.outgoing.specs.declared.Outgoing.{Outgoing}
+use Rattle.sender.specs.declared.Bursted.{Bursted}
+use Rattle.sender.specs.Verdicts.{passed, standing, queueVerdict, receiveVerdict, burstVerdict}
 
 -- ---- queue: 1 2 3 4 8 9
 
@@ -43,7 +47,7 @@ abbrev pub answered : Profile → Heard → Reply → List ℕ → Sender → Li
 answered p h (ConnAck r) payload s a = (connectedTo p h r s, a)
 answered p h (Ack r) payload s a = shortAcked p h r s a
 answered p h (LongAck r) payload s a = longRead p h r (ackOf payload) s a
-answered p h (Turn r) payload s a = (turnedTo p h r s, a)
+answered p h (Turn r) payload s a = turned p h r s a
 
 unfoldable pub receiveOf : Profile → Sender → List ℕ → Heard → Reply → List ℕ → Received × List ℕ
 receiveOf p s a h r payload =
@@ -65,3 +69,26 @@ findOf p s a off =
 -- the bytes of the piece at an offset; none where the call is refused or no piece is there
 unfoldable pub pieceOf : Profile → Sender → List ℕ → ℕ → List ℕ
 pieceOf p s a off = cond (passed (standing p s a false)) (L.find off (view s a .pieces)) []
+
+-- ---- data_burst: 1 2 3 4 10
+
+-- no burst
+abbrev pub noBurst : Outgoing
+noBurst =
+    record {
+      wave = 0;
+      code = 0;
+      user = 0;
+      extra = 0;
+      cue = false;
+      «td_ease» = false;
+      number = 0;
+      frames = record { off = replicate maxSlots 0; len = replicate maxSlots 0; start = replicate maxSlots 0; bits = replicate maxSlots 0; n = 0 };
+    }
+
+-- the answer with the next record, the work area, the output
+unfoldable pub burstCall : Profile → Sender → List ℕ → List ℕ → Bursted × (List ℕ × List ℕ)
+burstCall p s a out =
+    let v = burstVerdict p s a (length out) in
+    let b = burstOf p s a out in
+    cond (passed v) (record { verdict = v; outgoing = b .0 .0; next = b .0 .1 }, b .1) (record { verdict = v; outgoing = noBurst; next = s }, (a, out))

@@ -1,14 +1,14 @@
 -- What the sender turns down (document 01), in this order. Definitions only.
 use mathlib.Core.List.{List, [], _∷_}
 use mathlib.Core.Bool.{Bool, true, false, cond, not, _&&_, _||_}
-use Prim.Native.Nat.{ℕ, _+_}
+use Prim.Native.Nat.{ℕ, _+_, _*_}
 use lib.Dec.{leb, ltb, eqb}
 use lib.Ieee.{Float, le, neg}
 use Rattle.laws.specs.Tests.{all}
 use Rattle.ieee.specs.Range.{w32, w64}
 use Rattle.limits.specs.Ranges.{inRange, inOrder, inside}
 use Rattle.config.specs.declared.Profile.{Profile}
-use Rattle.ledger.specs.Limits.{maxNumber, tinyAll}
+use Rattle.ledger.specs.Limits.{maxSlots, maxNumber, tinyAll}
 use Rattle.queued.specs.Queued.{queueRefusal}
 use Rattle.record.specs.declared.Sender.{Sender}
 use Rattle.checks.specs.Checked.{soundOk}
@@ -93,3 +93,7 @@ queueVerdict p s a n = firstOf (standing p s a false) (roomVerdict s n)
 -- a reply with a payload of n bytes: 1 2 3 4 5 6 7
 unfoldable pub receiveVerdict : Profile → Sender → List ℕ → Heard → Reply → ℕ → Verdict
 receiveVerdict p s a h r n = firstOf (standing p s a (eqb (kindOf r) 0)) (replyVerdict s h r n)
+
+-- a burst into n bytes of output: 1 2 3 4 10. 10: "The output is shorter than 64 times the long frame"
+unfoldable pub burstVerdict : Profile → Sender → List ℕ → ℕ → Verdict
+burstVerdict p s a n = firstOf (standing p s a false) (cond (ltb n (maxSlots * p .«long_bytes»)) ShortOutput Accepted)

@@ -16,6 +16,8 @@ use limits::in_order;
 use limits::in_range;
 use lookup::Found;
 use moves::copy_in;
+use outgoing::Frames;
+use outgoing::Outgoing;
 use queued::queue_refusal;
 use record::Sender;
 ghost use mathlib.Core.Path.{_≡_};
@@ -23,8 +25,8 @@ ghost use Rattle.ack.specs.Ack.{ackOf};
 ghost use Rattle.limits.specs.Ranged.{Ranged};
 ghost use Rattle.record.specs.Fresh.{fresh};
 ghost use Rattle.answers.specs.Answers.{Answerable};
-ghost use Rattle.sender.specs.Verdicts.{numberOf, kindOf, standing as standingOf, timeOk, reportOk, heardOk, replyOk, queueVerdict, receiveVerdict};
-ghost use Rattle.sender.specs.Calls.{queueOf, longRead, answered, receiveOf, findOf, pieceOf};
+ghost use Rattle.sender.specs.Verdicts.{numberOf, kindOf, standing as standingOf, timeOk, reportOk, heardOk, replyOk, queueVerdict, receiveVerdict, burstVerdict};
+ghost use Rattle.sender.specs.Calls.{queueOf, longRead, answered, receiveOf, findOf, pieceOf, noBurst, burstCall};
 
 // What becomes of a call: document 01's refusals 1 to 10, each by its name.
 pub enum Verdict {
@@ -56,6 +58,12 @@ pub struct Queued {
 
 pub struct Received {
     pub verdict: Verdict,
+    pub next: Sender,
+}
+
+pub struct Bursted {
+    pub verdict: Verdict,
+    pub outgoing: Outgoing,
     pub next: Sender,
 }
 
@@ -293,4 +301,63 @@ pub fn piece(p: Profile, s: Sender, a: &[u8], off: u32) -> &[u8]
     }
     let n = s.counts.pieces;
     lookup::piece(a, n, off)
+}
+
+// Refusals of a burst into n bytes: 1 2 3 4 10.
+fn burst_verdict(p: Profile, s: Sender, a: &[u8], n: usize) -> Verdict
+    ensures { λ r. ⌜ r ≡ burstVerdict p s (now (a .entry)) n ⌝ }
+{
+    let v = standing(p, s, a, false);
+    if number(v) != 0 {
+        return v;
+    }
+    if n < 64 * (p.long_bytes as usize) {
+        return Verdict::ShortOutput;
+    }
+    Verdict::Accepted
+}
+
+fn no_burst() -> Outgoing
+    ensures { λ r. ⌜ r ≡ noBurst ⌝ }
+{
+    Outgoing {
+        wave: 0,
+        code: 0,
+        user: 0,
+        extra: 0,
+        cue: false,
+        td_ease: false,
+        number: 0,
+        frames: Frames {
+            off: [0; 64],
+            len: [0; 64],
+            start: [0; 64],
+            bits: [0; 64],
+            n: 0,
+        },
+    }
+}
+
+// data_burst: the next burst. Its frames stand in the output back to back.
+pub fn data_burst(p: Profile, s: Sender, a: &mut [u8], out: &mut [u8]) -> Bursted
+    ensures { λ r. ⌜ (r, (now (a .exit), now (out .exit))) ≡ burstCall p s (now (a .entry)) (now (out .entry)) ⌝ }
+{
+    let n = out.len();
+    let v = burst_verdict(p, s, a, n);
+    if number(v) != 0 {
+        let outgoing = no_burst();
+        return Bursted {
+            verdict: v,
+            outgoing,
+            next: s,
+        };
+    }
+    let b = sending::data_burst(p, s, a, out);
+    let outgoing = b.outgoing;
+    let next = b.next;
+    Bursted {
+        verdict: v,
+        outgoing,
+        next,
+    }
 }

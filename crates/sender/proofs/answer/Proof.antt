@@ -7,12 +7,25 @@ use native.Mathlib.Omega.{arith}
 use Rattle.record.specs.declared.Sender.{Sender}
 use Rattle.sender.specs.declared.Reply.{Reply}
 use Rattle.sender.specs.Calls.{answered}
-use borrow.Author.Needs.{needs}
+use borrow.Author.Needs.{needs, length-unmapped}
+use Rattle.ledger.specs.Limits.{maxSlots}
+use Rattle.record.proofs.View.{Arrays}
+use Rattle.answers.proofs.Turned.{turned-is}
 use Rattle.sender.proofs.answer.Statement.{statement}
 use Rattle.sender.proofs.answer.Tie as tie
 
 abbrev reply : tie.Start → Reply → Sender × List ℕ
 reply s r = answered (s .args .p) (s .args .h) r (now (s .args .payload)) (s .args .s) (now (s .args .a))
+
+arrays : (s : tie.Start) → Arrays (s .args .s)
+arrays s =
+    record {
+      heldOff = length-unmapped ℕ (s .args .s .«at_peer» .off) maxSlots (s .good .1 .0 .1 .1 .1 .1 .1 .0 .1 .1 .0 .1 .0 .1);
+      heldBits = length-unmapped ℕ (s .args .s .«at_peer» .bits) maxSlots (s .good .1 .0 .1 .1 .1 .1 .1 .0 .1 .1 .1 .0 .1 .0 .1);
+      sentOff = length-unmapped ℕ (s .args .s .«last_burst» .off) maxSlots (s .good .1 .0 .1 .1 .1 .1 .1 .1 .0 .1 .1 .0 .1 .0 .1);
+      sentBits = length-unmapped ℕ (s .args .s .«last_burst» .bits) maxSlots (s .good .1 .0 .1 .1 .1 .1 .1 .1 .0 .1 .1 .1 .0 .1 .0 .1);
+      sentHeld = length-unmapped ℕ (s .args .s .«last_burst» .held) maxSlots (s .good .1 .0 .1 .1 .1 .1 .1 .1 .0 .1 .1 .1 .1 .0 .1 .0 .1);
+    }
 
 enum-known-r : tie.Need-enum-known-r
 enum-known-r c = search needs
@@ -54,7 +67,11 @@ returns-3 : tie.Need-returns-3
 returns-3 c = c .before .before .hear-payload .ensures ∙ sym (ap (reply (c .before .before .before .before .before .before .before .before .before)) (c .before .before .before .before .before .r3 .given .1))
 
 returns-4 : tie.Need-returns-4
-returns-4 c = let s = c .before .before .before .before .before .before in ap (λ (q : Sender). (q, now (s .args .a))) (c .hear-turn .ensures) ∙ sym (ap (reply s) (c .before .before .r4 .given .1))
+returns-4 c =
+    let s = c .before .before .before .before .before .before in
+    ap (λ (q : Sender). (q, now (s .args .a))) (c .hear-turn .ensures)
+    ∙ turned-is (s .args .p) (s .args .s) (now (s .args .a)) (s .pre .1) (arrays s) (λ k. c .before .before .before .before .before .slice-known .given k .fits) (s .args .h) _
+    ∙ sym (ap (reply s) (c .before .before .r4 .given .1))
 
 pub answer-spec : {M : Type 1} → statement M
 answer-spec =
