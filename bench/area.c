@@ -5,7 +5,7 @@
 #include <stdio.h>
 #include <stdlib.h>
 #include <string.h>
-#include <time.h>
+#include "timing.h"
 
 bool vanitycrow_sound(const uint8_t *a, size_t a_len, size_t n, uint32_t shortest, uint32_t longest, uint32_t next, uint32_t flying,
                       const uint32_t *held, size_t held_len, const uint32_t *held_bits, size_t held_bits_len, uint32_t top,
@@ -60,17 +60,6 @@ static size_t sound(void) {
 }
 static size_t merge(void) { return vanitycrow_merge(area, AREA, PIECES, LONG, held, SLOTS); }
 static size_t settle(void) { return vanitycrow_remove(area, AREA, PIECES, FLYING + WAITING, held, SLOTS); }
-
-static double seconds(void) {
-    struct timespec t;
-    clock_gettime(CLOCK_MONOTONIC, &t);
-    return t.tv_sec + t.tv_nsec * 1e-9;
-}
-
-static int less(const void *a, const void *b) {
-    double x = *(const double *)a, y = *(const double *)b;
-    return (x > y) - (x < y);
-}
 
 /* The median of SAMPLES samples, each of CALLS calls on an area that is laid anew before each, untimed. */
 static int measure(const char *name, enum lie how, size_t (*call)(void), size_t answer, double target) {

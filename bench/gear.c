@@ -2,7 +2,7 @@
 #include <stdint.h>
 #include <stdio.h>
 #include <stdlib.h>
-#include <time.h>
+#include "timing.h"
 
 /* The level after n acks, each of nine frames of ten. */
 size_t vanitycrow_acks(uint64_t n, float snr_db, double now);
@@ -10,17 +10,6 @@ size_t vanitycrow_acks(uint64_t n, float snr_db, double now);
 enum { SAMPLES = 201, ACKS = 200 };
 
 static volatile size_t sink;
-
-static double seconds(void) {
-    struct timespec t;
-    clock_gettime(CLOCK_MONOTONIC, &t);
-    return t.tv_sec + t.tv_nsec * 1e-9;
-}
-
-static int less(const void *a, const void *b) {
-    double x = *(const double *)a, y = *(const double *)b;
-    return (x > y) - (x < y);
-}
 
 int main(int count, char **words) {
     static double t[SAMPLES];

@@ -4,7 +4,7 @@
 #include <stdio.h>
 #include <stdlib.h>
 #include <string.h>
-#include <time.h>
+#include "timing.h"
 
 uint32_t vanitycrow_crc32(const uint8_t *bytes, size_t len);
 void vanitycrow_frames(uint8_t *out, size_t out_len, size_t count, size_t size, const uint8_t *payload, size_t payload_len);
@@ -20,17 +20,6 @@ static volatile uint32_t sink;
 static void by_tables(void) { bytes[0]++; sink += vanitycrow_crc32(bytes, SIZE); }
 static void by_bits(void) { bytes[0]++; sink += bitwise(bytes, SIZE); }
 static void frames(void) { payload[0]++; vanitycrow_frames(out, sizeof out, FRAMES, SIZE, payload, PAYLOAD); sink += out[sizeof out - 1]; }
-
-static double seconds(void) {
-    struct timespec t;
-    clock_gettime(CLOCK_MONOTONIC, &t);
-    return t.tv_sec + t.tv_nsec * 1e-9;
-}
-
-static int less(const void *a, const void *b) {
-    double x = *(const double *)a, y = *(const double *)b;
-    return (x > y) - (x < y);
-}
 
 /* The median of SAMPLES samples, each of `times` calls, and the quartiles as its spread. In nanoseconds a call. */
 static double measure(const char *name, void (*call)(void), int times) {
