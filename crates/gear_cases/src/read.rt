@@ -9,29 +9,10 @@ use config::Profile;
 use harq::Harq;
 use moves::load32;
 use moves::load64;
+use patterns::of_bits32;
+use patterns::of_bits64;
 ghost use Prim.Native.Nat.{_+_, _*_, _≤_, _<_};
 ghost use lib.ListN.{length};
-
-// The f64 of a pattern; 0 for a NaN's, of which none is stored.
-fn of_bits64(n: u64) -> f64 {
-    if n % 4503599627370496 == 0 {
-        return f64::from_bits(n);
-    }
-    if n % 9223372036854775808 / 4503599627370496 == 2047 {
-        return 0.0;
-    }
-    f64::from_bits(n)
-}
-
-fn of_bits32(n: u32) -> f32 {
-    if n % 8388608 == 0 {
-        return f32::from_bits(n);
-    }
-    if n % 2147483648 / 8388608 == 255 {
-        return 0.0;
-    }
-    f32::from_bits(n)
-}
 
 pub(crate) fn f64_at(a: &[u8], at: usize) -> f64
     requires { ⌜ at + 8 ≤ length (now a) ⌝ }

@@ -1,9 +1,9 @@
--- `read::of_bits64` is safe: what has a float is no NaN's pattern. Assumes nothing.
-use lib.Ieee.{binary64}
+-- `of_bits64`: what goes to `from_bits` is no NaN's pattern, and the rest are NaN's. Assumes nothing.
+use lib.Ieee.{binary64, div, ofBits}
 use borrow.Author.Needs.{needs}
-use Rattle.gear_cases.proofs.Bits.{no-digits, below-ones}
-use Rattle.gear_cases.proofs.read.of_bits64.Statement.{statement}
-use Rattle.gear_cases.proofs.read.of_bits64.Tie as tie
+use Rattle.patterns.proofs.Bits.{no-digits, below-ones, all-ones}
+use Rattle.patterns.proofs.of_bits64.Statement.{statement}
+use Rattle.patterns.proofs.of_bits64.Tie as tie
 
 float-from-bits-result : tie.Need-float-from-bits-result
 float-from-bits-result c = no-digits binary64 _ (c .if1 .taken)
@@ -12,7 +12,8 @@ returns : tie.Need-returns
 returns c = search needs
 
 returns-2 : tie.Need-returns-2
-returns-2 c = search needs
+unfolding div ofBits
+returns-2 c = all-ones binary64 _ (c .if2 .taken) (c .before .if1 .left)
 
 float-from-bits-result-2 : tie.Need-float-from-bits-result-2
 float-from-bits-result-2 c = below-ones binary64 _ (c .if2 .left)

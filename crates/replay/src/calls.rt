@@ -1,0 +1,508 @@
+// The calls of a list and their answers (call-list.md, Calls and their answers).
+use crate::profile::single_of;
+use crate::state::state;
+use crate::text::flag as put_flag;
+use crate::text::hex as put_hex;
+use crate::text::least;
+use crate::text::newline;
+use crate::text::puts;
+use crate::text::whole as put_whole;
+use crate::text::wide;
+use crate::words::NONE;
+use crate::words::Read;
+use crate::words::done;
+use crate::words::double;
+use crate::words::flag;
+use crate::words::hex;
+use crate::words::none;
+use crate::words::single;
+use crate::words::whole;
+use answers::Ack;
+use answers::ConnAck;
+use answers::Heard;
+use answers::LongAck;
+use answers::Turn;
+use config::MaybeDb;
+use config::Profile;
+use outgoing::Frames;
+use outgoing::Outgoing;
+use patterns::of_bits64;
+use record::Sender;
+use report::ChanClass;
+use sender::Bursted;
+use sender::Reply;
+use sender::data_burst;
+use sender::number;
+use sender::queue;
+use sender::sender_rx;
+ghost use Prim.Native.Nat.{_≤_, _<_};
+
+// The run so far: the profile and the sender, what is lent of the work area and of the output, and what is used of the text's
+// buffer; `stage` counts the profile's lines read, `ok` is false after a line that breaks the rules.
+pub struct Run {
+    pub stage: usize,
+    pub ok: bool,
+    pub p: Profile,
+    pub s: Sender,
+    pub area: usize,
+    pub out: usize,
+    pub text: usize,
+}
+
+// A reply's time, wave and dB measured here, and how far its line was read.
+pub struct Hearing {
+    pub heard: Heard,
+    pub read: Read,
+}
+
+pub(crate) fn failed(mut run: Run) -> Run {
+    run.ok = false;
+    run
+}
+
+// The next record, and more text.
+fn moved(mut run: Run, s: Sender, n: usize) -> Run {
+    run.s = s;
+    run.text = n;
+    run
+}
+
+fn with_text(mut run: Run, n: usize) -> Run {
+    run.text = n;
+    run
+}
+
+// A number too wide for its field is the largest.
+fn u8_of(n: u64) -> u8 {
+    if n < 256 { n as u8 } else { 255 }
+}
+
+// `ok`, or `refused` and the number.
+fn answer(t: &mut [u8], n: usize, name: &[u8], refusal: u8) -> usize {
+    let n = puts(t, n, name);
+    if refusal == 0 {
+        return puts(t, n, b" ok\n");
+    }
+    let n = puts(t, n, b" refused");
+    let n = put_whole(t, n, refusal as u64);
+    newline(t, n)
+}
+
+// T, W and HERE.
+fn heard_first(line: &[u8], r: Read) -> Hearing {
+    let time = double(line, r);
+    let wave = whole(line, time);
+    let here = single(line, wave);
+    Hearing {
+        heard: Heard {
+            time: of_bits64(time.value),
+            wave: u8_of(wave.value),
+            snr_db: single_of(here.value),
+        },
+        read: here,
+    }
+}
+
+fn receive(
+    run: Run,
+    area: &mut [u8],
+    t: &mut [u8],
+    h: Heard,
+    reply: Reply,
+    payload: &[u8],
+    name: &[u8],
+) -> Run {
+    let lent = least(run.area, area);
+    let q = sender_rx(run.p, run.s, &mut area[..lent], h, reply, payload);
+    let v = q.verdict;
+    let n = answer(t, run.text, name, number(v));
+    let next = q.next;
+    moved(run, next, n)
+}
+
+pub(crate) fn connect(
+    line: &[u8],
+    r: Read,
+    run: Run,
+    area: &mut [u8],
+    t: &mut [u8],
+    bytes: &[u8],
+) -> Run {
+    let h = heard_first(line, r);
+    let session = whole(line, h.read);
+    let db = single(line, session);
+    let echo = flag(line, db);
+    let doppler = flag(line, echo);
+    let slot = whole(line, doppler);
+    let cue = flag(line, slot);
+    if !done(line, cue) {
+        return failed(run);
+    }
+    let reply = ConnAck {
+        session: (session.value % 256) as u8,
+        snr_db: single_of(db.value),
+        class: ChanClass {
+            echo: echo.value == 1,
+            doppler: doppler.value == 1,
+        },
+        slot: u8_of(slot.value),
+        cue: cue.value == 1,
+    };
+    receive(
+        run,
+        area,
+        t,
+        h.heard,
+        Reply::ConnAck(reply),
+        &bytes[..0],
+        b"connect",
+    )
+}
+
+pub(crate) fn short(
+    line: &[u8],
+    r: Read,
+    run: Run,
+    area: &mut [u8],
+    t: &mut [u8],
+    bytes: &[u8],
+) -> Run {
+    let h = heard_first(line, r);
+    let burst = whole(line, h.read);
+    let bitmap = whole(line, burst);
+    let db = single(line, bitmap);
+    let turn = flag(line, db);
+    let disc = flag(line, turn);
+    let stored = flag(line, disc);
+    let echo = flag(line, stored);
+    let doppler = flag(line, echo);
+    let slot = whole(line, doppler);
+    if !done(line, slot) {
+        return failed(run);
+    }
+    let reply = Ack {
+        burst: u8_of(burst.value),
+        bitmap: u8_of(bitmap.value),
+        snr_db: single_of(db.value),
+        want_turn: turn.value == 1,
+        want_disc: disc.value == 1,
+        stored: stored.value == 1,
+        class: ChanClass {
+            echo: echo.value == 1,
+            doppler: doppler.value == 1,
+        },
+        slot: u8_of(slot.value),
+    };
+    receive(
+        run,
+        area,
+        t,
+        h.heard,
+        Reply::Ack(reply),
+        &bytes[..0],
+        b"short",
+    )
+}
+
+// A long ack's line: the reply, how many bytes its payload has, and how far it was read.
+pub struct LongLine {
+    pub hearing: Hearing,
+    pub reply: LongAck,
+    pub payload: usize,
+    pub ok: bool,
+}
+
+fn long_words(line: &[u8], r: Read, bytes: &mut [u8]) -> LongLine {
+    let hearing = heard_first(line, r);
+    let turn = flag(line, hearing.read);
+    let disc = flag(line, turn);
+    let stored = flag(line, disc);
+    let payload = hex(line, stored, bytes);
+    LongLine {
+        hearing,
+        reply: LongAck {
+            want_turn: turn.value == 1,
+            want_disc: disc.value == 1,
+            stored: stored.value == 1,
+        },
+        payload: payload.value as usize,
+        ok: done(line, payload),
+    }
+}
+
+fn long_call(q: LongLine, run: Run, area: &mut [u8], t: &mut [u8], bytes: &[u8]) -> Run {
+    let n = least(q.payload, bytes);
+    let h = q.hearing;
+    let reply = q.reply;
+    receive(
+        run,
+        area,
+        t,
+        h.heard,
+        Reply::LongAck(reply),
+        &bytes[..n],
+        b"long",
+    )
+}
+
+pub(crate) fn long(
+    line: &[u8],
+    r: Read,
+    run: Run,
+    area: &mut [u8],
+    t: &mut [u8],
+    bytes: &mut [u8],
+) -> Run {
+    let q = long_words(line, r, bytes);
+    if !q.ok {
+        return failed(run);
+    }
+    long_call(q, run, area, t, bytes)
+}
+
+pub(crate) fn turn(
+    line: &[u8],
+    r: Read,
+    run: Run,
+    area: &mut [u8],
+    t: &mut [u8],
+    bytes: &[u8],
+) -> Run {
+    let h = heard_first(line, r);
+    let no_db = none(line, h.read);
+    let db = single(line, h.read);
+    if !(done(line, no_db) | done(line, db)) {
+        return failed(run);
+    }
+    let report = MaybeDb {
+        set: !no_db.ok,
+        db: single_of(db.value),
+    };
+    receive(
+        run,
+        area,
+        t,
+        h.heard,
+        Reply::Turn(Turn { report }),
+        &bytes[..0],
+        b"turn",
+    )
+}
+
+fn queue_call(n: usize, run: Run, area: &mut [u8], t: &mut [u8], bytes: &[u8]) -> Run {
+    let k = least(n, bytes);
+    let lent = least(run.area, area);
+    let q = queue(run.p, run.s, &mut area[..lent], &bytes[..k]);
+    let v = q.verdict;
+    let text = answer(t, run.text, b"queue", number(v));
+    let next = q.next;
+    moved(run, next, text)
+}
+
+pub(crate) fn queue_bytes(
+    line: &[u8],
+    r: Read,
+    run: Run,
+    area: &mut [u8],
+    t: &mut [u8],
+    bytes: &mut [u8],
+) -> Run {
+    let read = hex(line, r, bytes);
+    if !done(line, read) {
+        return failed(run);
+    }
+    queue_call(read.value as usize, run, area, t, bytes)
+}
+
+// The numbers of a frame.
+fn frame_numbers(t: &mut [u8], n: usize, f: Frames, i: usize) -> usize
+    requires { ⌜ i < 64 ⌝ }
+{
+    let off = wide(f.off[i]);
+    let len = wide(f.len[i]);
+    let start = wide(f.start[i]);
+    let bits = wide(f.bits[i]);
+    let n = puts(t, n, b"frame");
+    let n = put_whole(t, n, off);
+    let n = put_whole(t, n, len);
+    let n = put_whole(t, n, start);
+    put_whole(t, n, bits)
+}
+
+// The bytes of a frame of `size` bytes.
+fn frame_bytes(t: &mut [u8], n: usize, out: &[u8], from: usize, size: usize) -> usize {
+    let to = after(from, size);
+    if from > to {
+        return n;
+    }
+    if to > out.len() {
+        return n;
+    }
+    let n = put_hex(t, n, &out[from..to]);
+    newline(t, n)
+}
+
+fn frame(
+    t: &mut [u8],
+    n: usize,
+    f: Frames,
+    i: usize,
+    out: &[u8],
+    from: usize,
+    size: usize,
+) -> usize {
+    if i >= 64 {
+        return n;
+    }
+    let n = frame_numbers(t, n, f, i);
+    frame_bytes(t, n, out, from, size)
+}
+
+// Where a frame of `size` bytes ends: no frame is larger than the output.
+fn after(from: usize, size: usize) -> usize {
+    if from > 32768 {
+        return from;
+    }
+    if size > 32768 {
+        return from;
+    }
+    from + size
+}
+
+fn frames(t: &mut [u8], n: usize, f: Frames, out: &[u8], size: usize) -> usize {
+    let mut n = n;
+    let mut from: usize = 0;
+    let mut i: usize = 0;
+    while i < f.n {
+        n = frame(t, n, f, i, out, from, size);
+        from = after(from, size);
+        i += 1;
+    }
+    n
+}
+
+fn burst_words(t: &mut [u8], n: usize, b: Outgoing) -> usize {
+    let n = puts(t, n, b"burst ok");
+    let n = put_whole(t, n, b.wave as u64);
+    let n = put_whole(t, n, b.code as u64);
+    let n = put_whole(t, n, b.user as u64);
+    put_whole(t, n, b.extra as u64)
+}
+
+fn burst_line(t: &mut [u8], n: usize, b: Outgoing) -> usize {
+    let f = b.frames;
+    let n = burst_words(t, n, b);
+    let n = put_flag(t, n, b.cue);
+    let n = put_flag(t, n, b.td_ease);
+    let n = put_whole(t, n, f.n as u64);
+    newline(t, n)
+}
+
+// A frame's size at the level of the record.
+fn frame_size(p: Profile, s: Sender) -> usize {
+    let g = s.gear;
+    if g.level < 17 {
+        return p.frame_bytes(g.level) as usize;
+    }
+    0
+}
+
+// The answer to a burst, whose frames stand in the output.
+fn burst_answer(run: Run, b: Bursted, t: &mut [u8], out: &[u8]) -> Run {
+    let v = b.verdict;
+    let refusal = number(v);
+    if refusal != 0 {
+        let n = answer(t, run.text, b"burst", refusal);
+        return with_text(run, n);
+    }
+    let sent = b.outgoing;
+    let n = burst_line(t, run.text, sent);
+    let n = frames(t, n, sent.frames, out, frame_size(run.p, run.s));
+    let next = b.next;
+    moved(run, next, n)
+}
+
+fn burst_call(run: Run, area: &mut [u8], out: &mut [u8]) -> Bursted {
+    let lent = least(run.area, area);
+    let most = least(run.out, out);
+    data_burst(run.p, run.s, &mut area[..lent], &mut out[..most])
+}
+
+pub(crate) fn burst(
+    line: &[u8],
+    r: Read,
+    run: Run,
+    area: &mut [u8],
+    t: &mut [u8],
+    out: &mut [u8],
+) -> Run {
+    if !done(line, r) {
+        return failed(run);
+    }
+    let b = burst_call(run, area, out);
+    burst_answer(run, b, t, out)
+}
+
+// A piece that is there.
+fn piece_bytes(run: Run, area: &[u8], t: &mut [u8], n: usize, off: u32) -> usize {
+    let lent = least(run.area, area);
+    let b = sender::piece(run.p, run.s, &area[..lent], off);
+    let n = puts(t, n, b"piece");
+    let n = put_hex(t, n, b);
+    newline(t, n)
+}
+
+pub(crate) fn piece(line: &[u8], r: Read, run: Run, area: &[u8], t: &mut [u8]) -> Run {
+    let q = whole(line, r);
+    if !done(line, q) {
+        return failed(run);
+    }
+    let lent = least(run.area, area);
+    let off = (q.value % 4294967296) as u32;
+    let f = sender::find(run.p, run.s, &area[..lent], off);
+    let v = f.verdict;
+    let refusal = number(v);
+    if refusal != 0 {
+        let n = answer(t, run.text, b"piece", refusal);
+        return with_text(run, n);
+    }
+    let found = f.found;
+    if found.here & (q.value < 4294967296) {
+        let n = piece_bytes(run, area, t, run.text, off);
+        return with_text(run, n);
+    }
+    let n = puts(t, run.text, b"piece none\n");
+    with_text(run, n)
+}
+
+pub(crate) fn show(line: &[u8], r: Read, run: Run, area: &[u8], t: &mut [u8]) -> Run {
+    if !done(line, r) {
+        return failed(run);
+    }
+    let n = state(t, run.text, run.s, area);
+    with_text(run, n)
+}
+
+pub(crate) fn lend_area(line: &[u8], r: Read, run: Run, t: &mut [u8]) -> Run {
+    let q = whole(line, r);
+    if !done(line, q) | (q.value > 65536) {
+        return failed(run);
+    }
+    let n = puts(t, run.text, b"area ok\n");
+    let mut after = run;
+    after.area = q.value as usize;
+    after.text = n;
+    after
+}
+
+pub(crate) fn lend_out(line: &[u8], r: Read, run: Run, t: &mut [u8]) -> Run {
+    let q = whole(line, r);
+    if !done(line, q) | (q.value > 32768) {
+        return failed(run);
+    }
+    let n = puts(t, run.text, b"out ok\n");
+    let mut after = run;
+    after.out = q.value as usize;
+    after.text = n;
+    after
+}
