@@ -225,6 +225,8 @@ pub struct Reader<'a> {
     line: usize,
     /// A whole profile has been read.
     ready: bool,
+    /// Inside a profile that is not whole.
+    in_profile: bool,
     failed: bool,
 }
 
@@ -234,8 +236,14 @@ impl<'a> Reader<'a> {
             rest: text,
             line: 0,
             ready: false,
+            in_profile: false,
             failed: false,
         }
+    }
+
+    /// Whether the reading has ended inside a profile.
+    pub fn in_profile(&self) -> bool {
+        self.in_profile
     }
 
     /// The words of the next line that isn't passed over; None at the end.
@@ -282,7 +290,9 @@ impl<'a> Reader<'a> {
 
     fn item(&mut self, words: &[&[u8]]) -> Result<Item, usize> {
         if words == [b"profile"] {
+            self.in_profile = true;
             let profile = self.profile()?;
+            self.in_profile = false;
             self.ready = true;
             return Ok(Item::Profile(profile));
         }

@@ -179,9 +179,14 @@ fn end(out: &mut String, h: Option<&Harness>) {
 pub fn transcript(text: &[u8]) -> String {
     let mut out = String::new();
     let mut sender: Option<Harness> = None;
-    for item in Reader::new(text) {
+    let mut reader = Reader::new(text);
+    while let Some(item) = reader.next() {
         match item {
             Err(line) => {
+                // `end` comes before a later `profile`, a broken one too.
+                if reader.in_profile() && sender.is_some() {
+                    end(&mut out, sender.as_ref());
+                }
                 let _ = writeln!(out, "error {line}");
                 return out;
             }
