@@ -21,14 +21,14 @@ use Rattle.record.proofs.View.{Arrays}
 use Rattle.checks.proofs.Sound.{test-sound, sound-counted, sound-level, sound-settling}
 use Rattle.answers.specs.Answers.{Answerable}
 use Rattle.answers.specs.declared.Heard.{Heard}
-use Rattle.sender.specs.declared.Verdict.{Verdict}
-use Rattle.sender.specs.declared.Reply.{Reply}
+use Rattle.verdicts.specs.declared.Verdict.{Verdict}
+use Rattle.verdicts.specs.declared.Reply.{Reply}
 use Rattle.sender.specs.declared.Queued.{Queued}
 use Rattle.sender.specs.declared.Received.{Received}
 use Rattle.sender.specs.declared.Finding.{Finding}
-use Rattle.sender.specs.Verdicts.{passed, standing, queueVerdict, receiveVerdict}
+use Rattle.verdicts.specs.Verdicts.{passed, standing, queueVerdict, receiveVerdict}
 use Rattle.sender.specs.Calls.{queueOf, answered, receiveOf, findOf, pieceOf}
-use Rattle.sender.proofs.Passed.{queue-passed, queue-room, receive-passed}
+use Rattle.verdicts.proofs.Passed.{queue-passed, queue-room, receive-passed}
 use Rattle.sender.proofs.Queuing.{withWaiting, queue-area, queue-record}
 
 abbrev queued : Verdict → Sender → List ℕ → Queued × List ℕ

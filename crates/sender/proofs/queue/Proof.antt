@@ -10,10 +10,10 @@ use Rattle.laws.proofs.Picks.{cond-no}
 use Rattle.ledger.specs.Limits.{maxSlots, maxWaiting}
 use Rattle.table.specs.Layout.{areaBytes, streamBytes}
 use Rattle.record.proofs.View.{Arrays}
-use Rattle.sender.specs.declared.Verdict.{Verdict}
-use Rattle.sender.specs.Verdicts.{passed, queueVerdict}
+use Rattle.verdicts.specs.declared.Verdict.{Verdict}
+use Rattle.verdicts.specs.Verdicts.{passed, queueVerdict}
 use Rattle.sender.specs.Calls.{queueOf}
-use Rattle.sender.proofs.Passed.{is-passed, not-passed, queue-room}
+use Rattle.verdicts.proofs.Passed.{is-passed, not-passed, queue-room}
 use Rattle.sender.proofs.Answered.{queue-accepted}
 use borrow.Author.Needs.{needs}
 use Rattle.sender.proofs.queue.Statement.{statement}

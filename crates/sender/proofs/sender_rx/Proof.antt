@@ -8,10 +8,10 @@ use borrow.Author.Needs.{length-unmapped}
 use Rattle.laws.proofs.Picks.{cond-no}
 use Rattle.ledger.specs.Limits.{maxSlots}
 use Rattle.record.proofs.View.{Arrays}
-use Rattle.sender.specs.declared.Verdict.{Verdict}
-use Rattle.sender.specs.Verdicts.{passed, receiveVerdict}
+use Rattle.verdicts.specs.declared.Verdict.{Verdict}
+use Rattle.verdicts.specs.Verdicts.{passed, receiveVerdict}
 use Rattle.sender.specs.Calls.{receiveOf}
-use Rattle.sender.proofs.Passed.{is-passed, not-passed}
+use Rattle.verdicts.proofs.Passed.{is-passed, not-passed}
 use Rattle.sender.proofs.Answered.{answer-ranged, answerable, receive-accepted}
 use borrow.Author.Needs.{needs}
 use Rattle.sender.proofs.sender_rx.Statement.{statement}

@@ -13,10 +13,10 @@ use Rattle.queued.specs.Queued.{queueRefusal}
 use Rattle.record.specs.declared.Sender.{Sender}
 use Rattle.checks.specs.Checked.{soundOk}
 use Rattle.answers.specs.declared.Heard.{Heard}
-use Rattle.sender.specs.declared.Verdict.{Verdict}
-use Rattle.sender.specs.declared.Verdict.the-variants.{Accepted, ProfileOutOfRange, ShortOverLong, Unsound, OutOfTurn, BadTime, BadValue, ShortPayload, QueueFull, AllTaken, ShortOutput}
-use Rattle.sender.specs.declared.Reply.{Reply}
-use Rattle.sender.specs.declared.Reply.the-variants.{ConnAck, Ack, LongAck, Turn}
+use Rattle.verdicts.specs.declared.Verdict.{Verdict}
+use Rattle.verdicts.specs.declared.Verdict.the-variants.{Accepted, ProfileOutOfRange, ShortOverLong, Unsound, OutOfTurn, BadTime, BadValue, ShortPayload, QueueFull, AllTaken, ShortOutput}
+use Rattle.verdicts.specs.declared.Reply.{Reply}
+use Rattle.verdicts.specs.declared.Reply.the-variants.{ConnAck, Ack, LongAck, Turn}
 
 -- document 01's number of each: 0 where the call is accepted
 abbrev pub numberOf : Verdict → ℕ

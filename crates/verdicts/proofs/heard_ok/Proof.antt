@@ -1,8 +1,8 @@
--- `sender::heard_ok` meets its contract.
-use Rattle.sender.specs.Verdicts.{heardOk}
+-- `verdicts::heard_ok` meets its contract.
+use Rattle.verdicts.specs.Verdicts.{heardOk}
 use borrow.Author.Needs.{needs}
-use Rattle.sender.proofs.heard_ok.Statement.{statement}
-use Rattle.sender.proofs.heard_ok.Tie as tie
+use Rattle.verdicts.proofs.heard_ok.Statement.{statement}
+use Rattle.verdicts.proofs.heard_ok.Tie as tie
 
 report-ok-requires : tie.Need-report-ok-requires
 report-ok-requires c κs = search needs

@@ -1,10 +1,10 @@
--- `sender::report_ok` meets its contract.
+-- `verdicts::report_ok` meets its contract.
 use lib.Ieee.{ofInt, ofBits, neg}
 use Rattle.limits.specs.Ranges.{inside}
-use Rattle.sender.specs.Verdicts.{reportOk}
+use Rattle.verdicts.specs.Verdicts.{reportOk}
 use borrow.Author.Needs.{needs}
-use Rattle.sender.proofs.report_ok.Statement.{statement}
-use Rattle.sender.proofs.report_ok.Tie as tie
+use Rattle.verdicts.proofs.report_ok.Statement.{statement}
+use Rattle.verdicts.proofs.report_ok.Tie as tie
 
 returns : tie.Need-returns
 unfolding inside reportOk ofInt ofBits neg

@@ -1,15 +1,15 @@
--- `sender::receive_verdict` meets its contract.
+-- `verdicts::receive_verdict` meets its contract.
 use denote.Ref.{now}
 use mathlib.Core.Bool.{Bool, true, false, not, _&&_}
 use mathlib.Core.Path.{_≡_, refl, sym, ap, ap₂, _∙_}
 use Prim.Native.Nat.{ℕ}
 use lib.Dec.{eqb, ltb}
 use Rattle.laws.proofs.Picks.{cond-yes, cond-no}
-use Rattle.sender.specs.Verdicts.{kindOf, passed, standing, timeOk, heardOk, replyOk, replyVerdict, receiveVerdict}
-use Rattle.sender.proofs.Passed.{is-passed, not-passed}
+use Rattle.verdicts.specs.Verdicts.{kindOf, passed, standing, timeOk, heardOk, replyOk, replyVerdict, receiveVerdict}
+use Rattle.verdicts.proofs.Passed.{is-passed, not-passed}
 use borrow.Author.Needs.{needs}
-use Rattle.sender.proofs.receive_verdict.Statement.{statement}
-use Rattle.sender.proofs.receive_verdict.Tie as tie
+use Rattle.verdicts.proofs.receive_verdict.Statement.{statement}
+use Rattle.verdicts.proofs.receive_verdict.Tie as tie
 
 stood : (c : tie.After-standing) → let s = c .before .before .before in c .standing .result ≡ standing (s .args .p) (s .args .s) (now (s .args .a)) (eqb (kindOf (s .args .r)) 0)
 stood c = let s = c .before .before .before in c .standing .ensures ∙ ap (λ (k : ℕ). standing (s .args .p) (s .args .s) (now (s .args .a)) (eqb k 0)) (c .before .kind .ensures)

@@ -1,4 +1,4 @@
--- `sender::standing` meets its contract.
+-- `verdicts::standing` meets its contract.
 use denote.Ref.{now}
 use mathlib.Core.Bool.{false, not}
 use mathlib.Core.Path.{_≡_, refl, sym, ap, _∙_}
@@ -7,10 +7,10 @@ use Rattle.laws.proofs.Picks.{cond-yes, cond-no}
 use Rattle.limits.specs.Ranges.{inRange, inOrder}
 use Rattle.limits.proofs.Ranged.{ranged}
 use Rattle.checks.specs.Checked.{soundOk}
-use Rattle.sender.specs.Verdicts.{standing}
+use Rattle.verdicts.specs.Verdicts.{standing}
 use borrow.Author.Needs.{needs}
-use Rattle.sender.proofs.standing.Statement.{statement}
-use Rattle.sender.proofs.standing.Tie as tie
+use Rattle.verdicts.proofs.standing.Statement.{statement}
+use Rattle.verdicts.proofs.standing.Tie as tie
 
 one : (c : tie.Else1) → not (inRange (c .before .before .before .before .args .p)) ≡ false
 one c = sym (ap not (c .before .in-range .ensures)) ∙ c .if1 .left

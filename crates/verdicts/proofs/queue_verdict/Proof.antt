@@ -1,15 +1,15 @@
--- `sender::queue_verdict` meets its contract.
+-- `verdicts::queue_verdict` meets its contract.
 use denote.Ref.{now}
 use mathlib.Core.Bool.{true, false}
 use mathlib.Core.Path.{_≡_, refl, sym, _∙_}
 use native.Mathlib.Omega.{arith}
 use borrow.Author.Tests.{eq-eqb, ne-eqb}
 use Rattle.laws.proofs.Picks.{cond-yes, cond-no}
-use Rattle.sender.specs.Verdicts.{passed, standing, roomVerdict, queueVerdict}
-use Rattle.sender.proofs.Passed.{is-passed, not-passed, standing-passed, sound-taken}
+use Rattle.verdicts.specs.Verdicts.{passed, standing, roomVerdict, queueVerdict}
+use Rattle.verdicts.proofs.Passed.{is-passed, not-passed, standing-passed, sound-taken}
 use borrow.Author.Needs.{needs}
-use Rattle.sender.proofs.queue_verdict.Statement.{statement}
-use Rattle.sender.proofs.queue_verdict.Tie as tie
+use Rattle.verdicts.proofs.queue_verdict.Statement.{statement}
+use Rattle.verdicts.proofs.queue_verdict.Tie as tie
 
 stands : (c : tie.Else1) → let s = c .before .before .before .before in passed (standing (s .args .p) (s .args .s) (now (s .args .a)) false) ≡ true
 stands c = is-passed _ _ _ (c .before .before .standing .ensures) (c .before .number .ensures) (c .if1 .left)
