@@ -38,7 +38,8 @@ abbrev received : Verdict → Sender × List ℕ → Received × List ℕ
 received v x = (record { verdict = v; next = x .0 }, x .1)
 
 module _ (p : Profile) (s : Sender) (a : List ℕ) where
-  pub queue-refused : (bs : List ℕ) (v : Verdict) → v ≡ queueVerdict p s a (length bs) → passed (queueVerdict p s a (length bs)) ≡ false → queued v s a ≡ queueOf p s a bs
+  pub queue-refused : (bs : List ℕ) (v : Verdict) → v ≡ queueVerdict p s a (length bs) → passed (queueVerdict p s a (length bs)) ≡ false
+      → queued v s a ≡ queueOf p s a bs
   unfolding queueOf
   queue-refused bs v e t = cond-no _ _ _ _ t (ap (λ (u : Verdict). queued u s a) e)
 
@@ -51,7 +52,8 @@ module _ (p : Profile) (s : Sender) (a : List ℕ) where
       (ap₂ (λ (u : Verdict) (x : List ℕ). queued u (withWaiting s (s .counts .waiting + length bs)) x) e (d ∙ sym (queue-area s a c by bs (queue-room p s a (length bs) ok .0)))
       ∙ ap (λ (q : Sender). queued (queueVerdict p s a (length bs)) q (storeArea (L.queue bs (view s a)) a)) (sym (queue-record s a c by bs ar)))
 
-  pub receive-refused : (h : Heard) (r : Reply) (payload : List ℕ) (v : Verdict) → v ≡ receiveVerdict p s a h r (length payload) → passed (receiveVerdict p s a h r (length payload)) ≡ false
+  pub receive-refused : (h : Heard) (r : Reply) (payload : List ℕ) (v : Verdict) → v ≡ receiveVerdict p s a h r (length payload)
+      → passed (receiveVerdict p s a h r (length payload)) ≡ false
       → received v (s, a) ≡ receiveOf p s a h r payload
   unfolding receiveOf
   receive-refused h r payload v e t = cond-no _ _ _ _ t (ap (λ (u : Verdict). received u (s, a)) e)
