@@ -13,12 +13,12 @@ use Rattle.outgoing.specs.Outgoing.{burstOf}
 use Rattle.record.specs.View.{view, store, storeArea}
 use Rattle.record.specs.declared.Sender.{Sender}
 use Rattle.answers.specs.declared.Heard.{Heard}
-use Rattle.sender.specs.declared.Verdict.{Verdict}
-use Rattle.sender.specs.declared.Reply.{Reply}
+use Rattle.verdicts.specs.declared.Verdict.{Verdict}
+use Rattle.verdicts.specs.declared.Reply.{Reply}
 use Rattle.sender.specs.declared.Queued.{Queued}
 use Rattle.sender.specs.declared.Received.{Received}
 use Rattle.sender.specs.declared.Bursted.{Bursted}
-use Rattle.sender.specs.Verdicts.{passed, queueVerdict, receiveVerdict, burstVerdict}
+use Rattle.verdicts.specs.Verdicts.{passed, queueVerdict, receiveVerdict, burstVerdict}
 use Rattle.sender.specs.Calls.{queueOf, answered, receiveOf, noBurst, burstCall}
 use Rattle.demand.specs.Lists.{Call, queues, hears, bursts, State, framesIn, unlessRefused, replyEvent, next, told}
 

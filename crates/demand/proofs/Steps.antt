@@ -53,11 +53,11 @@ use Rattle.keeping.proofs.Ledgers.{Kept, sound-fits, sound-holds, store-arrays,
 use Rattle.keeping.proofs.Well.{Well, well-kept}
 use Rattle.keeping.proofs.Replies.{queued-well, connected-well, short-well, long-well, turned-well, info-in}
 use Rattle.keeping.proofs.Bursts.{burst-kept, choice-fits, bursted-well}
-use Rattle.sender.specs.declared.Reply.{Reply}
-use Rattle.sender.specs.declared.Reply.the-variants.{ConnAck, Ack, LongAck, Turn}
+use Rattle.verdicts.specs.declared.Reply.{Reply}
+use Rattle.verdicts.specs.declared.Reply.the-variants.{ConnAck, Ack, LongAck, Turn}
 use Rattle.sender.specs.Calls.{longRead}
-use Rattle.sender.specs.Verdicts.{passed, queueVerdict, receiveVerdict, burstVerdict}
-use Rattle.sender.proofs.Passed.{queue-passed, reply-passed}
+use Rattle.verdicts.specs.Verdicts.{passed, queueVerdict, receiveVerdict, burstVerdict}
+use Rattle.verdicts.proofs.Passed.{queue-passed, reply-passed}
 use Rattle.demand.specs.Lists.{Call, queues, hears, bursts, State, Given, shown, framesFrom, framesIn, longEvent, next, told}
 use Rattle.demand.proofs.Values.{time-in, ack-in, connect-in, turn-in}
 use Rattle.demand.proofs.Answers.{queue-yes, queue-no, queue-told, hear-yes, hear-no, hear-told, burst-yes, burst-no, burst-told, burst-silent}

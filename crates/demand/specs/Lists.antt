@@ -20,10 +20,10 @@ use Rattle.record.specs.Profiles.{sizesOf}
 use Rattle.record.specs.View.{view}
 use Rattle.record.specs.declared.Sender.{Sender}
 use Rattle.answers.specs.declared.Heard.{Heard}
-use Rattle.sender.specs.declared.Verdict.{Verdict}
-use Rattle.sender.specs.declared.Reply.{Reply}
-use Rattle.sender.specs.declared.Reply.the-variants.{ConnAck, Ack, LongAck, Turn}
-use Rattle.sender.specs.Verdicts.{passed}
+use Rattle.verdicts.specs.declared.Verdict.{Verdict}
+use Rattle.verdicts.specs.declared.Reply.{Reply}
+use Rattle.verdicts.specs.declared.Reply.the-variants.{ConnAck, Ack, LongAck, Turn}
+use Rattle.verdicts.specs.Verdicts.{passed}
 use Rattle.sender.specs.Calls.{queueOf, receiveOf, burstCall}
 
 -- a call with its arguments, whatever they are: bytes queued; a connect answer, short ack, long ack or turn, with the payload beside it; a burst into an output

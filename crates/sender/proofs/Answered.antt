@@ -7,7 +7,7 @@ use Prim.Native.Nat.{ℕ, _+_}
 use lib.ListN.{length}
 use Rattle.laws.specs.Bytes.{overwrite}
 use Rattle.laws.proofs.Little.{Bytes}
-use Rattle.laws.proofs.Picks.{cond-yes, by₂}
+use Rattle.laws.proofs.Picks.{cond-yes, cond-no, by₂}
 use Rattle.config.specs.declared.Profile.{Profile}
 use Rattle.limits.specs.Ranged.{Ranged}
 use Rattle.limits.proofs.Ranged.{ranged}
@@ -21,14 +21,14 @@ use Rattle.record.proofs.View.{Arrays}
 use Rattle.checks.proofs.Sound.{test-sound, sound-counted, sound-level, sound-settling}
 use Rattle.answers.specs.Answers.{Answerable}
 use Rattle.answers.specs.declared.Heard.{Heard}
-use Rattle.sender.specs.declared.Verdict.{Verdict}
-use Rattle.sender.specs.declared.Reply.{Reply}
+use Rattle.verdicts.specs.declared.Verdict.{Verdict}
+use Rattle.verdicts.specs.declared.Reply.{Reply}
 use Rattle.sender.specs.declared.Queued.{Queued}
 use Rattle.sender.specs.declared.Received.{Received}
 use Rattle.sender.specs.declared.Finding.{Finding}
-use Rattle.sender.specs.Verdicts.{passed, standing, queueVerdict, receiveVerdict}
+use Rattle.verdicts.specs.Verdicts.{passed, standing, queueVerdict, receiveVerdict}
 use Rattle.sender.specs.Calls.{queueOf, answered, receiveOf, findOf, pieceOf}
-use Rattle.sender.proofs.Passed.{queue-passed, queue-room, receive-passed}
+use Rattle.verdicts.proofs.Passed.{queue-passed, queue-room, receive-passed}
 use Rattle.sender.proofs.Queuing.{withWaiting, queue-area, queue-record}
 
 abbrev queued : Verdict → Sender → List ℕ → Queued × List ℕ
@@ -38,6 +38,11 @@ abbrev received : Verdict → Sender × List ℕ → Received × List ℕ
 received v x = (record { verdict = v; next = x .0 }, x .1)
 
 module _ (p : Profile) (s : Sender) (a : List ℕ) where
+  pub queue-refused : (bs : List ℕ) (v : Verdict) → v ≡ queueVerdict p s a (length bs) → passed (queueVerdict p s a (length bs)) ≡ false
+      → queued v s a ≡ queueOf p s a bs
+  unfolding queueOf
+  queue-refused bs v e t = cond-no _ _ _ _ t (ap (λ (u : Verdict). queued u s a) e)
+
   pub queue-accepted : Arrays s → Bytes a → (bs b : List ℕ) (v : Verdict) → v ≡ queueVerdict p s a (length bs) → passed (queueVerdict p s a (length bs)) ≡ true
       → b ≡ overwrite a (s .counts .flying + s .counts .waiting) bs → queued v (withWaiting s (s .counts .waiting + length bs)) b ≡ queueOf p s a bs
   unfolding queueOf
@@ -46,6 +51,12 @@ module _ (p : Profile) (s : Sender) (a : List ℕ) where
       cond-yes _ _ _ _ ok
       (ap₂ (λ (u : Verdict) (x : List ℕ). queued u (withWaiting s (s .counts .waiting + length bs)) x) e (d ∙ sym (queue-area s a c by bs (queue-room p s a (length bs) ok .0)))
       ∙ ap (λ (q : Sender). queued (queueVerdict p s a (length bs)) q (storeArea (L.queue bs (view s a)) a)) (sym (queue-record s a c by bs ar)))
+
+  pub receive-refused : (h : Heard) (r : Reply) (payload : List ℕ) (v : Verdict) → v ≡ receiveVerdict p s a h r (length payload)
+      → passed (receiveVerdict p s a h r (length payload)) ≡ false
+      → received v (s, a) ≡ receiveOf p s a h r payload
+  unfolding receiveOf
+  receive-refused h r payload v e t = cond-no _ _ _ _ t (ap (λ (u : Verdict). received u (s, a)) e)
 
   module _ (h : Heard) (r : Reply) (payload : List ℕ) (ok : passed (receiveVerdict p s a h r (length payload)) ≡ true) where
     pub answer-ranged : Ranged p

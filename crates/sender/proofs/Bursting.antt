@@ -11,8 +11,8 @@ use Rattle.outgoing.specs.Outgoing.{burstOf}
 use Rattle.outgoing.specs.declared.Outgoing.{Outgoing}
 use Rattle.record.specs.declared.Sender.{Sender}
 use Rattle.sender.specs.declared.Bursted.{Bursted}
-use Rattle.sender.specs.declared.Verdict.{Verdict}
-use Rattle.sender.specs.Verdicts.{passed, burstVerdict}
+use Rattle.verdicts.specs.declared.Verdict.{Verdict}
+use Rattle.verdicts.specs.Verdicts.{passed, burstVerdict}
 use Rattle.sender.specs.Calls.{noBurst, burstCall}
 
 abbrev bursted : Verdict → (Outgoing × Sender) × (List ℕ × List ℕ) → Bursted × (List ℕ × List ℕ)

@@ -1,4 +1,3 @@
-pub mod Passed
 pub mod Queuing
 pub mod Answered
 pub mod Bursting

@@ -16,8 +16,8 @@ use Rattle.record.specs.declared.Sender.{Sender}
 use Rattle.answers.specs.Answers.{shortAcked, longAcked, turned, connectedTo}
 use Rattle.answers.specs.declared.Heard.{Heard}
 use Rattle.answers.specs.declared.LongAck as A
-use Rattle.sender.specs.declared.Reply.{Reply}
-use Rattle.sender.specs.declared.Reply.the-variants.{ConnAck, Ack, LongAck, Turn}
+use Rattle.verdicts.specs.declared.Reply.{Reply}
+use Rattle.verdicts.specs.declared.Reply.the-variants.{ConnAck, Ack, LongAck, Turn}
 use Rattle.sender.specs.declared.Queued.{Queued}
 use Rattle.sender.specs.declared.Received.{Received}
 use Rattle.sender.specs.declared.Finding.{Finding}
@@ -25,7 +25,7 @@ use Rattle.ledger.specs.Limits.{maxSlots}
 use Rattle.outgoing.specs.Outgoing.{burstOf}
 use Rattle.outgoing.specs.declared.Outgoing.{Outgoing}
 use Rattle.sender.specs.declared.Bursted.{Bursted}
-use Rattle.sender.specs.Verdicts.{passed, standing, queueVerdict, receiveVerdict, burstVerdict}
+use Rattle.verdicts.specs.Verdicts.{passed, standing, queueVerdict, receiveVerdict, burstVerdict}
 
 -- ---- queue: 1 2 3 4 8 9
 

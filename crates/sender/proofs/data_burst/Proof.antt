@@ -9,8 +9,8 @@ use Rattle.limits.proofs.Ranged.{ranged}
 use Rattle.ledger.specs.Limits.{maxSlots}
 use Rattle.record.proofs.View.{Arrays}
 use Rattle.checks.proofs.Sound.{test-sound}
-use Rattle.sender.specs.Verdicts.{passed, burstVerdict}
-use Rattle.sender.proofs.Passed.{is-passed, not-passed, burst-passed}
+use Rattle.verdicts.specs.Verdicts.{passed, burstVerdict}
+use Rattle.verdicts.proofs.Passed.{is-passed, not-passed, burst-passed}
 use Rattle.sender.proofs.Bursting.{burst-refused, burst-accepted}
 use Rattle.sender.proofs.data_burst.Statement.{statement}
 use Rattle.sender.proofs.data_burst.Tie as tie

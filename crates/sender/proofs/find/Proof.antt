@@ -4,10 +4,10 @@ use mathlib.Core.Bool.{true, false}
 use mathlib.Core.Path.{_≡_, ap, ap₂}
 use Rattle.laws.proofs.Picks.{cond-yes, cond-no}
 use Rattle.lookup.specs.declared.Found.{Found}
-use Rattle.sender.specs.declared.Verdict.{Verdict}
-use Rattle.sender.specs.Verdicts.{passed, standing}
+use Rattle.verdicts.specs.declared.Verdict.{Verdict}
+use Rattle.verdicts.specs.Verdicts.{passed, standing}
 use Rattle.sender.specs.Calls.{nowhere, findOf}
-use Rattle.sender.proofs.Passed.{is-passed, not-passed, standing-passed, sound-rows}
+use Rattle.verdicts.proofs.Passed.{is-passed, not-passed, standing-passed, sound-rows}
 use borrow.Author.Needs.{needs}
 use Rattle.sender.proofs.find.Statement.{statement}
 use Rattle.sender.proofs.find.Tie as tie

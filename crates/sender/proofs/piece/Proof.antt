@@ -6,9 +6,9 @@ use Rattle.laws.proofs.Picks.{cond-yes, cond-no}
 use Rattle.table.specs.Table.{rowsFrom}
 use Rattle.pieces.proofs.Placed.{found-bytes}
 use Rattle.record.specs.View.{view}
-use Rattle.sender.specs.Verdicts.{passed, standing}
+use Rattle.verdicts.specs.Verdicts.{passed, standing}
 use Rattle.sender.specs.Calls.{pieceOf}
-use Rattle.sender.proofs.Passed.{is-passed, not-passed, standing-passed, sound-rows}
+use Rattle.verdicts.proofs.Passed.{is-passed, not-passed, standing-passed, sound-rows}
 use borrow.Author.Needs.{needs}
 use Rattle.sender.proofs.piece.Statement.{statement}
 use Rattle.sender.proofs.piece.Tie as tie

@@ -1,20 +1,17 @@
 -- `sender::queue` meets its contract.
 use denote.Ref.{now}
 use mathlib.Core.Bool.{true}
-use mathlib.Core.Path.{_≡_, ap}
+use mathlib.Core.Path.{_≡_}
 use Prim.Native.Nat.{ℕ, _+_, _≤_}
 use native.Mathlib.Omega.{arith}
 use lib.ListN.{length}
 use borrow.Author.Needs.{length-unmapped}
-use Rattle.laws.proofs.Picks.{cond-no}
 use Rattle.ledger.specs.Limits.{maxSlots, maxWaiting}
 use Rattle.table.specs.Layout.{areaBytes, streamBytes}
 use Rattle.record.proofs.View.{Arrays}
-use Rattle.sender.specs.declared.Verdict.{Verdict}
-use Rattle.sender.specs.Verdicts.{passed, queueVerdict}
-use Rattle.sender.specs.Calls.{queueOf}
-use Rattle.sender.proofs.Passed.{is-passed, not-passed, queue-room}
-use Rattle.sender.proofs.Answered.{queue-accepted}
+use Rattle.verdicts.specs.Verdicts.{passed, queueVerdict}
+use Rattle.verdicts.proofs.Passed.{is-passed, not-passed, queue-room}
+use Rattle.sender.proofs.Answered.{queue-refused, queue-accepted}
 use borrow.Author.Needs.{needs}
 use Rattle.sender.proofs.queue.Statement.{statement}
 use Rattle.sender.proofs.queue.Tie as tie
@@ -45,8 +42,10 @@ same-length : tie.Need-same-length
 same-length c = search needs
 
 returns : tie.Need-returns
-unfolding queueOf
-returns c = let s = c .before .before .before .before .before .before in cond-no _ _ _ _ (not-passed _ _ _ (c .before .before .queue-verdict .ensures) (c .before .number .ensures) (c .if1 .taken)) (ap (λ (v : Verdict). (record { verdict = v; next = s .args .s }, now (s .args .a))) (c .before .before .queue-verdict .ensures))
+returns c =
+    let s = c .before .before .before .before .before .before in
+    queue-refused (s .args .p) (s .args .s) (now (s .args .a)) (now (s .args .bytes)) _ (c .before .before .queue-verdict .ensures)
+    (not-passed _ _ _ (c .before .before .queue-verdict .ensures) (c .before .number .ensures) (c .if1 .taken))
 
 cast-at : tie.Need-cast-at
 cast-at c = search needs

@@ -1,18 +1,15 @@
 -- `sender::sender_rx` meets its contract.
 use denote.Ref.{now}
 use mathlib.Core.Bool.{true}
-use mathlib.Core.Path.{_≡_, ap}
+use mathlib.Core.Path.{_≡_}
 use Prim.Native.Nat.{ℕ}
 use lib.ListN.{length}
 use borrow.Author.Needs.{length-unmapped}
-use Rattle.laws.proofs.Picks.{cond-no}
 use Rattle.ledger.specs.Limits.{maxSlots}
 use Rattle.record.proofs.View.{Arrays}
-use Rattle.sender.specs.declared.Verdict.{Verdict}
-use Rattle.sender.specs.Verdicts.{passed, receiveVerdict}
-use Rattle.sender.specs.Calls.{receiveOf}
-use Rattle.sender.proofs.Passed.{is-passed, not-passed}
-use Rattle.sender.proofs.Answered.{answer-ranged, answerable, receive-accepted}
+use Rattle.verdicts.specs.Verdicts.{passed, receiveVerdict}
+use Rattle.verdicts.proofs.Passed.{is-passed, not-passed}
+use Rattle.sender.proofs.Answered.{receive-refused, answer-ranged, answerable, receive-accepted}
 use borrow.Author.Needs.{needs}
 use Rattle.sender.proofs.sender_rx.Statement.{statement}
 use Rattle.sender.proofs.sender_rx.Tie as tie
@@ -40,8 +37,10 @@ same-length : tie.Need-same-length
 same-length c = search needs
 
 returns : tie.Need-returns
-unfolding receiveOf
-returns c = let s = c .before .before .before .before .before .before in cond-no _ _ _ _ (not-passed _ _ _ (c .before .before .receive-verdict .ensures) (c .before .number .ensures) (c .if1 .taken)) (ap (λ (v : Verdict). (record { verdict = v; next = s .args .s }, now (s .args .a))) (c .before .before .receive-verdict .ensures))
+returns c =
+    let s = c .before .before .before .before .before .before in
+    receive-refused (s .args .p) (s .args .s) (now (s .args .a)) (s .args .h) (s .args .r) (now (s .args .payload)) _ (c .before .before .receive-verdict .ensures)
+    (not-passed _ _ _ (c .before .before .receive-verdict .ensures) (c .before .number .ensures) (c .if1 .taken))
 
 answer-requires : tie.Need-answer-requires
 answer-requires c κs = let s = c .before .before .before .before .before .before .before in let ok = accepted (c .before) in (answer-ranged (s .args .p) (s .args .s) (now (s .args .a)) (s .args .h) (s .args .r) (now (s .args .payload)) ok, answerable (s .args .p) (s .args .s) (now (s .args .a)) (s .args .h) (s .args .r) (now (s .args .payload)) ok (arrays s))

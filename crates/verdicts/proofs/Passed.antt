@@ -1,0 +1,158 @@
+-- What a call that is accepted found.
+-- Assumes nothing.
+use mathlib.Core.Path.{_≡_, refl, sym, ap, _∙_}
+use mathlib.Core.List.{List}
+use mathlib.Core.Bool.{Bool, true, false, cond, not, _&&_, _||_, false≢true}
+use Prim.Native.Nat.{ℕ, _+_, _*_, _≤_}
+use native.Mathlib.Omega.{arith}
+use lib.Dec.{ltb, eqb}
+use lib.ListN.{length}
+use borrow.Author.Tests.{not-false, eq-eqb, ne-eqb, leb-true, ltb-true, ltb-false}
+use Rattle.laws.proofs.Picks.{test, cond-no, and-first, and-second}
+use Rattle.laws.proofs.Tests.{all-at}
+use Rattle.config.specs.declared.Profile.{Profile}
+use Rattle.limits.specs.Ranges.{inRange, inOrder}
+use Rattle.ledger.specs.Limits.{maxSlots, maxWaiting, maxTaken, maxPieces}
+use Rattle.table.specs.Layout.{areaBytes, streamBytes}
+use Rattle.table.specs.Table.{rowsFrom, total}
+use Rattle.pieces.proofs.Sound.{table-total}
+use Rattle.queued.specs.Queued.{queueRefusal}
+use Rattle.queued.proofs.Laws.{full, over, room, not-refused, queue-fits}
+use Rattle.record.specs.declared.Sender.{Sender}
+use Rattle.checks.specs.Checked.{countsOk, soundOk}
+use Rattle.checks.proofs.Counts.{flying-few, pieces-few, taken-few}
+use Rattle.answers.specs.declared.Heard.{Heard}
+use Rattle.verdicts.specs.declared.Verdict.{Verdict}
+use Rattle.verdicts.specs.declared.Verdict.the-variants.{Accepted, AllTaken, BadTime, BadValue, OutOfTurn, ProfileOutOfRange, QueueFull, ShortOutput, ShortOverLong, ShortPayload, Unsound}
+use Rattle.verdicts.specs.declared.Reply.{Reply}
+use Rattle.verdicts.specs.Verdicts.{numberOf, kindOf, passed, firstOf, standing, roomVerdict, replyVerdict, queueVerdict, receiveVerdict, burstVerdict, timeOk, heardOk, replyOk}
+
+-- the number that a call reads says whether it is refused
+pub not-passed : (v u : Verdict) (n : ℕ) → v ≡ u → n ≡ numberOf v → (n ≡ 0 → ⊥) → passed u ≡ false
+not-passed v u n e d h = ne-eqb _ _ (λ z. h (d ∙ ap numberOf e ∙ z))
+
+pub is-passed : (v u : Verdict) (n : ℕ) → v ≡ u → n ≡ numberOf v → n ≡ 0 → passed u ≡ true
+is-passed v u n e d h = eq-eqb _ _ (sym (d ∙ ap numberOf e) ∙ h)
+
+pub passed-is : (v : Verdict) → passed v ≡ true → v ≡ Accepted
+passed-is Accepted h = refl
+passed-is ProfileOutOfRange h = absurd (false≢true h)
+passed-is ShortOverLong h = absurd (false≢true h)
+passed-is Unsound h = absurd (false≢true h)
+passed-is OutOfTurn h = absurd (false≢true h)
+passed-is BadTime h = absurd (false≢true h)
+passed-is BadValue h = absurd (false≢true h)
+passed-is ShortPayload h = absurd (false≢true h)
+passed-is QueueFull h = absurd (false≢true h)
+passed-is AllTaken h = absurd (false≢true h)
+passed-is ShortOutput h = absurd (false≢true h)
+
+-- a test that would have turned the call down
+over-first : (b : Bool) (v w : Verdict) → passed v ≡ false → passed (cond b v w) ≡ true → (b ≡ false) × (passed w ≡ true)
+over-first true v w e h = absurd (false≢true (sym e ∙ h))
+over-first false v w e h = (refl, h)
+
+first-by : (b : Bool) (v w : Verdict) → passed v ≡ b → passed (cond b w v) ≡ true → (passed v ≡ true) × (passed w ≡ true)
+first-by true v w e h = (e, h)
+first-by false v w e h = absurd (false≢true (sym e ∙ h))
+
+first-passed : (v w : Verdict) → passed (firstOf v w) ≡ true → (passed v ≡ true) × (passed w ≡ true)
+first-passed v w h = first-by (passed v) v w refl h
+
+-- connect comes first, and once
+turn : (x connect : Bool) → x ≡ not connect → ((x && connect) || (not x && not connect)) ≡ false
+turn true true e = absurd (false≢true (sym e))
+turn true false e = refl
+turn false true e = refl
+turn false false e = absurd (false≢true e)
+
+module _ (p : Profile) (s : Sender) (a : List ℕ) where
+  -- nothing but 1 to 4 turns a call down here
+  pub stands : (connect : Bool) → inRange p ≡ true → inOrder p ≡ true → soundOk p s a ≡ true → s .link .connected ≡ not connect → standing p s a connect ≡ Accepted
+  unfolding standing
+  stands connect e₁ e₂ e₃ e₄ = sym (cond-no _ _ _ _ (ap not e₁) (cond-no _ _ _ _ (ap not e₂) (cond-no _ _ _ _ (ap not e₃) (cond-no _ _ _ _ (turn (s .link .connected) connect e₄) refl))))
+
+  counts-pass : soundOk p s a ≡ true → countsOk s ≡ true
+  unfolding soundOk
+  counts-pass e = all-at _ 1 e
+
+  -- bytes taken fit their type
+  pub sound-taken : soundOk p s a ≡ true → s .counts .«next_offset» + s .counts .waiting ≤ maxTaken
+  sound-taken e = taken-few s (counts-pass e)
+
+  -- what the lookup needs
+  pub sound-rows : soundOk p s a ≡ true → (s .counts .pieces ≤ maxPieces) × (areaBytes ≤ length a) × (total (rowsFrom a 0 (s .counts .pieces)) ≤ streamBytes)
+  unfolding soundOk
+  sound-rows e =
+      let c = counts-pass e in
+      let t : total (rowsFrom a 0 (s .counts .pieces)) ≡ s .counts .flying = table-total _ _ _ _ _ (all-at _ 2 e) in
+      (pieces-few s c, leb-true areaBytes (length a) (all-at _ 0 e), omega (arith, t, flying-few s c))
+
+  -- 1 and 3 do not turn it down
+  pub standing-passed : (connect : Bool) → passed (standing p s a connect) ≡ true → (inRange p ≡ true) × (soundOk p s a ≡ true)
+  unfolding standing
+  standing-passed connect h =
+      let h₁ = over-first (not (inRange p)) ProfileOutOfRange _ refl h in
+      let h₂ = over-first (not (inOrder p)) ShortOverLong _ refl (h₁ .1) in
+      let h₃ = over-first (not (soundOk p s a)) Unsound _ refl (h₂ .1) in
+      (not-false _ (h₁ .0), not-false _ (h₃ .0))
+
+  -- nor do 8 and 9
+  room-passed : (n : ℕ) → passed (roomVerdict s n) ≡ true → queueRefusal (s .counts .waiting) (s .counts .«next_offset» + s .counts .waiting) n ≡ 0
+  unfolding roomVerdict
+  room-passed n h =
+      let w = s .counts .waiting in
+      let t = s .counts .«next_offset» + s .counts .waiting in
+      let h₁ = over-first (eqb (queueRefusal w t n) 8) QueueFull _ refl h in
+      let h₂ = over-first (eqb (queueRefusal w t n) 9) AllTaken _ refl (h₁ .1) in
+      test (ltb maxWaiting (w + n))
+      (λ x. absurd (false≢true (sym (h₁ .0) ∙ eq-eqb _ _ (full w t n (ltb-true _ _ x)))))
+      (λ x. test (ltb maxTaken (t + n))
+      (λ y. absurd (false≢true (sym (h₂ .0) ∙ eq-eqb _ _ (over w t n (ltb-false _ _ x) (ltb-true _ _ y)))))
+      (λ y. room w t n (ltb-false _ _ x) (ltb-false _ _ y)))
+
+  pub queue-passed : (n : ℕ) → passed (queueVerdict p s a n) ≡ true → (inRange p ≡ true) × (soundOk p s a ≡ true) × (queueRefusal (s .counts .waiting) (s .counts .«next_offset» + s .counts .waiting) n ≡ 0)
+  unfolding queueVerdict
+  queue-passed n h =
+      let q = first-passed (standing p s a false) (roomVerdict s n) h in
+      let g = standing-passed false (q .0) in
+      (g .0, g .1, room-passed n (q .1))
+
+  -- where the bytes go there is room for them
+  pub queue-room : (n : ℕ) → passed (queueVerdict p s a n) ≡ true → (s .counts .flying + s .counts .waiting + n ≤ streamBytes) × (areaBytes ≤ length a) × (s .counts .waiting + n ≤ maxWaiting)
+  queue-room n h =
+      let q = queue-passed n h in
+      let t = s .counts .«next_offset» + s .counts .waiting in
+      (queue-fits (s .counts .waiting) t n (s .counts .flying) (flying-few s (counts-pass (q .1))) (q .2), sound-rows (q .1) .1, not-refused (s .counts .waiting) t n (q .2) .0)
+
+  pub receive-passed : (h : Heard) (r : Reply) (n : ℕ) → passed (receiveVerdict p s a h r n) ≡ true → (inRange p ≡ true) × (soundOk p s a ≡ true)
+  unfolding receiveVerdict
+  receive-passed h r n e = standing-passed (eqb (kindOf r) 0) (first-passed (standing p s a (eqb (kindOf r) 0)) (replyVerdict s h r n) e .0)
+
+  -- 1, 2 and 3 do not turn it down
+  pub standing-three : (connect : Bool) → passed (standing p s a connect) ≡ true → (inRange p ≡ true) × (inOrder p ≡ true) × (soundOk p s a ≡ true)
+  unfolding standing
+  standing-three connect h =
+      let h₁ = over-first (not (inRange p)) ProfileOutOfRange _ refl h in
+      let h₂ = over-first (not (inOrder p)) ShortOverLong _ refl (h₁ .1) in
+      let h₃ = over-first (not (soundOk p s a)) Unsound _ refl (h₂ .1) in
+      (not-false _ (h₁ .0), not-false _ (h₂ .0), not-false _ (h₃ .0))
+
+  -- nor does 10
+  pub burst-passed : (n : ℕ) → passed (burstVerdict p s a n) ≡ true → (inRange p ≡ true) × (inOrder p ≡ true) × (soundOk p s a ≡ true) × (maxSlots * p .«long_bytes» ≤ n)
+  unfolding burstVerdict
+  burst-passed n h =
+      let q = first-passed (standing p s a false) (cond (ltb n (maxSlots * p .«long_bytes»)) ShortOutput Accepted) h in
+      let g = standing-three false (q .0) in
+      let o = over-first (ltb n (maxSlots * p .«long_bytes»)) ShortOutput Accepted refl (q .1) in
+      (g .0, g .1, g .2, ltb-false n (maxSlots * p .«long_bytes») (o .0))
+
+  -- nor do 5, 6 and 7
+  pub reply-passed : (h : Heard) (r : Reply) (n : ℕ) → passed (receiveVerdict p s a h r n) ≡ true → (timeOk s (h .time) ≡ true) × (heardOk h ≡ true) × (replyOk r ≡ true)
+  unfolding receiveVerdict replyVerdict
+  reply-passed h r n e =
+      let q = first-passed (standing p s a (eqb (kindOf r) 0)) (replyVerdict s h r n) e in
+      let h₁ = over-first (not (timeOk s (h .time))) BadTime _ refl (q .1) in
+      let h₂ = over-first (not (heardOk h && replyOk r)) BadValue _ refl (h₁ .1) in
+      let b = not-false _ (h₂ .0) in
+      (not-false _ (h₁ .0), and-first (heardOk h) (replyOk r) b, and-second (heardOk h) (replyOk r) b)

@@ -1,0 +1,14 @@
+-- `verdicts::report_ok` meets its contract.
+use lib.Ieee.{ofInt, ofBits, neg}
+use Rattle.limits.specs.Ranges.{inside}
+use Rattle.verdicts.specs.Verdicts.{reportOk}
+use borrow.Author.Needs.{needs}
+use Rattle.verdicts.proofs.report_ok.Statement.{statement}
+use Rattle.verdicts.proofs.report_ok.Tie as tie
+
+returns : tie.Need-returns
+unfolding inside reportOk ofInt ofBits neg
+returns c = search needs
+
+pub report-ok-spec : {M : Type 1} → statement M
+report-ok-spec = tie.close (tie.spec returns)

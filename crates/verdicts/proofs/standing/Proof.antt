@@ -1,0 +1,64 @@
+-- `verdicts::standing` meets its contract.
+use denote.Ref.{now}
+use mathlib.Core.Bool.{false, not}
+use mathlib.Core.Path.{_≡_, refl, sym, ap, _∙_}
+use borrow.Author.Tests.{not-false}
+use Rattle.laws.proofs.Picks.{cond-yes, cond-no}
+use Rattle.limits.specs.Ranges.{inRange, inOrder}
+use Rattle.limits.proofs.Ranged.{ranged}
+use Rattle.checks.specs.Checked.{soundOk}
+use Rattle.verdicts.specs.Verdicts.{standing}
+use borrow.Author.Needs.{needs}
+use Rattle.verdicts.proofs.standing.Statement.{statement}
+use Rattle.verdicts.proofs.standing.Tie as tie
+
+one : (c : tie.Else1) → not (inRange (c .before .before .before .before .args .p)) ≡ false
+one c = sym (ap not (c .before .in-range .ensures)) ∙ c .if1 .left
+
+two : (c : tie.Else2) → not (inOrder (c .before .before .before .before .before .before .args .p)) ≡ false
+two c = sym (ap not (c .before .in-order .ensures)) ∙ c .if2 .left
+
+three : (c : tie.Else3) → let s = c .before .before .before .before .before .before .before .before in not (soundOk (s .args .p) (s .args .s) (now (s .args .a))) ≡ false
+three c = sym (ap not (c .before .is-sound .ensures)) ∙ c .if3 .left
+
+in-range-requires : tie.Need-in-range-requires
+in-range-requires c κs = search needs
+
+returns : tie.Need-returns
+unfolding standing
+returns c = cond-yes _ _ _ _ (sym (ap not (c .before .in-range .ensures)) ∙ c .if1 .taken) refl
+
+in-order-requires : tie.Need-in-order-requires
+in-order-requires c κs = search needs
+
+returns-2 : tie.Need-returns-2
+unfolding standing
+returns-2 c = cond-no _ _ _ _ (one (c .before .before)) (cond-yes _ _ _ _ (sym (ap not (c .before .in-order .ensures)) ∙ c .if2 .taken) refl)
+
+is-sound-requires : tie.Need-is-sound-requires
+is-sound-requires c κs = ranged _ (not-false _ (one (c .before .before)))
+
+returns-3 : tie.Need-returns-3
+unfolding standing
+returns-3 c = cond-no _ _ _ _ (one (c .before .before .before .before)) (cond-no _ _ _ _ (two (c .before .before)) (cond-yes _ _ _ _ (sym (ap not (c .before .is-sound .ensures)) ∙ c .if3 .taken) refl))
+
+returns-4 : tie.Need-returns-4
+unfolding standing
+returns-4 c = cond-no _ _ _ _ (one (c .before .before .before .before .before .before .before)) (cond-no _ _ _ _ (two (c .before .before .before .before .before)) (cond-no _ _ _ _ (three (c .before .before .before)) (cond-yes _ _ _ _ (c .if4 .taken) refl)))
+
+returns-5 : tie.Need-returns-5
+unfolding standing
+returns-5 c = cond-no _ _ _ _ (one (c .before .before .before .before .before .before .before)) (cond-no _ _ _ _ (two (c .before .before .before .before .before)) (cond-no _ _ _ _ (three (c .before .before .before)) (cond-no _ _ _ _ (c .if4 .left) refl)))
+
+pub standing-spec : {M : Type 1} → statement M
+standing-spec =
+    tie.close
+    (tie.spec
+    in-range-requires
+    returns
+    in-order-requires
+    returns-2
+    is-sound-requires
+    returns-3
+    returns-4
+    returns-5)

@@ -1,0 +1,14 @@
+-- `verdicts::time_ok` meets its contract.
+use mathlib.Core.Path.{refl}
+use lib.Ieee.{ofInt, ofBits}
+use Rattle.limits.specs.Ranges.{inside}
+use Rattle.verdicts.specs.Verdicts.{timeOk}
+use Rattle.verdicts.proofs.time_ok.Statement.{statement}
+use Rattle.verdicts.proofs.time_ok.Tie as tie
+
+returns : tie.Need-returns
+unfolding inside timeOk ofInt ofBits
+returns c = refl
+
+pub time-ok-spec : {M : Type 1} → statement M
+time-ok-spec = tie.close (tie.spec returns)
