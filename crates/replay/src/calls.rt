@@ -30,11 +30,11 @@ use patterns::of_bits64;
 use record::Sender;
 use report::ChanClass;
 use sender::Bursted;
-use sender::Reply;
 use sender::data_burst;
-use sender::number;
 use sender::queue;
 use sender::sender_rx;
+use verdicts::Reply;
+use verdicts::number;
 ghost use Prim.Native.Nat.{_≤_, _<_};
 
 // The run so far: the profile and the sender, what is lent of the work area and of the output, and what is used of the text's
