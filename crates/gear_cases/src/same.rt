@@ -4,30 +4,17 @@ use goodput::Gear;
 use ladder::Holds;
 use memory::Reports;
 use memory::Tries;
+use patterns::to_bits32;
+use patterns::to_bits64;
 use report::ChanClass;
 ghost use Prim.Native.Nat.{_<_};
 
-// The bits of a number. A NaN has none that mean anything: it is given a pattern that no stored number has.
-fn bits64(x: f64) -> u64 {
-    if x != x {
-        return 18446744073709551615;
-    }
-    f64::to_bits(x)
-}
-
-fn bits32(x: f32) -> u32 {
-    if x != x {
-        return 4294967295;
-    }
-    f32::to_bits(x)
-}
-
 fn same64(x: f64, y: f64) -> bool {
-    (x == x) & (bits64(x) == bits64(y))
+    (x == x) & (to_bits64(x) == to_bits64(y))
 }
 
 fn same32(x: f32, y: f32) -> bool {
-    (x == x) & (bits32(x) == bits32(y))
+    (x == x) & (to_bits32(x) == to_bits32(y))
 }
 
 fn same_db(x: MaybeDb, y: MaybeDb) -> bool {

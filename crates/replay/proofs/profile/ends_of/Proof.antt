@@ -1,14 +1,8 @@
-use Prim.Native.Nat.{ℕ, _+_, _-_, _≤_, _<_}
-use mathlib.Core.Path.{_≡_, refl, sym, ap, _∙_}
-use mathlib.Core.List.{List, [], _∷_, _++_}
-use native.Mathlib.Omega.{arith}
-use lib.ListN.{length, getD, length-set}
+-- `profile::ends_of` is safe: it stays within its arrays, and ends. Assumes nothing.
+use Prim.Native.Nat.{_-_, _≤_}
 use borrow.Author.Needs.{needs}
 use Rattle.replay.proofs.profile.ends_of.Statement.{statement}
 use Rattle.replay.proofs.profile.ends_of.Tie as tie
-use Rattle.replay.proofs.profile.ends_of.Reads as reads
-use Rattle.replay.proofs.profile.ends_of.Lts as lts
-use Rattle.replay.proofs.profile.u32_of.Reads as u32-of-reads
 
 abbrev Inv-loop : tie.InvT-loop
 Inv-loop v x₀ k₀ x k = k ≤ 6
@@ -16,47 +10,36 @@ Inv-loop v x₀ k₀ x k = k ≤ 6
 abbrev μ-loop : tie.MeasureT-loop
 μ-loop v x₀ k₀ x k = 6 - k
 
--- src/profile.rt:254:5
 loop-holds : tie.Need-loop-holds Inv-loop μ-loop
 loop-holds c = search needs
 
--- src/profile.rt:255:25
 add-u32-of : tie.Need-add-u32-of Inv-loop μ-loop
 add-u32-of c = search needs
 
--- src/profile.rt:255:23
 mul-u32-of : tie.Need-mul-u32-of Inv-loop μ-loop
 mul-u32-of c = search needs
 
--- src/profile.rt:255:23
 element-copy-out-u32-of : tie.Need-element-copy-out-u32-of Inv-loop μ-loop
 element-copy-out-u32-of c = search needs
 
--- src/profile.rt:255:16
 u32-of-requires : tie.Need-u32-of-requires Inv-loop μ-loop
 u32-of-requires c κs = search needs
 
--- src/profile.rt:255:9
 mul-x : tie.Need-mul-x Inv-loop μ-loop
 mul-x c = search needs
 
--- src/profile.rt:255:9
 array-write-x : tie.Need-array-write-x Inv-loop μ-loop
 array-write-x c = search needs
 
--- src/profile.rt:256:9
 add-k : tie.Need-add-k Inv-loop μ-loop
 add-k c = search needs
 
--- src/profile.rt:254:5
 loop-less : tie.Need-loop-less Inv-loop μ-loop
 loop-less c = search needs
 
--- src/profile.rt:254:5
 loop-again : tie.Need-loop-again Inv-loop μ-loop
 loop-again c = search needs
 
--- src/profile.rt:251:1
 returns : tie.Need-returns Inv-loop μ-loop
 returns c = search needs
 
