@@ -13,8 +13,8 @@ use Rattle.outgoing.specs.Outgoing.{burstOf}
 use Rattle.record.specs.View.{view, store, storeArea}
 use Rattle.record.specs.declared.Sender.{Sender}
 use Rattle.answers.specs.declared.Heard.{Heard}
-use Rattle.verdicts.specs.declared.Verdict.{Verdict}
-use Rattle.verdicts.specs.declared.Reply.{Reply}
+use Rattle.refusals.specs.declared.Verdict.{Verdict}
+use Rattle.refusals.specs.declared.Reply.{Reply}
 use Rattle.sender.specs.declared.Queued.{Queued}
 use Rattle.sender.specs.declared.Received.{Received}
 use Rattle.sender.specs.declared.Bursted.{Bursted}

@@ -53,8 +53,8 @@ use Rattle.keeping.proofs.Ledgers.{Kept, sound-fits, sound-holds, store-arrays,
 use Rattle.keeping.proofs.Well.{Well, well-kept}
 use Rattle.keeping.proofs.Replies.{queued-well, connected-well, short-well, long-well, turned-well, info-in}
 use Rattle.keeping.proofs.Bursts.{burst-kept, choice-fits, bursted-well}
-use Rattle.verdicts.specs.declared.Reply.{Reply}
-use Rattle.verdicts.specs.declared.Reply.the-variants.{ConnAck, Ack, LongAck, Turn}
+use Rattle.refusals.specs.declared.Reply.{Reply}
+use Rattle.refusals.specs.declared.Reply.the-variants.{ConnAck, Ack, LongAck, Turn}
 use Rattle.sender.specs.Calls.{longRead}
 use Rattle.verdicts.specs.Verdicts.{passed, queueVerdict, receiveVerdict, burstVerdict}
 use Rattle.verdicts.proofs.Passed.{queue-passed, reply-passed}

@@ -36,8 +36,9 @@ use Rattle.outgoing.specs.Outgoing.{burstOf, output}
 use Rattle.sender.specs.declared.Bursted.{Bursted}
 use Rattle.keeping.proofs.Well.{Well, fresh-well}
 use Rattle.keeping.proofs.Bursts.{choice-keeps-air}
-use Rattle.verdicts.specs.declared.Verdict.{Verdict}
-use Rattle.verdicts.specs.Verdicts.{passed, kindOf, standing, firstOf, queueVerdict, receiveVerdict, burstVerdict}
+use Rattle.refusals.specs.declared.Verdict.{Verdict}
+use Rattle.refusals.specs.Refusals.{kindOf}
+use Rattle.verdicts.specs.Verdicts.{passed, standing, firstOf, queueVerdict, receiveVerdict, burstVerdict}
 use Rattle.verdicts.proofs.Passed.{standing-three, burst-passed}
 use Rattle.demand.specs.Lists.{Call, queues, hears, bursts, State, Given, start, shown, next, told, sizesFor}
 use Rattle.demand.specs.Claim.{reached, Demand}

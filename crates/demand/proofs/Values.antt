@@ -20,8 +20,8 @@ use Rattle.answers.specs.declared.Ack as A
 use Rattle.answers.specs.declared.Turn as D
 use Rattle.answers.specs.declared.ConnAck as E
 use Rattle.keeping.specs.Keeping.{AckIn, TurnIn, ConnAckIn}
-use Rattle.verdicts.specs.declared.Reply.the-variants.{ConnAck, Ack, LongAck, Turn}
-use Rattle.verdicts.specs.Verdicts.{timeOk, reportOk, heardOk, replyOk}
+use Rattle.refusals.specs.declared.Reply.the-variants.{ConnAck, Ack, LongAck, Turn}
+use Rattle.refusals.specs.Refusals.{timeOk, reportOk, heardOk, replyOk}
 
 in-from : (lo hi x : Float) → inside lo hi x ≡ true → In lo hi x
 unfolding inside

@@ -28,13 +28,13 @@ use outgoing::Frames;
 use outgoing::Outgoing;
 use patterns::of_bits64;
 use record::Sender;
+use refusals::Reply;
+use refusals::number;
 use report::ChanClass;
 use sender::Bursted;
 use sender::data_burst;
 use sender::queue;
 use sender::sender_rx;
-use verdicts::Reply;
-use verdicts::number;
 ghost use Prim.Native.Nat.{_≤_, _<_};
 
 // The run so far: the profile and the sender, what is lent of the work area and of the output, and what is used of the text's

@@ -21,8 +21,8 @@ use Rattle.record.proofs.View.{Arrays}
 use Rattle.checks.proofs.Sound.{test-sound, sound-counted, sound-level, sound-settling}
 use Rattle.answers.specs.Answers.{Answerable}
 use Rattle.answers.specs.declared.Heard.{Heard}
-use Rattle.verdicts.specs.declared.Verdict.{Verdict}
-use Rattle.verdicts.specs.declared.Reply.{Reply}
+use Rattle.refusals.specs.declared.Verdict.{Verdict}
+use Rattle.refusals.specs.declared.Reply.{Reply}
 use Rattle.sender.specs.declared.Queued.{Queued}
 use Rattle.sender.specs.declared.Received.{Received}
 use Rattle.sender.specs.declared.Finding.{Finding}

@@ -11,7 +11,7 @@ use Rattle.outgoing.specs.Outgoing.{burstOf}
 use Rattle.outgoing.specs.declared.Outgoing.{Outgoing}
 use Rattle.record.specs.declared.Sender.{Sender}
 use Rattle.sender.specs.declared.Bursted.{Bursted}
-use Rattle.verdicts.specs.declared.Verdict.{Verdict}
+use Rattle.refusals.specs.declared.Verdict.{Verdict}
 use Rattle.verdicts.specs.Verdicts.{passed, burstVerdict}
 use Rattle.sender.specs.Calls.{noBurst, burstCall}
 

@@ -16,8 +16,8 @@ use Rattle.record.specs.declared.Sender.{Sender}
 use Rattle.answers.specs.Answers.{shortAcked, longAcked, turned, connectedTo}
 use Rattle.answers.specs.declared.Heard.{Heard}
 use Rattle.answers.specs.declared.LongAck as A
-use Rattle.verdicts.specs.declared.Reply.{Reply}
-use Rattle.verdicts.specs.declared.Reply.the-variants.{ConnAck, Ack, LongAck, Turn}
+use Rattle.refusals.specs.declared.Reply.{Reply}
+use Rattle.refusals.specs.declared.Reply.the-variants.{ConnAck, Ack, LongAck, Turn}
 use Rattle.sender.specs.declared.Queued.{Queued}
 use Rattle.sender.specs.declared.Received.{Received}
 use Rattle.sender.specs.declared.Finding.{Finding}

@@ -14,9 +14,10 @@ use Rattle.queued.proofs.Laws.{full, over}
 use Rattle.record.specs.declared.Sender.{Sender}
 use Rattle.checks.specs.Checked.{soundOk}
 use Rattle.answers.specs.declared.Heard.{Heard}
-use Rattle.verdicts.specs.declared.Verdict.the-variants.{ProfileOutOfRange, ShortOverLong, Unsound, OutOfTurn, BadTime, BadValue, ShortPayload, QueueFull, AllTaken, ShortOutput}
-use Rattle.verdicts.specs.declared.Reply.{Reply}
-use Rattle.verdicts.specs.Verdicts.{kindOf, passed, standing, timeOk, heardOk, replyOk, replyVerdict, roomVerdict, queueVerdict, receiveVerdict, burstVerdict}
+use Rattle.refusals.specs.declared.Verdict.the-variants.{ProfileOutOfRange, ShortOverLong, Unsound, OutOfTurn, BadTime, BadValue, ShortPayload, QueueFull, AllTaken, ShortOutput}
+use Rattle.refusals.specs.declared.Reply.{Reply}
+use Rattle.refusals.specs.Refusals.{kindOf, timeOk, heardOk, replyOk}
+use Rattle.verdicts.specs.Verdicts.{passed, standing, replyVerdict, roomVerdict, queueVerdict, receiveVerdict, burstVerdict}
 
 -- a connect that comes again, or another call before connect
 wrong-turn : (x : Bool) → ((x && x) || (not x && not x)) ≡ true

@@ -22,10 +22,11 @@ use Rattle.record.specs.declared.Sender.{Sender}
 use Rattle.checks.specs.Checked.{countsOk, soundOk}
 use Rattle.checks.proofs.Counts.{flying-few, pieces-few, taken-few}
 use Rattle.answers.specs.declared.Heard.{Heard}
-use Rattle.verdicts.specs.declared.Verdict.{Verdict}
-use Rattle.verdicts.specs.declared.Verdict.the-variants.{Accepted, AllTaken, BadTime, BadValue, OutOfTurn, ProfileOutOfRange, QueueFull, ShortOutput, ShortOverLong, ShortPayload, Unsound}
-use Rattle.verdicts.specs.declared.Reply.{Reply}
-use Rattle.verdicts.specs.Verdicts.{numberOf, kindOf, passed, firstOf, standing, roomVerdict, replyVerdict, queueVerdict, receiveVerdict, burstVerdict, timeOk, heardOk, replyOk}
+use Rattle.refusals.specs.declared.Verdict.{Verdict}
+use Rattle.refusals.specs.declared.Verdict.the-variants.{Accepted, AllTaken, BadTime, BadValue, OutOfTurn, ProfileOutOfRange, QueueFull, ShortOutput, ShortOverLong, ShortPayload, Unsound}
+use Rattle.refusals.specs.declared.Reply.{Reply}
+use Rattle.refusals.specs.Refusals.{numberOf, kindOf, timeOk, heardOk, replyOk}
+use Rattle.verdicts.specs.Verdicts.{passed, firstOf, standing, roomVerdict, replyVerdict, queueVerdict, receiveVerdict, burstVerdict}
 
 -- the number that a call reads says whether it is refused
 pub not-passed : (v u : Verdict) (n : ℕ) → v ≡ u → n ≡ numberOf v → (n ≡ 0 → ⊥) → passed u ≡ false

@@ -5,7 +5,7 @@ use mathlib.Core.List.{List}
 use Prim.Native.Nat.{ℕ}
 use native.Mathlib.Omega.{arith}
 use Rattle.record.specs.declared.Sender.{Sender}
-use Rattle.verdicts.specs.declared.Reply.{Reply}
+use Rattle.refusals.specs.declared.Reply.{Reply}
 use Rattle.sender.specs.Calls.{answered}
 use borrow.Author.Needs.{needs, length-unmapped}
 use Rattle.ledger.specs.Limits.{maxSlots}

@@ -4,7 +4,7 @@ use mathlib.Core.Bool.{true, false}
 use mathlib.Core.Path.{_≡_, ap, ap₂}
 use Rattle.laws.proofs.Picks.{cond-yes, cond-no}
 use Rattle.lookup.specs.declared.Found.{Found}
-use Rattle.verdicts.specs.declared.Verdict.{Verdict}
+use Rattle.refusals.specs.declared.Verdict.{Verdict}
 use Rattle.verdicts.specs.Verdicts.{passed, standing}
 use Rattle.sender.specs.Calls.{nowhere, findOf}
 use Rattle.verdicts.proofs.Passed.{is-passed, not-passed, standing-passed, sound-rows}

@@ -5,7 +5,8 @@ use mathlib.Core.Path.{_≡_, refl, sym, ap, ap₂, _∙_}
 use Prim.Native.Nat.{ℕ}
 use lib.Dec.{eqb, ltb}
 use Rattle.laws.proofs.Picks.{cond-yes, cond-no}
-use Rattle.verdicts.specs.Verdicts.{kindOf, passed, standing, timeOk, heardOk, replyOk, replyVerdict, receiveVerdict}
+use Rattle.refusals.specs.Refusals.{kindOf, timeOk, heardOk, replyOk}
+use Rattle.verdicts.specs.Verdicts.{passed, standing, replyVerdict, receiveVerdict}
 use Rattle.verdicts.proofs.Passed.{is-passed, not-passed}
 use borrow.Author.Needs.{needs}
 use Rattle.verdicts.proofs.receive_verdict.Statement.{statement}

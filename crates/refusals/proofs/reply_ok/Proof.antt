@@ -1,10 +1,10 @@
--- `verdicts::reply_ok` meets its contract.
+-- `refusals::reply_ok` meets its contract.
 use mathlib.Core.Path.{sym, ap}
 use Rattle.laws.specs.Tests.{all}
-use Rattle.verdicts.specs.Verdicts.{replyOk}
+use Rattle.refusals.specs.Refusals.{replyOk}
 use borrow.Author.Needs.{needs}
-use Rattle.verdicts.proofs.reply_ok.Statement.{statement}
-use Rattle.verdicts.proofs.reply_ok.Tie as tie
+use Rattle.refusals.proofs.reply_ok.Statement.{statement}
+use Rattle.refusals.proofs.reply_ok.Tie as tie
 
 enum-known-r : tie.Need-enum-known-r
 enum-known-r c = search needs

@@ -1,8 +1,8 @@
--- `verdicts::heard_ok` meets its contract.
-use Rattle.verdicts.specs.Verdicts.{heardOk}
+-- `refusals::heard_ok` meets its contract.
+use Rattle.refusals.specs.Refusals.{heardOk}
 use borrow.Author.Needs.{needs}
-use Rattle.verdicts.proofs.heard_ok.Statement.{statement}
-use Rattle.verdicts.proofs.heard_ok.Tie as tie
+use Rattle.refusals.proofs.heard_ok.Statement.{statement}
+use Rattle.refusals.proofs.heard_ok.Tie as tie
 
 report-ok-requires : tie.Need-report-ok-requires
 report-ok-requires c κs = search needs

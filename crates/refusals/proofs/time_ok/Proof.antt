@@ -1,10 +1,10 @@
--- `verdicts::time_ok` meets its contract.
+-- `refusals::time_ok` meets its contract.
 use mathlib.Core.Path.{refl}
 use lib.Ieee.{ofInt, ofBits}
 use Rattle.limits.specs.Ranges.{inside}
-use Rattle.verdicts.specs.Verdicts.{timeOk}
-use Rattle.verdicts.proofs.time_ok.Statement.{statement}
-use Rattle.verdicts.proofs.time_ok.Tie as tie
+use Rattle.refusals.specs.Refusals.{timeOk}
+use Rattle.refusals.proofs.time_ok.Statement.{statement}
+use Rattle.refusals.proofs.time_ok.Tie as tie
 
 returns : tie.Need-returns
 unfolding inside timeOk ofInt ofBits

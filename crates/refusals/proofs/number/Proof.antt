@@ -1,9 +1,9 @@
--- `verdicts::number` meets its contract.
+-- `refusals::number` meets its contract.
 use mathlib.Core.Path.{sym, ap}
-use Rattle.verdicts.specs.Verdicts.{numberOf}
+use Rattle.refusals.specs.Refusals.{numberOf}
 use borrow.Author.Needs.{needs}
-use Rattle.verdicts.proofs.number.Statement.{statement}
-use Rattle.verdicts.proofs.number.Tie as tie
+use Rattle.refusals.proofs.number.Statement.{statement}
+use Rattle.refusals.proofs.number.Tie as tie
 
 enum-told : tie.Need-enum-told
 enum-told c = search needs

@@ -1,0 +1,95 @@
+// What a refusal is: document 01's numbers, and the values that a reply may carry. No function requires anything.
+use answers::Ack;
+use answers::ConnAck;
+use answers::Heard;
+use answers::LongAck;
+use answers::Turn;
+use record::Sender;
+ghost use mathlib.Core.Path.{_≡_};
+ghost use Rattle.refusals.specs.Refusals.{numberOf, kindOf, timeOk, reportOk, heardOk, replyOk};
+
+// What becomes of a call: document 01's refusals 1 to 10, each by its name.
+pub enum Verdict {
+    Accepted,
+    ProfileOutOfRange,
+    ShortOverLong,
+    Unsound,
+    OutOfTurn,
+    BadTime,
+    BadValue,
+    ShortPayload,
+    QueueFull,
+    AllTaken,
+    ShortOutput,
+}
+
+// A reply. A long ack's payload travels beside it.
+pub enum Reply {
+    ConnAck(ConnAck),
+    Ack(Ack),
+    LongAck(LongAck),
+    Turn(Turn),
+}
+
+// Document 01's number: 0 where the call is accepted.
+pub fn number(v: Verdict) -> u8
+    ensures { λ r. ⌜ r ≡ numberOf v ⌝ }
+{
+    match v {
+        Verdict::Accepted => 0,
+        Verdict::ProfileOutOfRange => 1,
+        Verdict::ShortOverLong => 2,
+        Verdict::Unsound => 3,
+        Verdict::OutOfTurn => 4,
+        Verdict::BadTime => 5,
+        Verdict::BadValue => 6,
+        Verdict::ShortPayload => 7,
+        Verdict::QueueFull => 8,
+        Verdict::AllTaken => 9,
+        Verdict::ShortOutput => 10,
+    }
+}
+
+// Refusal 5.
+pub fn time_ok(s: Sender, t: f64) -> bool
+    ensures { λ r. ⌜ r ≡ timeOk s t ⌝ }
+{
+    ((0.0 <= t) & (t <= 1000000000.0)) & (s.link.last_time <= t)
+}
+
+// A dB value of a reply.
+fn report_ok(x: f32) -> bool
+    ensures { λ r. ⌜ r ≡ reportOk x ⌝ }
+{
+    (-100.0 <= x) & (x <= 300.0)
+}
+
+pub fn heard_ok(h: Heard) -> bool
+    ensures { λ r. ⌜ r ≡ heardOk h ⌝ }
+{
+    (h.wave <= 5) & report_ok(h.snr_db)
+}
+
+pub fn reply_ok(r: Reply) -> bool
+    ensures { λ q. ⌜ q ≡ replyOk r ⌝ }
+{
+    match r {
+        Reply::ConnAck(c) => report_ok(c.snr_db) & (c.slot <= 2),
+        Reply::Ack(c) => (c.burst <= 3)
+            & ((c.bitmap <= 63) & (report_ok(c.snr_db) & (c.slot <= 2))),
+        Reply::LongAck(_) => true,
+        Reply::Turn(c) => !c.report.set | report_ok(c.report.db),
+    }
+}
+
+// Which reply it is.
+pub fn kind(r: Reply) -> u8
+    ensures { λ q. ⌜ q ≡ kindOf r ⌝ }
+{
+    match r {
+        Reply::ConnAck(_) => 0,
+        Reply::Ack(_) => 1,
+        Reply::LongAck(_) => 2,
+        Reply::Turn(_) => 3,
+    }
+}
