@@ -1,0 +1,316 @@
+// The eight calls that are tried, by number, and what came of them against what document 01 says.
+use answers::Ack;
+use answers::ConnAck;
+use answers::Heard;
+use answers::LongAck;
+use answers::Turn;
+use config::MaybeDb;
+use config::Profile;
+use io::print_decimal;
+use io::write_all;
+use libc::STDOUT_FILENO;
+use outgoing::Outgoing;
+use record::Sender;
+use report::ChanClass;
+use crate::same::all_from;
+use crate::same::same_bytes;
+use crate::same::same_record;
+use sender::Reply;
+use sender::number;
+
+// How many calls there are: queue, connect, short ack, long ack, turn, burst, find, piece.
+pub const CALLS: u8 = 8;
+
+// The output's bytes before a call.
+pub const BLANK: u8 = 165;
+
+// What a call answered: document 01's number, or 99 where what comes with a refusal is not empty; and the record. sent: bytes of the output.
+pub struct Got {
+    pub number: u8,
+    pub next: Sender,
+    pub sent: usize,
+}
+
+// Cases tried, and those that differ.
+pub struct Tally {
+    pub cases: u64,
+    pub differ: u64,
+}
+
+fn bump(n: u64) -> u64 {
+    if n < 1000000000000 { n + 1 } else { n }
+}
+
+pub(crate) fn say(text: &[u8], n: u64) {
+    write_all(STDOUT_FILENO, text);
+    print_decimal(STDOUT_FILENO, n);
+}
+
+impl Tally {
+    // One case more.
+    pub(crate) fn seen(mut self, ok: bool) -> Tally {
+        let c = bump(self.cases);
+        let d = bump(self.differ);
+        self.cases = c;
+        if !ok {
+            self.differ = d;
+        }
+        self
+    }
+}
+
+pub(crate) fn nothing() -> Tally {
+    Tally {
+        cases: 0,
+        differ: 0,
+    }
+}
+
+// A group's line; and its differences join those before.
+pub(crate) fn told(name: &[u8], t: Tally, before: u64) -> u64 {
+    write_all(STDOUT_FILENO, name);
+    say(b": ", t.cases);
+    say(b" cases, ", t.differ);
+    write_all(STDOUT_FILENO, b" differ\n");
+    if (before < 1000000000000) & (t.differ < 1000000000000) {
+        return before + t.differ;
+    }
+    before
+}
+
+// A case: it differs where it is not ok, and is then written with its numbers.
+pub(crate) fn noted(t: Tally, name: &[u8], at: u64, call: u8, want: u8, got: u8, ok: bool) -> Tally {
+    if !ok {
+        write_all(STDOUT_FILENO, name);
+        say(b", case ", at);
+        say(b", call ", call as u64);
+        say(b": expected ", want as u64);
+        say(b", got ", got as u64);
+        write_all(STDOUT_FILENO, b", or bytes or record changed\n");
+    }
+    t.seen(ok)
+}
+
+pub(crate) fn no_class() -> ChanClass {
+    ChanClass {
+        echo: false,
+        doppler: false,
+    }
+}
+
+pub(crate) fn heard_at(time: f64) -> Heard {
+    Heard {
+        time: time,
+        wave: 5,
+        snr_db: 20.0,
+    }
+}
+
+pub(crate) fn conn_ack() -> ConnAck {
+    ConnAck {
+        session: 9,
+        snr_db: 20.0,
+        class: no_class(),
+        slot: 0,
+        cue: false,
+    }
+}
+
+pub(crate) fn short_ack(burst: u8, bitmap: u8) -> Ack {
+    Ack {
+        burst: burst,
+        bitmap: bitmap,
+        snr_db: 20.0,
+        want_turn: false,
+        want_disc: false,
+        stored: true,
+        class: no_class(),
+        slot: 0,
+    }
+}
+
+pub(crate) fn long_ack() -> LongAck {
+    LongAck {
+        want_turn: false,
+        want_disc: false,
+        stored: true,
+    }
+}
+
+pub(crate) fn turn() -> Turn {
+    Turn {
+        report: MaybeDb {
+            set: true,
+            db: 20.0,
+        },
+    }
+}
+
+// A reply with a payload of zeros.
+pub(crate) fn receive(p: Profile, s: Sender, a: &mut [u8], h: Heard, r: Reply, payload: &[u8]) -> Got {
+    let q = sender::sender_rx(p, s, a, h, r, payload);
+    let v = q.verdict;
+    let next = q.next;
+    Got {
+        number: number(v),
+        next: next,
+        sent: 0,
+    }
+}
+
+fn reply_of(c: u8) -> Reply {
+    if c == 1 {
+        return Reply::ConnAck(conn_ack());
+    }
+    if c == 2 {
+        return Reply::Ack(short_ack(1, 0));
+    }
+    if c == 3 {
+        return Reply::LongAck(long_ack());
+    }
+    Reply::Turn(turn())
+}
+
+pub(crate) fn queued(p: Profile, s: Sender, a: &mut [u8], bytes: &[u8]) -> Got {
+    let q = sender::queue(p, s, a, bytes);
+    let v = q.verdict;
+    let next = q.next;
+    Got {
+        number: number(v),
+        next: next,
+        sent: 0,
+    }
+}
+
+fn or_odd(n: u8, empty: bool) -> u8 {
+    if (n != 0) & !empty {
+        return 99;
+    }
+    n
+}
+
+fn no_frame(o: Outgoing) -> bool {
+    (o.wave == 0)
+        & (o.code == 0)
+        & (o.user == 0)
+        & (o.extra == 0)
+        & !o.cue
+        & !o.td_ease
+        & (o.number == 0)
+        & (o.frames.n == 0)
+}
+
+fn frame_size(p: Profile, level: usize) -> usize {
+    if level < 5 {
+        return p.short_bytes as usize;
+    }
+    p.long_bytes as usize
+}
+
+fn product(n: usize, size: usize) -> usize {
+    if (n <= 64) & (size <= 512) {
+        return n * size;
+    }
+    0
+}
+
+pub(crate) fn bursted(p: Profile, s: Sender, a: &mut [u8], out: &mut [u8]) -> Got {
+    let q = sender::data_burst(p, s, a, out);
+    let v = q.verdict;
+    let next = q.next;
+    let o = q.outgoing;
+    let n = number(v);
+    let frames = o.frames;
+    Got {
+        number: or_odd(n, no_frame(o)),
+        next: next,
+        sent: product(frames.n, frame_size(p, s.gear.level)),
+    }
+}
+
+pub(crate) fn found(p: Profile, s: Sender, a: &[u8], off: u32) -> Got {
+    let q = sender::find(p, s, a, off);
+    let v = q.verdict;
+    let f = q.found;
+    let n = number(v);
+    Got {
+        number: or_odd(n, !f.here & (f.start == 0) & (f.len == 0)),
+        next: s,
+        sent: 0,
+    }
+}
+
+// The piece's bytes are as many as `find` says, none where it is refused.
+pub(crate) fn pieced(p: Profile, s: Sender, a: &[u8], off: u32) -> Got {
+    let q = sender::find(p, s, a, off);
+    let v = q.verdict;
+    let f = q.found;
+    let b = sender::piece(p, s, a, off);
+    let n = b.len();
+    let k = number(v);
+    let same = n == f.len;
+    Got {
+        number: or_odd(k, n == 0),
+        next: s,
+        sent: if same { 0 } else { 1 },
+    }
+}
+
+// Call c.
+pub(crate) fn call(p: Profile, s: Sender, a: &mut [u8], out: &mut [u8], c: u8) -> Got {
+    if c == 0 {
+        return queued(p, s, a, b"abc");
+    }
+    if c == 5 {
+        return bursted(p, s, a, out);
+    }
+    if c == 6 {
+        return found(p, s, a, 0);
+    }
+    if c == 7 {
+        return pieced(p, s, a, 0);
+    }
+    let payload = [0u8; 13];
+    let h = heard_at(s.link.last_time);
+    receive(p, s, a, h, reply_of(c), &payload)
+}
+
+// The record for call c: connect comes before it is connected.
+pub(crate) fn fit(s: Sender, c: u8) -> Sender {
+    let mut q = s;
+    q.link.connected = c != 1;
+    q
+}
+
+// Every call is refused by `want`, with the record as it was.
+pub(crate) fn refused(t: Tally, name: &[u8], at: u64, p: Profile, s: Sender, a: &mut [u8], out: &mut [u8], want: u8) -> Tally {
+    let mut r = t;
+    let mut c: u8 = 0;
+    while c < CALLS {
+        let q = fit(s, c);
+        let g = call(p, q, a, out, c);
+        let ok = (g.number == want) & (g.sent == 0) & same_record(g.next, q);
+        r = noted(r, name, at, c, want, g.number, ok);
+        c += 1;
+    }
+    r
+}
+
+// The bytes after refused calls: the work area as `before`, the output blank.
+pub(crate) fn kept(t: Tally, name: &[u8], at: u64, a: &[u8], before: &[u8], out: &[u8]) -> Tally {
+    let ok = same_bytes(a, before) & all_from(out, 0, BLANK);
+    noted(t, name, at, 99, 0, 0, ok)
+}
+
+// Every call is accepted. The work area may hold anything: the record has no piece.
+pub(crate) fn accepted(t: Tally, name: &[u8], at: u64, p: Profile, s: Sender, a: &mut [u8], out: &mut [u8]) -> Tally {
+    let mut r = t;
+    let mut c: u8 = 0;
+    while c < CALLS {
+        let g = call(p, fit(s, c), a, out, c);
+        let ok = (g.number == 0) & ((c != 7) | (g.sent == 0));
+        r = noted(r, name, at, c, 0, g.number, ok);
+        c += 1;
+    }
+    r
+}
