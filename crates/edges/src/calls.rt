@@ -1,4 +1,4 @@
-// The eight calls that are tried, by number, and what came of them against what document 01 says.
+// The calls that are tried, 0 to 7: queue, connect, short ack, long ack, turn, burst, find, piece; and what came of them against what document 01 says.
 use answers::Ack;
 use answers::ConnAck;
 use answers::Heard;
@@ -17,9 +17,6 @@ use crate::same::same_bytes;
 use crate::same::same_record;
 use sender::Reply;
 use sender::number;
-
-// How many calls there are: queue, connect, short ack, long ack, turn, burst, find, piece.
-pub const CALLS: u8 = 8;
 
 // The output's bytes before a call.
 pub const BLANK: u8 = 165;
@@ -207,9 +204,19 @@ fn frame_size(p: Profile, level: usize) -> usize {
     p.long_bytes as usize
 }
 
-fn product(n: usize, size: usize) -> usize {
-    if (n <= 64) & (size <= 512) {
-        return n * size;
+// The bytes of n frames, of the sizes whose outputs are looked at.
+fn bytes_of(n: usize, size: usize) -> usize {
+    if n > 64 {
+        return 0;
+    }
+    if size == 18 {
+        return n * 18;
+    }
+    if size == 190 {
+        return n * 190;
+    }
+    if size == 512 {
+        return n * 512;
     }
     0
 }
@@ -224,7 +231,7 @@ pub(crate) fn bursted(p: Profile, s: Sender, a: &mut [u8], out: &mut [u8]) -> Go
     Got {
         number: or_odd(n, no_frame(o)),
         next: next,
-        sent: product(frames.n, frame_size(p, s.gear.level)),
+        sent: bytes_of(frames.n, frame_size(p, s.gear.level)),
     }
 }
 
@@ -277,8 +284,9 @@ pub(crate) fn call(p: Profile, s: Sender, a: &mut [u8], out: &mut [u8], c: u8) -
 
 // The record for call c: connect comes before it is connected.
 pub(crate) fn fit(s: Sender, c: u8) -> Sender {
+    let connected = c != 1;
     let mut q = s;
-    q.link.connected = c != 1;
+    q.link.connected = connected;
     q
 }
 
@@ -286,7 +294,7 @@ pub(crate) fn fit(s: Sender, c: u8) -> Sender {
 pub(crate) fn refused(t: Tally, name: &[u8], at: u64, p: Profile, s: Sender, a: &mut [u8], out: &mut [u8], want: u8) -> Tally {
     let mut r = t;
     let mut c: u8 = 0;
-    while c < CALLS {
+    while c < 8 {
         let q = fit(s, c);
         let g = call(p, q, a, out, c);
         let ok = (g.number == want) & (g.sent == 0) & same_record(g.next, q);
@@ -306,11 +314,41 @@ pub(crate) fn kept(t: Tally, name: &[u8], at: u64, a: &[u8], before: &[u8], out:
 pub(crate) fn accepted(t: Tally, name: &[u8], at: u64, p: Profile, s: Sender, a: &mut [u8], out: &mut [u8]) -> Tally {
     let mut r = t;
     let mut c: u8 = 0;
-    while c < CALLS {
+    while c < 8 {
         let g = call(p, fit(s, c), a, out, c);
         let ok = (g.number == 0) & ((c != 7) | (g.sent == 0));
         r = noted(r, name, at, c, 0, g.number, ok);
         c += 1;
     }
     r
+}
+
+// Copies the bytes of `from` over those of `to`, which is as long.
+pub(crate) fn restore(to: &mut [u8], from: &[u8]) {
+    if from.len() <= to.len() {
+        moves::copy_in(to, 0, from);
+    }
+}
+
+// Every call is accepted, each from the work area `before`; the queuing may have its refusal `full`. Past 49,152 the bytes are kept.
+pub(crate) fn taken(t: Tally, name: &[u8], at: u64, p: Profile, s: Sender, before: &[u8], b: &mut [u8], spare: &mut [u8], full: u8) -> Tally {
+    let mut r = t;
+    let mut c: u8 = 0;
+    while c < 8 {
+        restore(b, before);
+        let g = call(p, fit(s, c), b, spare, c);
+        let want = if c == 0 { full } else { 0 };
+        let ok = (g.number == want) & ((c != 7) | (g.sent == 0));
+        r = noted(r, name, at, c, want, g.number, ok);
+        c += 1;
+    }
+    r
+}
+
+// Every call is accepted or, where `want` is 3, refused by it.
+pub(crate) fn judged(t: Tally, name: &[u8], at: u64, p: Profile, s: Sender, want: u8, a: &mut [u8], before: &[u8], out: &mut [u8], b: &mut [u8], spare: &mut [u8]) -> Tally {
+    if want == 3 {
+        return refused(t, name, at, p, s, a, out, 3);
+    }
+    taken(t, name, at, p, s, before, b, spare, want)
 }

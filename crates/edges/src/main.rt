@@ -1,18 +1,22 @@
-// The sender's calls at the edges of document 01.
+// The sender's calls at the edges of document 01, each answer and the bytes against what the paper says. `stdout` has a line for each group: how many cases
+// it has, as the comments reckon them, and how many differ. A difference is written as it is found.
 mod calls;
+mod lists;
+mod made;
 mod profiles;
+mod records;
 mod same;
 mod values;
 
 use calls::BLANK;
-use calls::Tally;
+use calls::restore;
 use calls::say;
 use calls::told;
 use io::write_all;
 use libc::STDOUT_FILENO;
 use record::Sender;
 
-// Byte i is 7 i + 3 modulo 256.
+// Byte 0 is 3; each next one is 7 more than the last modulo 249.
 fn pattern(a: &mut [u8]) {
     let mut x: u8 = 3;
     let mut i: usize = 0;
@@ -31,10 +35,9 @@ fn blank(a: &mut [u8]) {
 // A connected record with 100 bytes waiting and no piece.
 fn waiting(a: &mut [u8]) -> Sender {
     let p = profiles::wide_profile();
-    let h = calls::heard_at(0.0);
-    let g = calls::receive(p, sender::fresh(), a, h, sender::Reply::ConnAck(calls::conn_ack()), b"");
+    let s = made::connected(p, a, 0.0);
     let bytes = [7u8; 100];
-    let q = calls::queued(p, g.next, a, &bytes);
+    let q = calls::queued(p, s, a, &bytes);
     q.next
 }
 
@@ -51,9 +54,34 @@ fn profile_groups(n: u64, a: &mut [u8], before: &mut [u8], out: &mut [u8], b: &m
     told(b"profile, short frame and long", profiles::sizes(s, a, before, out, b, spare), d)
 }
 
+fn record_groups(n: u64, s: Sender, a: &mut [u8], before: &mut [u8], out: &mut [u8], b: &mut [u8], spare: &mut [u8]) -> u64 {
+    let mut d = n;
+    d = told(b"record, levels and numbers", records::wholes(s, a, before, out, b, spare), d);
+    d = told(b"record, seconds and times", records::seconds(s, a, before, out, b, spare), d);
+    d = told(b"record, shares, dB and Doppler", records::singles(s, a, before, out, b, spare), d);
+    d = told(b"record, held list", lists::helds(s, a, before, out, b, spare), d);
+    d = told(b"record, outstanding burst", lists::sents(s, a, before, out, b, spare), d);
+    d = told(b"record, counts", lists::counts(s, a, before, out, b, spare), d);
+    told(b"record, rows of pieces", lists::rows(s, a, before, out), d)
+}
+
+fn large_groups(n: u64, s: Sender, a: &mut [u8], before: &mut [u8], out: &mut [u8], b: &mut [u8], spare: &mut [u8]) -> u64 {
+    let mut d = n;
+    d = told(b"record, 64 pieces of 255 bytes", lists::whole_burst(s, a, before, out, b, spare), d);
+    d = told(b"record, 65 pieces", lists::split_burst(s, a, before, out, b, spare), d);
+    told(b"record, 16,321 bytes flying", lists::over_burst(s, a, before, out), d)
+}
+
 fn run(a: &mut [u8], before: &mut [u8], out: &mut [u8], b: &mut [u8], spare: &mut [u8]) {
     let mut d: u64 = 0;
     d = profile_groups(d, a, before, out, b, spare);
+    let s = made::small(a, spare);
+    restore(before, a);
+    d = record_groups(d, s, a, before, out, b, spare);
+    let w = made::large(a, spare);
+    restore(before, a);
+    d = told(b"records made", lists::as_meant(s, w), d);
+    d = large_groups(d, w, a, before, out, b, spare);
     say(b"differences: ", d);
     write_all(STDOUT_FILENO, b"\n");
 }
