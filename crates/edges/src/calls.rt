@@ -109,7 +109,7 @@ pub(crate) fn conn_ack() -> ConnAck {
         snr_db: 20.0,
         class: no_class(),
         slot: 0,
-        cue: false,
+        cue: true,
     }
 }
 

@@ -316,27 +316,25 @@ fn held_all(s: Sender) -> Sender {
 // The burst of 64 pieces of 255 bytes: 16,320 bytes, 2,048 pieces of 8 bytes, 64 held, a long payload of 255. 5 records in 8 calls, and the bytes: 41 cases.
 pub(crate) fn whole_burst(s: Sender, a: &mut [u8], before: &[u8], out: &mut [u8], b: &mut [u8], spare: &mut [u8]) -> Tally {
     let name = b"record, 64 pieces of 255 bytes";
-    let most: u32 = 4294967295;
     let mut r = nothing();
-    r = judged(r, name, 0, fast(18, 512, most), s, 0, a, before, out, b, spare);
-    r = judged(r, name, 1, fast(18, 265, most), s, 0, a, before, out, b, spare);
-    r = judged(r, name, 2, fast(18, 264, most), s, 3, a, before, out, b, spare);
-    r = judged(r, name, 3, fast(19, 512, most), s, 0, a, before, out, b, spare);
-    r = judged(r, name, 4, fast(18, 512, most), held_all(s), 0, a, before, out, b, spare);
+    r = judged(r, name, 0, fast(18, 512), s, 0, a, before, out, b, spare);
+    r = judged(r, name, 1, fast(18, 265), s, 0, a, before, out, b, spare);
+    r = judged(r, name, 2, fast(18, 264), s, 3, a, before, out, b, spare);
+    r = judged(r, name, 3, fast(19, 512), s, 0, a, before, out, b, spare);
+    r = judged(r, name, 4, fast(18, 512), held_all(s), 0, a, before, out, b, spare);
     kept(r, name, 5, a, before, out)
 }
 
 // The last byte a piece of its own: 2,049 pieces of 8 bytes, fewer of 9; 65 offsets outstanding and unsent, or 64. 5 records in 8 calls, and the bytes: 41 cases.
 fn split_cases(s: Sender, a: &mut [u8], before: &[u8], out: &mut [u8], b: &mut [u8], spare: &mut [u8]) -> Tally {
     let name = b"record, 65 pieces";
-    let most: u32 = 4294967295;
     let q = split(s, false);
     let mut r = nothing();
-    r = judged(r, name, 0, fast(18, 512, most), q, 3, a, before, out, b, spare);
-    r = judged(r, name, 1, fast(19, 512, most), q, 0, a, before, out, b, spare);
-    r = judged(r, name, 2, fast(19, 512, most), held_last(s, 1, 64), 3, a, before, out, b, spare);
-    r = judged(r, name, 3, fast(19, 512, most), held_last(s, 0, 64), 0, a, before, out, b, spare);
-    r = judged(r, name, 4, fast(19, 512, most), held_last(s, 1, 63), 0, a, before, out, b, spare);
+    r = judged(r, name, 0, fast(18, 512), q, 3, a, before, out, b, spare);
+    r = judged(r, name, 1, fast(19, 512), q, 0, a, before, out, b, spare);
+    r = judged(r, name, 2, fast(19, 512), held_last(s, 1, 64), 3, a, before, out, b, spare);
+    r = judged(r, name, 3, fast(19, 512), held_last(s, 0, 64), 0, a, before, out, b, spare);
+    r = judged(r, name, 4, fast(19, 512), held_last(s, 1, 63), 0, a, before, out, b, spare);
     kept(r, name, 5, a, before, out)
 }
 
@@ -351,7 +349,7 @@ pub(crate) fn over_burst(s: Sender, a: &mut [u8], before: &mut [u8], out: &mut [
     let name = b"record, 16,321 bytes flying";
     put_rows(a, 16065, 255, 16320, 1);
     restore(before, a);
-    let r = refused(nothing(), name, 0, fast(19, 512, 4294967295), split(s, true), a, out, 3);
+    let r = refused(nothing(), name, 0, fast(19, 512), split(s, true), a, out, 3);
     kept(r, name, 1, a, before, out)
 }
 

@@ -11,18 +11,22 @@ use config::Profile;
 use record::Sender;
 use sender::Reply;
 
-// A fast radio: a burst has as many frames as `most` bits allow.
-pub(crate) fn fast(short: u32, long: u32, most: u32) -> Profile {
+// A radio of so many bits a second at every level.
+fn at_rate(short: u32, long: u32, rate: f64) -> Profile {
     let mut p = sized(short, long);
     let mut air = p.air;
-    air.rate = [100000.0; 17];
-    air.max_bits = [most; 17];
+    air.rate = [rate; 17];
     p.air = air;
     p
 }
 
+// So fast that 64 frames go in a burst.
+pub(crate) fn fast(short: u32, long: u32) -> Profile {
+    at_rate(short, long, 100000.0)
+}
+
 pub(crate) fn small_profile() -> Profile {
-    fast(32, 180, 4294967295)
+    fast(32, 180)
 }
 
 pub(crate) fn connected(p: Profile, a: &mut [u8], time: f64) -> Sender {
@@ -46,8 +50,9 @@ pub(crate) fn small(a: &mut [u8], out: &mut [u8]) -> Sender {
     let bytes = [7u8; 1700];
     let q = queued(p, s, a, &bytes);
     let g = acked(p, q.next, a, out, 1);
-    let few = fast(32, 180, 500);
-    let b = bursted(few, g.next, a, out);
+    let mut slow = at_rate(32, 180, 80.0);
+    slow.cue_below_db = 100.0;
+    let b = bursted(slow, g.next, a, out);
     let more = [9u8; 100];
     let r = queued(p, b.next, a, &more);
     r.next
@@ -55,7 +60,7 @@ pub(crate) fn small(a: &mut [u8], out: &mut [u8]) -> Sender {
 
 // 64 pieces of 255 bytes in a burst, and 64 bytes waiting.
 pub(crate) fn large(a: &mut [u8], out: &mut [u8]) -> Sender {
-    let p = fast(18, 512, 4294967295);
+    let p = fast(18, 512);
     let s = connected(p, a, 0.0);
     let bytes = [7u8; 16384];
     let q = queued(p, s, a, &bytes);

@@ -1,10 +1,12 @@
 // The sender's calls at the edges of document 01, each answer and the bytes against what the paper says. `stdout` has a line for each group: how many cases
 // it has, as the comments reckon them, and how many differ. A difference is written as it is found.
+mod bounds;
 mod calls;
 mod lists;
 mod made;
 mod profiles;
 mod records;
+mod reply_cases;
 mod same;
 mod values;
 
@@ -72,12 +74,39 @@ fn large_groups(n: u64, s: Sender, a: &mut [u8], before: &mut [u8], out: &mut [u
     told(b"record, 16,321 bytes flying", lists::over_burst(s, a, before, out), d)
 }
 
+// Of replies and queued bytes.
+fn reply_groups(n: u64, s: Sender, a: &mut [u8], before: &mut [u8], out: &mut [u8], b: &mut [u8], spare: &mut [u8]) -> u64 {
+    let mut d = n;
+    restore(b, before);
+    d = told(b"out of turn", reply_cases::turns(s, a, before, out), d);
+    d = told(b"times", reply_cases::times(s, before, b), d);
+    d = told(b"dB", reply_cases::dbs(s, before, b), d);
+    d = told(b"reply numbers", reply_cases::numbers(s, before, b), d);
+    d = told(b"payloads", reply_cases::payloads(s, before, b), d);
+    d = told(b"queued bytes", reply_cases::queues(s, before, b), d);
+    d = told(b"order", reply_cases::orders(s, before, b), d);
+    told(b"work areas", bounds::areas(s, a, before, out, b, spare), d)
+}
+
+// A connected record with 16,384 bytes waiting and no piece.
+fn full(a: &mut [u8]) -> Sender {
+    let p = profiles::wide_profile();
+    let s = made::connected(p, a, 0.0);
+    let bytes = [7u8; 16384];
+    let q = calls::queued(p, s, a, &bytes);
+    q.next
+}
+
 fn run(a: &mut [u8], before: &mut [u8], out: &mut [u8], b: &mut [u8], spare: &mut [u8]) {
     let mut d: u64 = 0;
     d = profile_groups(d, a, before, out, b, spare);
     let s = made::small(a, spare);
     restore(before, a);
     d = record_groups(d, s, a, before, out, b, spare);
+    d = reply_groups(d, s, a, before, out, b, spare);
+    let f = full(a);
+    restore(before, a);
+    d = told(b"outputs", bounds::outputs(f, before, b, spare), d);
     let w = made::large(a, spare);
     restore(before, a);
     d = told(b"records made", lists::as_meant(s, w), d);
