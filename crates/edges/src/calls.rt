@@ -63,16 +63,22 @@ pub(crate) fn nothing() -> Tally {
     }
 }
 
+fn sum(x: u64, y: u64) -> u64 {
+    if x < 1000000000000 {
+        if y < 1000000000000 {
+            return x + y;
+        }
+    }
+    x
+}
+
 // A group's line; and its differences join those before.
 pub(crate) fn told(name: &[u8], t: Tally, before: u64) -> u64 {
     write_all(STDOUT_FILENO, name);
     say(b": ", t.cases);
     say(b" cases, ", t.differ);
     write_all(STDOUT_FILENO, b" differ\n");
-    if (before < 1000000000000) & (t.differ < 1000000000000) {
-        return before + t.differ;
-    }
-    before
+    sum(before, t.differ)
 }
 
 // A case: it differs where it is not ok, and is then written with its numbers.

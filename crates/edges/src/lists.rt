@@ -8,109 +8,135 @@ use crate::calls::refused;
 use crate::calls::restore;
 use crate::made::fast;
 use crate::made::small_profile;
-use crate::values::less32;
-use crate::values::more32;
 use record::Sender;
+ghost use Prim.Native.Nat.{_<_};
 
-// The held list: 9 pieces, the last 7 unsent. Bits are below twice the mother length, 5760.
-fn with_held(s: Sender, k: u8) -> Sender {
+fn held_counts(s: Sender, n: usize, rest: usize) -> Sender {
+    let mut q = s;
+    q.at_peer.n = n;
+    q.at_peer.rest = rest;
+    q
+}
+
+fn held_off(s: Sender, i: usize, off: u32) -> Sender
+    requires { ⌜ i < 64 ⌝ }
+{
     let mut h = s.at_peer;
-    let mut off = h.off;
-    let mut bits = h.bits;
-    if k == 0 {
-        h.n = 65;
-    } else if k == 1 {
-        h.rest = 10;
-    } else if k == 2 {
-        off[1] = off[0];
-    } else if k == 3 {
-        off[0] = more32(off[0]);
-    } else if k == 4 {
-        bits[0] = 0;
-    } else if k == 5 {
-        bits[0] = 11520;
-    } else if k == 6 {
-        // the two outstanding frames are of the rest
-        h.rest = 9;
-    } else if k == 7 {
-        h.rest = 8;
-    } else if k == 8 {
-        bits[0] = 1;
-    } else if k == 9 {
-        bits[0] = 11519;
-    } else {
-        h.n = 0;
-        h.rest = 0;
-    }
-    h.off = off;
-    h.bits = bits;
+    let mut x = h.off;
+    x[i] = off;
+    h.off = x;
     let mut q = s;
     q.at_peer = h;
     q
 }
 
-// The bits and held bits of the first outstanding frame.
-fn with_sent_bits(s: Sender, k: u8) -> Sender {
-    let mut b = s.last_burst;
-    let mut bits = b.bits;
-    let mut held = b.held;
-    if k == 4 {
-        bits[0] = 0;
+fn held_bits(s: Sender, bits: u32) -> Sender {
+    let mut h = s.at_peer;
+    let mut x = h.bits;
+    x[0] = bits;
+    h.bits = x;
+    let mut q = s;
+    q.at_peer = h;
+    q
+}
+
+// The held list: 9 pieces from offset 170 on, 170 bytes each, the last 7 unsent. Bits are below twice the mother length, 5,760.
+fn with_held(s: Sender, k: u8) -> Sender {
+    if k == 0 {
+        held_counts(s, 65, 7)
+    } else if k == 1 {
+        held_counts(s, 9, 10)
+    } else if k == 2 {
+        held_off(s, 1, 170)
+    } else if k == 3 {
+        held_off(s, 0, 171)
+    } else if k == 4 {
+        held_bits(s, 0)
     } else if k == 5 {
-        bits[0] = 16385;
-        held[0] = 49151;
+        held_bits(s, 11520)
     } else if k == 6 {
-        held[0] = less32(bits[0]);
+        // the outstanding frames are of the rest
+        held_counts(s, 9, 9)
     } else if k == 7 {
-        held[0] = 49152;
+        held_counts(s, 9, 8)
     } else if k == 8 {
-        bits[0] = 1;
-        held[0] = 1;
+        held_bits(s, 1)
     } else if k == 9 {
-        bits[0] = 16384;
-        held[0] = 16384;
+        held_bits(s, 11519)
     } else {
-        bits[0] = 16384;
-        held[0] = 49151;
+        held_counts(s, 0, 0)
     }
-    b.bits = bits;
-    b.held = held;
+}
+
+fn sent_count(s: Sender, n: usize) -> Sender {
+    let mut q = s;
+    q.last_burst.n = n;
+    q
+}
+
+fn sent_off(s: Sender, i: usize, off: u32) -> Sender
+    requires { ⌜ i < 64 ⌝ }
+{
+    let mut b = s.last_burst;
+    let mut x = b.off;
+    x[i] = off;
+    b.off = x;
     let mut q = s;
     q.last_burst = b;
     q
 }
 
-// The outstanding burst: 2 frames.
-fn with_sent(s: Sender, k: u8) -> Sender {
+// The bits and held bits of the first outstanding frame.
+fn sent_bits(s: Sender, bits: u32, held: u32) -> Sender {
     let mut b = s.last_burst;
-    let mut off = b.off;
-    let last = s.at_peer.off[8];
-    if k == 0 {
-        b.n = 65;
-    } else if k == 1 {
-        off[1] = off[0];
-    } else if k == 2 {
-        off[0] = more32(off[0]);
-    } else if k == 3 {
-        // of the rest
-        off[0] = last;
-    } else if k < 11 {
-        return with_sent_bits(s, k);
-    } else {
-        b.n = 0;
-    }
-    b.off = off;
+    let mut x = b.bits;
+    let mut y = b.held;
+    x[0] = bits;
+    y[0] = held;
+    b.bits = x;
+    b.held = y;
     let mut q = s;
     q.last_burst = b;
     q
+}
+
+// The outstanding burst: 2 frames of the first two held pieces, 240 bits of 2,160 each.
+fn with_sent(s: Sender, k: u8) -> Sender {
+    if k == 0 {
+        sent_count(s, 65)
+    } else if k == 1 {
+        sent_off(s, 1, 170)
+    } else if k == 2 {
+        sent_off(s, 0, 171)
+    } else if k == 3 {
+        // of the rest
+        sent_off(s, 0, 1530)
+    } else if k == 4 {
+        sent_bits(s, 0, 2160)
+    } else if k == 5 {
+        sent_bits(s, 16385, 49151)
+    } else if k == 6 {
+        sent_bits(s, 240, 239)
+    } else if k == 7 {
+        sent_bits(s, 240, 49152)
+    } else if k == 8 {
+        sent_bits(s, 1, 1)
+    } else if k == 9 {
+        sent_bits(s, 16384, 16384)
+    } else if k == 10 {
+        sent_bits(s, 16384, 49151)
+    } else {
+        sent_count(s, 0)
+    }
 }
 
 // A next offset n with 1,530 bytes flying and the rest acknowledged.
 fn with_next(s: Sender, n: u32) -> Sender {
     let mut q = s;
     if 1530 <= n {
+        let acked = n - 1530;
         q.counts.next_offset = n;
-        q.counts.bytes_acked = n - 1530;
+        q.counts.bytes_acked = acked;
         return q;
     }
     q
@@ -220,15 +246,18 @@ pub(crate) fn counts(s: Sender, a: &mut [u8], before: &[u8], out: &mut [u8], b: 
     group(b"record, counts", 2, 13, s, a, before, out, b, spare)
 }
 
-// Changes a byte by one, up or down, around 256.
+// One up or down, around 256.
+fn stepped(x: u8, up: bool) -> u8 {
+    if up {
+        return if x < 255 { x + 1 } else { 0 };
+    }
+    if 0 < x { x - 1 } else { 255 }
+}
+
 fn nudge(a: &mut [u8], at: usize, up: bool) {
     if at < a.len() {
-        let x = a[at];
-        if up {
-            a[at] = if x == 255 { 0 } else { x + 1 };
-        } else {
-            a[at] = if x == 0 { 255 } else { x - 1 };
-        }
+        let x = stepped(a[at], up);
+        a[at] = x;
     }
 }
 
@@ -284,19 +313,8 @@ fn split(s: Sender, more: bool) -> Sender {
 
 // The last of 65 pieces held, and `sent` frames outstanding.
 fn held_last(s: Sender, rest: usize, sent: usize) -> Sender {
-    let mut h = s.at_peer;
-    let mut off = h.off;
-    let mut bits = h.bits;
-    off[0] = 16319;
-    bits[0] = 1;
-    h.off = off;
-    h.bits = bits;
-    h.n = 1;
-    h.rest = rest;
-    let mut q = split(s, false);
-    q.at_peer = h;
-    q.last_burst.n = sent;
-    q
+    let q = held_bits(held_off(split(s, false), 0, 16319), 1);
+    sent_count(held_counts(q, 1, rest), sent)
 }
 
 // All 64 pieces held.
@@ -353,20 +371,23 @@ pub(crate) fn over_burst(s: Sender, a: &mut [u8], before: &mut [u8], out: &mut [
     kept(r, name, 1, a, before, out)
 }
 
+fn as_meant_small(s: Sender) -> bool {
+    let c = s.counts;
+    let h = s.at_peer;
+    let b = s.last_burst;
+    let counts = (c.pieces == 9) & (c.flying == 1530) & (c.next_offset == 1700) & (c.bytes_acked == 170) & (c.waiting == 100);
+    let held = (h.n == 9) & (h.rest == 7) & (h.off[0] == 170) & (h.off[1] == 340) & (h.off[8] == 1530);
+    let sent = (b.n == 2) & (b.off[0] == 170) & (b.off[1] == 340) & (b.bits[0] == 240) & (b.held[0] == 2160);
+    counts & held & sent
+}
+
+fn as_meant_large(s: Sender) -> bool {
+    let c = s.counts;
+    (c.pieces == 64) & (c.flying == 16320) & (c.waiting == 64) & (s.last_burst.n == 64)
+}
+
 // The records are those that the cases are about: 2 cases.
 pub(crate) fn as_meant(small: Sender, large: Sender) -> Tally {
-    let c = small.counts;
-    let h = small.at_peer;
-    let d = large.counts;
-    let ok = (c.pieces == 9)
-        & (c.flying == 1530)
-        & (c.next_offset == 1700)
-        & (c.bytes_acked == 170)
-        & (c.waiting == 100)
-        & (h.n == 9)
-        & (h.rest == 7)
-        & (small.last_burst.n == 2);
-    let full = (d.pieces == 64) & (d.flying == 16320) & (d.waiting == 64) & (large.last_burst.n == 64);
-    let t = noted(nothing(), b"records made", 0, 99, 0, 0, ok);
-    noted(t, b"records made", 1, 99, 0, 0, full)
+    let t = noted(nothing(), b"records made", 0, 99, 0, 0, as_meant_small(small));
+    noted(t, b"records made", 1, 99, 0, 0, as_meant_large(large))
 }

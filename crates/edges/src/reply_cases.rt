@@ -307,8 +307,9 @@ fn counted(s: Sender, waiting: u32, n: u32) -> Sender {
     let mut q = s;
     q.counts.waiting = waiting;
     if 1530 <= n {
+        let acked = n - 1530;
         q.counts.next_offset = n;
-        q.counts.bytes_acked = n - 1530;
+        q.counts.bytes_acked = acked;
         return q;
     }
     q

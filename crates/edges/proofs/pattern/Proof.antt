@@ -37,7 +37,7 @@ loop-less c = search needs
 
 -- src/main.rt:19:5
 loop-again : tie.Need-loop-again Inv-loop μ-loop
-loop-again c = search needs
+loop-again c = (simp length-set (omega arith), simp length-set (c .before .loop .inv .1))
 
 -- src/main.rt:16:1
 same-length : tie.Need-same-length Inv-loop μ-loop

@@ -14,10 +14,10 @@ use Rattle.edges.proofs.calls.noted.Reads as noted-reads
 use Rattle.edges.proofs.same.same_record.Reads as same-record-reads
 
 abbrev Inv-loop : tie.InvT-loop
-Inv-loop name at p s a₀ out₀ want r₀ c₀ a out r c = ?
+Inv-loop name at p s a₀ out₀ want r₀ c₀ a out r c = (c ≤ 8) × (length a ≡ length a₀) × (length out ≡ length out₀)
 
 abbrev μ-loop : tie.MeasureT-loop
-μ-loop name at p s a₀ out₀ want r₀ c₀ a out r c = ?
+μ-loop name at p s a₀ out₀ want r₀ c₀ a out r c = 8 - c
 
 -- src/calls.rt:297:5
 loop-holds : tie.Need-loop-holds Inv-loop μ-loop

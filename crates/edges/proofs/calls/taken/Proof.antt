@@ -14,10 +14,10 @@ use Rattle.edges.proofs.calls.noted.Reads as noted-reads
 use Rattle.edges.proofs.calls.restore.Reads as restore-reads
 
 abbrev Inv-loop : tie.InvT-loop
-Inv-loop name at p s before b₀ spare₀ full r₀ c₀ b spare r c = ?
+Inv-loop name at p s before b₀ spare₀ full r₀ c₀ b spare r c = (c ≤ 8) × (length b ≡ length b₀) × (length spare ≡ length spare₀)
 
 abbrev μ-loop : tie.MeasureT-loop
-μ-loop name at p s before b₀ spare₀ full r₀ c₀ b spare r c = ?
+μ-loop name at p s before b₀ spare₀ full r₀ c₀ b spare r c = 8 - c
 
 -- src/calls.rt:337:5
 loop-holds : tie.Need-loop-holds Inv-loop μ-loop
