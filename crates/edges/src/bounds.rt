@@ -1,65 +1,78 @@
 // Work areas around 49,152 bytes, and outputs around 64 long frames.
 use crate::calls::BLANK;
+use crate::calls::Got;
 use crate::calls::Tally;
+use crate::calls::blank_from;
 use crate::calls::bursted;
 use crate::calls::call;
 use crate::calls::fit;
 use crate::calls::kept;
 use crate::calls::noted;
 use crate::calls::nothing;
-use crate::calls::refused;
 use crate::calls::restore;
+use crate::calls::same_areas;
 use crate::made::fast;
 use crate::made::small_profile;
-use crate::same::all_from;
-use crate::same::same_bytes;
 use crate::same::same_record;
+use config::Profile;
 use record::Sender;
 
 // Whether two areas have the same bytes from 49,152 on.
-fn same_past(a: &[u8], b: &[u8]) -> bool {
-    if (a.len() < 49152) | (b.len() < 49152) {
-        return false;
+fn same_past(a: &[u8; 65536], b: &[u8; 65536]) -> bool {
+    let mut i: usize = 49152;
+    while i < 65536 {
+        if a[i] != b[i] {
+            return false;
+        }
+        i += 1;
     }
-    same_bytes(&a[49152..], &b[49152..])
+    true
+}
+
+// Call c with the first n bytes of the area, or all.
+fn call_part(n: usize, s: Sender, a: &mut [u8], out: &mut [u8], c: u8) -> Got {
+    let p = small_profile();
+    if n < a.len() {
+        return call(p, s, &mut a[..n], out, c);
+    }
+    call(p, s, a, out, c)
+}
+
+fn call_with(n: usize, s: Sender, a: &mut [u8; 65536], out: &mut [u8; 32769], c: u8) -> Got {
+    call_part(n, s, a, out, c)
 }
 
 // A work area of n bytes, too short: refusal 3.
-fn short_area(t: Tally, n: usize, s: Sender, a: &mut [u8], out: &mut [u8]) -> Tally {
-    let name = b"work areas";
-    let p = small_profile();
-    if n <= a.len() {
-        return refused(t, name, n as u64, p, s, &mut a[..n], out, 3);
+fn short_area(t: Tally, n: usize, s: Sender, a: &mut [u8; 65536], out: &mut [u8; 32769]) -> Tally {
+    let mut r = t;
+    let mut c: u8 = 0;
+    while c < 8 {
+        let q = fit(s, c);
+        let g = call_with(n, q, a, out, c);
+        let ok = (g.number == 3) & same_record(g.next, q);
+        r = noted(r, b"work areas", n as u64, c, 3, g.number, ok);
+        c += 1;
     }
-    noted(t, name, n as u64, 99, 3, 0, false)
+    r
 }
 
-// Call c with a work area of n bytes, which is accepted. The answer.
-fn answer_with(n: usize, s: Sender, b: &mut [u8], spare: &mut [u8], c: u8) -> u8 {
-    let p = small_profile();
-    if n <= b.len() {
-        let g = call(p, fit(s, c), &mut b[..n], spare, c);
-        return g.number;
-    }
-    99
-}
 
 // A work area of n bytes, long enough: every call is accepted, and bytes past 49,152 are kept.
-fn long_area(t: Tally, n: usize, s: Sender, before: &[u8], b: &mut [u8], spare: &mut [u8]) -> Tally {
+fn long_area(t: Tally, n: usize, s: Sender, before: &[u8; 65536], b: &mut [u8; 65536], spare: &mut [u8; 32769]) -> Tally {
     let mut r = t;
     let mut c: u8 = 0;
     while c < 8 {
         restore(b, before);
-        let got = answer_with(n, s, b, spare, c);
-        let ok = (got == 0) & same_past(b, before);
-        r = noted(r, b"work areas", n as u64, c, 0, got, ok);
+        let g = call_with(n, fit(s, c), b, spare, c);
+        let ok = (g.number == 0) & same_past(b, before);
+        r = noted(r, b"work areas", n as u64, c, 0, g.number, ok);
         c += 1;
     }
     r
 }
 
 // 7 lengths in 8 calls, and the bytes: 57 cases.
-pub(crate) fn areas(s: Sender, a: &mut [u8], before: &[u8], out: &mut [u8], b: &mut [u8], spare: &mut [u8]) -> Tally {
+pub(crate) fn areas(s: Sender, a: &mut [u8; 65536], before: &[u8; 65536], out: &mut [u8; 32769], b: &mut [u8; 65536], spare: &mut [u8; 32769]) -> Tally {
     let mut r = nothing();
     r = short_area(r, 0, s, a, out);
     r = short_area(r, 1, s, a, out);
@@ -71,44 +84,57 @@ pub(crate) fn areas(s: Sender, a: &mut [u8], before: &[u8], out: &mut [u8], b: &
     kept(r, b"work areas", 0, a, before, out)
 }
 
-fn blank(out: &mut [u8]) {
+fn fill_blank(out: &mut [u8]) {
     let n = out.len();
     moves::fill(out, 0, n, BLANK);
 }
 
-// A burst into the first n bytes of the output: its answer; 99 where the record changed with a refusal, 98 where an accepted burst hasn't `full` bytes.
-fn burst_into(long: u32, n: usize, full: usize, s: Sender, b: &mut [u8], spare: &mut [u8]) -> u8 {
-    let p = fast(18, long);
-    if n <= spare.len() {
-        let g = bursted(p, s, b, &mut spare[..n]);
-        if g.number == 0 {
-            return if g.sent == full { 0 } else { 98 };
-        }
-        return if same_record(g.next, s) { g.number } else { 99 };
+pub(crate) fn blank(out: &mut [u8; 32769]) {
+    fill_blank(out);
+}
+
+// A burst into the first n bytes of the output, or all.
+fn burst_some(p: Profile, s: Sender, n: usize, a: &mut [u8], out: &mut [u8]) -> Got {
+    if n < out.len() {
+        return bursted(p, s, a, &mut out[..n]);
     }
-    97
+    bursted(p, s, a, out)
+}
+
+fn burst_part(p: Profile, s: Sender, n: usize, b: &mut [u8; 65536], spare: &mut [u8; 32769]) -> Got {
+    burst_some(p, s, n, b, spare)
+}
+
+// A burst into the first n bytes of the output: its answer; 99 where the record changed with a refusal, 98 where an accepted burst hasn't `full` bytes.
+fn burst_into(long: u32, n: usize, full: usize, s: Sender, b: &mut [u8; 65536], spare: &mut [u8; 32769]) -> u8 {
+    let p = fast(18, long);
+    let g = burst_part(p, s, n, b, spare);
+    if g.number == 0 {
+        return if g.sent == full { 0 } else { 98 };
+    }
+    if same_record(g.next, s) { g.number } else { 99 }
 }
 
 // An output too short: 10, and the bytes as they were.
-fn short_output(t: Tally, long: u32, n: usize, s: Sender, before: &[u8], b: &mut [u8], spare: &mut [u8]) -> Tally {
+fn short_output(t: Tally, long: u32, n: usize, s: Sender, before: &[u8; 65536], b: &mut [u8; 65536], spare: &mut [u8; 32769]) -> Tally {
     restore(b, before);
     blank(spare);
     let got = burst_into(long, n, 0, s, b, spare);
-    let ok = (got == 10) & same_bytes(b, before) & all_from(spare, 0, BLANK);
+    let ok = (got == 10) & same_areas(b, before) & blank_from(spare, 0);
     noted(t, b"outputs", n as u64, 5, 10, got, ok)
 }
 
 // An output long enough for the burst's frames, of `full` bytes together, which end in the CRC of the last; past them the bytes are kept.
-fn long_output(t: Tally, long: u32, n: usize, full: usize, s: Sender, before: &[u8], b: &mut [u8], spare: &mut [u8]) -> Tally {
+fn long_output(t: Tally, long: u32, n: usize, full: usize, s: Sender, before: &[u8; 65536], b: &mut [u8; 65536], spare: &mut [u8; 32769]) -> Tally {
     restore(b, before);
     blank(spare);
     let got = burst_into(long, n, full, s, b, spare);
-    let ok = (got == 0) & all_from(spare, full, BLANK);
+    let ok = (got == 0) & blank_from(spare, full);
     noted(t, b"outputs", n as u64, 5, 0, got, ok)
 }
 
 // Outputs of no byte and around 64 frames: 4 cases.
-fn outputs_of(t: Tally, long: u32, most: usize, s: Sender, before: &[u8], b: &mut [u8], spare: &mut [u8]) -> Tally {
+fn outputs_of(t: Tally, long: u32, most: usize, s: Sender, before: &[u8; 65536], b: &mut [u8; 65536], spare: &mut [u8; 32769]) -> Tally {
     let mut r = t;
     if (most < 1) | (40000 < most) {
         return noted(t, b"outputs", 0, 5, 0, 97, false);
@@ -120,7 +146,7 @@ fn outputs_of(t: Tally, long: u32, most: usize, s: Sender, before: &[u8], b: &mu
 }
 
 // Long frames of 18, 190 and 512 bytes, of which 64 go in a burst, with outputs of 4 lengths each: 12 cases.
-pub(crate) fn outputs(s: Sender, before: &[u8], b: &mut [u8], spare: &mut [u8]) -> Tally {
+pub(crate) fn outputs(s: Sender, before: &[u8; 65536], b: &mut [u8; 65536], spare: &mut [u8; 32769]) -> Tally {
     let mut r = nothing();
     r = outputs_of(r, 18, 1152, s, before, b, spare);
     r = outputs_of(r, 190, 12160, s, before, b, spare);

@@ -296,13 +296,45 @@ pub(crate) fn fit(s: Sender, c: u8) -> Sender {
     q
 }
 
+fn put_over(to: &mut [u8], from: &[u8]) {
+    if from.len() <= to.len() {
+        moves::copy_in(to, 0, from);
+    }
+}
+
+// The calls on whole arrays.
+pub(crate) fn call_on(p: Profile, s: Sender, a: &mut [u8; 65536], out: &mut [u8; 32769], c: u8) -> Got {
+    call(p, s, a, out, c)
+}
+
+pub(crate) fn receive_on(p: Profile, s: Sender, a: &mut [u8; 65536], h: Heard, r: Reply, payload: &[u8]) -> Got {
+    receive(p, s, a, h, r, payload)
+}
+
+pub(crate) fn queued_on(p: Profile, s: Sender, a: &mut [u8; 65536], bytes: &[u8]) -> Got {
+    queued(p, s, a, bytes)
+}
+
+pub(crate) fn bursted_on(p: Profile, s: Sender, a: &mut [u8; 65536], out: &mut [u8; 32769]) -> Got {
+    bursted(p, s, a, out)
+}
+
+pub(crate) fn same_areas(a: &[u8; 65536], b: &[u8; 65536]) -> bool {
+    same_bytes(a, b)
+}
+
+// Whether the output is blank from `at` on.
+pub(crate) fn blank_from(out: &[u8; 32769], at: usize) -> bool {
+    all_from(out, at, BLANK)
+}
+
 // Every call is refused by `want`, with the record as it was.
-pub(crate) fn refused(t: Tally, name: &[u8], at: u64, p: Profile, s: Sender, a: &mut [u8], out: &mut [u8], want: u8) -> Tally {
+pub(crate) fn refused(t: Tally, name: &[u8], at: u64, p: Profile, s: Sender, a: &mut [u8; 65536], out: &mut [u8; 32769], want: u8) -> Tally {
     let mut r = t;
     let mut c: u8 = 0;
     while c < 8 {
         let q = fit(s, c);
-        let g = call(p, q, a, out, c);
+        let g = call_on(p, q, a, out, c);
         let ok = (g.number == want) & (g.sent == 0) & same_record(g.next, q);
         r = noted(r, name, at, c, want, g.number, ok);
         c += 1;
@@ -311,17 +343,17 @@ pub(crate) fn refused(t: Tally, name: &[u8], at: u64, p: Profile, s: Sender, a: 
 }
 
 // The bytes after refused calls: the work area as `before`, the output blank.
-pub(crate) fn kept(t: Tally, name: &[u8], at: u64, a: &[u8], before: &[u8], out: &[u8]) -> Tally {
-    let ok = same_bytes(a, before) & all_from(out, 0, BLANK);
+pub(crate) fn kept(t: Tally, name: &[u8], at: u64, a: &[u8; 65536], before: &[u8; 65536], out: &[u8; 32769]) -> Tally {
+    let ok = same_areas(a, before) & blank_from(out, 0);
     noted(t, name, at, 99, 0, 0, ok)
 }
 
 // Every call is accepted. The work area may hold anything: the record has no piece.
-pub(crate) fn accepted(t: Tally, name: &[u8], at: u64, p: Profile, s: Sender, a: &mut [u8], out: &mut [u8]) -> Tally {
+pub(crate) fn accepted(t: Tally, name: &[u8], at: u64, p: Profile, s: Sender, a: &mut [u8; 65536], out: &mut [u8; 32769]) -> Tally {
     let mut r = t;
     let mut c: u8 = 0;
     while c < 8 {
-        let g = call(p, fit(s, c), a, out, c);
+        let g = call_on(p, fit(s, c), a, out, c);
         let ok = (g.number == 0) & ((c != 7) | (g.sent == 0));
         r = noted(r, name, at, c, 0, g.number, ok);
         c += 1;
@@ -330,19 +362,17 @@ pub(crate) fn accepted(t: Tally, name: &[u8], at: u64, p: Profile, s: Sender, a:
 }
 
 // Copies the bytes of `from` over those of `to`, which is as long.
-pub(crate) fn restore(to: &mut [u8], from: &[u8]) {
-    if from.len() <= to.len() {
-        moves::copy_in(to, 0, from);
-    }
+pub(crate) fn restore(to: &mut [u8; 65536], from: &[u8; 65536]) {
+    put_over(to, from);
 }
 
 // Every call is accepted, each from the work area `before`; the queuing may have its refusal `full`. Past 49,152 the bytes are kept.
-pub(crate) fn taken(t: Tally, name: &[u8], at: u64, p: Profile, s: Sender, before: &[u8], b: &mut [u8], spare: &mut [u8], full: u8) -> Tally {
+pub(crate) fn taken(t: Tally, name: &[u8], at: u64, p: Profile, s: Sender, before: &[u8; 65536], b: &mut [u8; 65536], spare: &mut [u8; 32769], full: u8) -> Tally {
     let mut r = t;
     let mut c: u8 = 0;
     while c < 8 {
         restore(b, before);
-        let g = call(p, fit(s, c), b, spare, c);
+        let g = call_on(p, fit(s, c), b, spare, c);
         let want = if c == 0 { full } else { 0 };
         let ok = (g.number == want) & ((c != 7) | (g.sent == 0));
         r = noted(r, name, at, c, want, g.number, ok);
@@ -352,7 +382,7 @@ pub(crate) fn taken(t: Tally, name: &[u8], at: u64, p: Profile, s: Sender, befor
 }
 
 // Every call is accepted or, where `want` is 3, refused by it.
-pub(crate) fn judged(t: Tally, name: &[u8], at: u64, p: Profile, s: Sender, want: u8, a: &mut [u8], before: &[u8], out: &mut [u8], b: &mut [u8], spare: &mut [u8]) -> Tally {
+pub(crate) fn judged(t: Tally, name: &[u8], at: u64, p: Profile, s: Sender, want: u8, a: &mut [u8; 65536], before: &[u8; 65536], out: &mut [u8; 32769], b: &mut [u8; 65536], spare: &mut [u8; 32769]) -> Tally {
     if want == 3 {
         return refused(t, name, at, p, s, a, out, 3);
     }

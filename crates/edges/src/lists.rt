@@ -219,7 +219,7 @@ fn list_wanted(kind: u8, k: u8) -> u8 {
     if k < 8 { 3 } else { 0 }
 }
 
-fn group(name: &[u8], kind: u8, n: u8, s: Sender, a: &mut [u8], before: &[u8], out: &mut [u8], b: &mut [u8], spare: &mut [u8]) -> Tally {
+fn group(name: &[u8], kind: u8, n: u8, s: Sender, a: &mut [u8; 65536], before: &[u8; 65536], out: &mut [u8; 32769], b: &mut [u8; 65536], spare: &mut [u8; 32769]) -> Tally {
     let p = small_profile();
     let mut r = nothing();
     let mut k: u8 = 0;
@@ -232,17 +232,17 @@ fn group(name: &[u8], kind: u8, n: u8, s: Sender, a: &mut [u8], before: &[u8], o
 }
 
 // 11 records in 8 calls, and the bytes: 89 cases.
-pub(crate) fn helds(s: Sender, a: &mut [u8], before: &[u8], out: &mut [u8], b: &mut [u8], spare: &mut [u8]) -> Tally {
+pub(crate) fn helds(s: Sender, a: &mut [u8; 65536], before: &[u8; 65536], out: &mut [u8; 32769], b: &mut [u8; 65536], spare: &mut [u8; 32769]) -> Tally {
     group(b"record, held list", 0, 11, s, a, before, out, b, spare)
 }
 
 // 12 records in 8 calls, and the bytes: 97 cases.
-pub(crate) fn sents(s: Sender, a: &mut [u8], before: &[u8], out: &mut [u8], b: &mut [u8], spare: &mut [u8]) -> Tally {
+pub(crate) fn sents(s: Sender, a: &mut [u8; 65536], before: &[u8; 65536], out: &mut [u8; 32769], b: &mut [u8; 65536], spare: &mut [u8; 32769]) -> Tally {
     group(b"record, outstanding burst", 1, 12, s, a, before, out, b, spare)
 }
 
 // 13 records in 8 calls, and the bytes: 105 cases.
-pub(crate) fn counts(s: Sender, a: &mut [u8], before: &[u8], out: &mut [u8], b: &mut [u8], spare: &mut [u8]) -> Tally {
+pub(crate) fn counts(s: Sender, a: &mut [u8; 65536], before: &[u8; 65536], out: &mut [u8; 32769], b: &mut [u8; 65536], spare: &mut [u8; 32769]) -> Tally {
     group(b"record, counts", 2, 13, s, a, before, out, b, spare)
 }
 
@@ -254,15 +254,15 @@ fn stepped(x: u8, up: bool) -> u8 {
     if 0 < x { x - 1 } else { 255 }
 }
 
-fn nudge(a: &mut [u8], at: usize, up: bool) {
-    if at < a.len() {
+fn nudge(a: &mut [u8; 65536], at: usize, up: bool) {
+    if at < 65536 {
         let x = stepped(a[at], up);
         a[at] = x;
     }
 }
 
 // A byte of the table of pieces, one up or down, and back.
-fn nudged(t: Tally, name: &[u8], at: u64, up: bool, s: Sender, a: &mut [u8], out: &mut [u8]) -> Tally {
+fn nudged(t: Tally, name: &[u8], at: u64, up: bool, s: Sender, a: &mut [u8; 65536], out: &mut [u8; 32769]) -> Tally {
     let p = small_profile();
     let i = (at % 72) as usize;
     nudge(a, 32768 + i, up);
@@ -272,7 +272,7 @@ fn nudged(t: Tally, name: &[u8], at: u64, up: bool, s: Sender, a: &mut [u8], out
 }
 
 // Each of the 8 bytes of the 9 rows, which lie one behind the other with no gap up to the next offset, up and down in 8 calls, and the bytes: 1,153 cases.
-pub(crate) fn rows(s: Sender, a: &mut [u8], before: &[u8], out: &mut [u8]) -> Tally {
+pub(crate) fn rows(s: Sender, a: &mut [u8; 65536], before: &[u8; 65536], out: &mut [u8; 32769]) -> Tally {
     let name = b"record, rows of pieces";
     let mut r = nothing();
     let mut i: u64 = 0;
@@ -283,7 +283,7 @@ pub(crate) fn rows(s: Sender, a: &mut [u8], before: &[u8], out: &mut [u8]) -> Ta
     kept(r, name, 144, a, before, out)
 }
 
-fn put32(a: &mut [u8], at: usize, v: u32) {
+fn store_at(a: &mut [u8], at: usize, v: u32) {
     if 4 <= a.len() {
         if at <= a.len() - 4 {
             moves::store32(a, at, v);
@@ -291,8 +291,12 @@ fn put32(a: &mut [u8], at: usize, v: u32) {
     }
 }
 
+fn put32(a: &mut [u8; 65536], at: usize, v: u32) {
+    store_at(a, at, v);
+}
+
 // Rows 63 and 64 of the table.
-fn put_rows(a: &mut [u8], off: u32, len: u32, next_off: u32, next_len: u32) {
+fn put_rows(a: &mut [u8; 65536], off: u32, len: u32, next_off: u32, next_len: u32) {
     put32(a, 33272, off);
     put32(a, 33276, len);
     put32(a, 33280, next_off);
@@ -332,7 +336,7 @@ fn held_all(s: Sender) -> Sender {
 }
 
 // The burst of 64 pieces of 255 bytes: 16,320 bytes, 2,048 pieces of 8 bytes, 64 held, a long payload of 255. 5 records in 8 calls, and the bytes: 41 cases.
-pub(crate) fn whole_burst(s: Sender, a: &mut [u8], before: &[u8], out: &mut [u8], b: &mut [u8], spare: &mut [u8]) -> Tally {
+pub(crate) fn whole_burst(s: Sender, a: &mut [u8; 65536], before: &[u8; 65536], out: &mut [u8; 32769], b: &mut [u8; 65536], spare: &mut [u8; 32769]) -> Tally {
     let name = b"record, 64 pieces of 255 bytes";
     let mut r = nothing();
     r = judged(r, name, 0, fast(18, 512), s, 0, a, before, out, b, spare);
@@ -344,7 +348,7 @@ pub(crate) fn whole_burst(s: Sender, a: &mut [u8], before: &[u8], out: &mut [u8]
 }
 
 // The last byte a piece of its own: 2,049 pieces of 8 bytes, fewer of 9; 65 offsets outstanding and unsent, or 64. 5 records in 8 calls, and the bytes: 41 cases.
-fn split_cases(s: Sender, a: &mut [u8], before: &[u8], out: &mut [u8], b: &mut [u8], spare: &mut [u8]) -> Tally {
+fn split_cases(s: Sender, a: &mut [u8; 65536], before: &[u8; 65536], out: &mut [u8; 32769], b: &mut [u8; 65536], spare: &mut [u8; 32769]) -> Tally {
     let name = b"record, 65 pieces";
     let q = split(s, false);
     let mut r = nothing();
@@ -356,14 +360,14 @@ fn split_cases(s: Sender, a: &mut [u8], before: &[u8], out: &mut [u8], b: &mut [
     kept(r, name, 5, a, before, out)
 }
 
-pub(crate) fn split_burst(s: Sender, a: &mut [u8], before: &mut [u8], out: &mut [u8], b: &mut [u8], spare: &mut [u8]) -> Tally {
+pub(crate) fn split_burst(s: Sender, a: &mut [u8; 65536], before: &mut [u8; 65536], out: &mut [u8; 32769], b: &mut [u8; 65536], spare: &mut [u8; 32769]) -> Tally {
     put_rows(a, 16065, 254, 16319, 1);
     restore(before, a);
     split_cases(s, a, before, out, b, spare)
 }
 
 // 16,321 bytes flying: 8 calls and the bytes, 9 cases.
-pub(crate) fn over_burst(s: Sender, a: &mut [u8], before: &mut [u8], out: &mut [u8]) -> Tally {
+pub(crate) fn over_burst(s: Sender, a: &mut [u8; 65536], before: &mut [u8; 65536], out: &mut [u8; 32769]) -> Tally {
     let name = b"record, 16,321 bytes flying";
     put_rows(a, 16065, 255, 16320, 1);
     restore(before, a);

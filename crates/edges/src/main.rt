@@ -10,7 +10,6 @@ mod reply_cases;
 mod same;
 mod values;
 
-use calls::BLANK;
 use calls::restore;
 use calls::say;
 use calls::told;
@@ -19,34 +18,29 @@ use libc::STDOUT_FILENO;
 use record::Sender;
 
 // Byte 0 is 3; each next one is 7 more than the last modulo 249.
-fn pattern(a: &mut [u8]) {
+fn pattern(a: &mut [u8; 65536]) {
     let mut x: u8 = 3;
     let mut i: usize = 0;
-    while i < a.len() {
+    while i < 65536 {
         a[i] = x;
         x = x % 249 + 7;
         i += 1;
     }
 }
 
-fn blank(a: &mut [u8]) {
-    let n = a.len();
-    moves::fill(a, 0, n, BLANK);
-}
-
 // A connected record with 100 bytes waiting and no piece.
-fn waiting(a: &mut [u8]) -> Sender {
+fn waiting(a: &mut [u8; 65536]) -> Sender {
     let p = profiles::wide_profile();
     let s = made::connected(p, a, 0.0);
     let bytes = [7u8; 100];
-    let q = calls::queued(p, s, a, &bytes);
+    let q = calls::queued_on(p, s, a, &bytes);
     q.next
 }
 
-fn profile_groups(n: u64, a: &mut [u8], before: &mut [u8], out: &mut [u8], b: &mut [u8], spare: &mut [u8]) -> u64 {
+fn profile_groups(n: u64, a: &mut [u8; 65536], before: &mut [u8; 65536], out: &mut [u8; 32769], b: &mut [u8; 65536], spare: &mut [u8; 32769]) -> u64 {
     pattern(a);
     pattern(before);
-    blank(out);
+    bounds::blank(out);
     let s = waiting(b);
     let mut d = n;
     d = told(b"profile, whole numbers", profiles::wholes(s, a, before, out, b, spare), d);
@@ -56,7 +50,7 @@ fn profile_groups(n: u64, a: &mut [u8], before: &mut [u8], out: &mut [u8], b: &m
     told(b"profile, short frame and long", profiles::sizes(s, a, before, out, b, spare), d)
 }
 
-fn record_groups(n: u64, s: Sender, a: &mut [u8], before: &mut [u8], out: &mut [u8], b: &mut [u8], spare: &mut [u8]) -> u64 {
+fn record_groups(n: u64, s: Sender, a: &mut [u8; 65536], before: &mut [u8; 65536], out: &mut [u8; 32769], b: &mut [u8; 65536], spare: &mut [u8; 32769]) -> u64 {
     let mut d = n;
     d = told(b"record, levels and numbers", records::wholes(s, a, before, out, b, spare), d);
     d = told(b"record, seconds and times", records::seconds(s, a, before, out, b, spare), d);
@@ -67,7 +61,7 @@ fn record_groups(n: u64, s: Sender, a: &mut [u8], before: &mut [u8], out: &mut [
     told(b"record, rows of pieces", lists::rows(s, a, before, out), d)
 }
 
-fn large_groups(n: u64, s: Sender, a: &mut [u8], before: &mut [u8], out: &mut [u8], b: &mut [u8], spare: &mut [u8]) -> u64 {
+fn large_groups(n: u64, s: Sender, a: &mut [u8; 65536], before: &mut [u8; 65536], out: &mut [u8; 32769], b: &mut [u8; 65536], spare: &mut [u8; 32769]) -> u64 {
     let mut d = n;
     d = told(b"record, 64 pieces of 255 bytes", lists::whole_burst(s, a, before, out, b, spare), d);
     d = told(b"record, 65 pieces", lists::split_burst(s, a, before, out, b, spare), d);
@@ -75,7 +69,7 @@ fn large_groups(n: u64, s: Sender, a: &mut [u8], before: &mut [u8], out: &mut [u
 }
 
 // Of replies and queued bytes.
-fn reply_groups(n: u64, s: Sender, a: &mut [u8], before: &mut [u8], out: &mut [u8], b: &mut [u8], spare: &mut [u8]) -> u64 {
+fn reply_groups(n: u64, s: Sender, a: &mut [u8; 65536], before: &mut [u8; 65536], out: &mut [u8; 32769], b: &mut [u8; 65536], spare: &mut [u8; 32769]) -> u64 {
     let mut d = n;
     restore(b, before);
     d = told(b"out of turn", reply_cases::turns(s, a, before, out), d);
@@ -89,15 +83,15 @@ fn reply_groups(n: u64, s: Sender, a: &mut [u8], before: &mut [u8], out: &mut [u
 }
 
 // A connected record with 16,384 bytes waiting and no piece.
-fn full(a: &mut [u8]) -> Sender {
+fn full(a: &mut [u8; 65536]) -> Sender {
     let p = profiles::wide_profile();
     let s = made::connected(p, a, 0.0);
     let bytes = [7u8; 16384];
-    let q = calls::queued(p, s, a, &bytes);
+    let q = calls::queued_on(p, s, a, &bytes);
     q.next
 }
 
-fn run(a: &mut [u8], before: &mut [u8], out: &mut [u8], b: &mut [u8], spare: &mut [u8]) {
+fn run(a: &mut [u8; 65536], before: &mut [u8; 65536], out: &mut [u8; 32769], b: &mut [u8; 65536], spare: &mut [u8; 32769]) {
     let mut d: u64 = 0;
     d = profile_groups(d, a, before, out, b, spare);
     let s = made::small(a, spare);

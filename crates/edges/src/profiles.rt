@@ -321,7 +321,7 @@ fn case_number(f: usize, v: u8) -> u64 {
 }
 
 // A value of a field, in every call.
-fn value(t: Tally, name: &[u8], kind: u8, f: usize, v: u8, s: Sender, a: &mut [u8], out: &mut [u8], b: &mut [u8], spare: &mut [u8]) -> Tally {
+fn value(t: Tally, name: &[u8], kind: u8, f: usize, v: u8, s: Sender, a: &mut [u8; 65536], out: &mut [u8; 32769], b: &mut [u8; 65536], spare: &mut [u8; 32769]) -> Tally {
     if !there(kind, f, v) {
         return t;
     }
@@ -333,7 +333,7 @@ fn value(t: Tally, name: &[u8], kind: u8, f: usize, v: u8, s: Sender, a: &mut [u
     refused(t, name, at, p, s, a, out, 1)
 }
 
-fn field(t: Tally, name: &[u8], kind: u8, f: usize, s: Sender, a: &mut [u8], out: &mut [u8], b: &mut [u8], spare: &mut [u8]) -> Tally {
+fn field(t: Tally, name: &[u8], kind: u8, f: usize, s: Sender, a: &mut [u8; 65536], out: &mut [u8; 32769], b: &mut [u8; 65536], spare: &mut [u8; 32769]) -> Tally {
     let mut r = t;
     let mut v: u8 = 0;
     while v < 9 {
@@ -344,7 +344,7 @@ fn field(t: Tally, name: &[u8], kind: u8, f: usize, s: Sender, a: &mut [u8], out
 }
 
 // n fields. After each of them the work area and the output of the refused calls are as they were.
-fn fields(name: &[u8], kind: u8, n: usize, s: Sender, a: &mut [u8], before: &[u8], out: &mut [u8], b: &mut [u8], spare: &mut [u8]) -> Tally {
+fn fields(name: &[u8], kind: u8, n: usize, s: Sender, a: &mut [u8; 65536], before: &[u8; 65536], out: &mut [u8; 32769], b: &mut [u8; 65536], spare: &mut [u8; 32769]) -> Tally {
     let mut r = nothing();
     let mut f: usize = 0;
     while f < n {
@@ -357,17 +357,17 @@ fn fields(name: &[u8], kind: u8, n: usize, s: Sender, a: &mut [u8], before: &[u8
 
 // 47 fields, four values inside, two outside but for 4 fields with none below 0 and 17 with none above 2^32 - 1: 47 * 6 - 21 = 261 values in 8 calls, and 47
 // times the bytes: 2,135 cases.
-pub(crate) fn wholes(s: Sender, a: &mut [u8], before: &[u8], out: &mut [u8], b: &mut [u8], spare: &mut [u8]) -> Tally {
+pub(crate) fn wholes(s: Sender, a: &mut [u8; 65536], before: &[u8; 65536], out: &mut [u8; 32769], b: &mut [u8; 65536], spare: &mut [u8; 32769]) -> Tally {
     fields(b"profile, whole numbers", 0, WHOLES, s, a, before, out, b, spare)
 }
 
 // 48 fields of 9 values in 8 calls, and 48 times the bytes: 3,504 cases.
-pub(crate) fn seconds(s: Sender, a: &mut [u8], before: &[u8], out: &mut [u8], b: &mut [u8], spare: &mut [u8]) -> Tally {
+pub(crate) fn seconds(s: Sender, a: &mut [u8; 65536], before: &[u8; 65536], out: &mut [u8; 32769], b: &mut [u8; 65536], spare: &mut [u8; 32769]) -> Tally {
     fields(b"profile, seconds and rates", 1, SECONDS, s, a, before, out, b, spare)
 }
 
 // 40 fields of 9 values in 8 calls, and 40 times the bytes: 2,920 cases.
-pub(crate) fn dbs(s: Sender, a: &mut [u8], before: &[u8], out: &mut [u8], b: &mut [u8], spare: &mut [u8]) -> Tally {
+pub(crate) fn dbs(s: Sender, a: &mut [u8; 65536], before: &[u8; 65536], out: &mut [u8; 32769], b: &mut [u8; 65536], spare: &mut [u8; 32769]) -> Tally {
     fields(b"profile, dB", 2, DBS, s, a, before, out, b, spare)
 }
 
@@ -379,7 +379,7 @@ fn unpinned() -> Profile {
 }
 
 // Optional values that are not there: 3 profiles in 8 calls, 24 cases.
-pub(crate) fn unset(s: Sender, b: &mut [u8], spare: &mut [u8]) -> Tally {
+pub(crate) fn unset(s: Sender, b: &mut [u8; 65536], spare: &mut [u8; 32769]) -> Tally {
     let name = b"profile, optional values not there";
     let p = wide_profile();
     let mut r = nothing();
@@ -396,7 +396,7 @@ pub(crate) fn sized(short: u32, long: u32) -> Profile {
 }
 
 // Short frames above, equal to and below the long: 6 profiles in 8 calls, and the bytes: 49 cases.
-pub(crate) fn sizes(s: Sender, a: &mut [u8], before: &[u8], out: &mut [u8], b: &mut [u8], spare: &mut [u8]) -> Tally {
+pub(crate) fn sizes(s: Sender, a: &mut [u8; 65536], before: &[u8; 65536], out: &mut [u8; 32769], b: &mut [u8; 65536], spare: &mut [u8; 32769]) -> Tally {
     let name = b"profile, short frame and long";
     let mut r = nothing();
     r = accepted(r, name, 0, sized(18, 18), s, b, spare);

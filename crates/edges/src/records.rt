@@ -220,7 +220,7 @@ fn case_number(f: usize, v: u8) -> u64 {
     0
 }
 
-fn value(t: Tally, name: &[u8], kind: u8, f: usize, v: u8, s: Sender, a: &mut [u8], before: &[u8], out: &mut [u8], b: &mut [u8], spare: &mut [u8]) -> Tally {
+fn value(t: Tally, name: &[u8], kind: u8, f: usize, v: u8, s: Sender, a: &mut [u8; 65536], before: &[u8; 65536], out: &mut [u8; 32769], b: &mut [u8; 65536], spare: &mut [u8; 32769]) -> Tally {
     if !there(kind, f, v) {
         return t;
     }
@@ -229,7 +229,7 @@ fn value(t: Tally, name: &[u8], kind: u8, f: usize, v: u8, s: Sender, a: &mut [u
     judged(t, name, case_number(f, v), p, q, wanted(kind, f, v), a, before, out, b, spare)
 }
 
-fn field(t: Tally, name: &[u8], kind: u8, f: usize, s: Sender, a: &mut [u8], before: &[u8], out: &mut [u8], b: &mut [u8], spare: &mut [u8]) -> Tally {
+fn field(t: Tally, name: &[u8], kind: u8, f: usize, s: Sender, a: &mut [u8; 65536], before: &[u8; 65536], out: &mut [u8; 32769], b: &mut [u8; 65536], spare: &mut [u8; 32769]) -> Tally {
     let mut r = t;
     let mut v: u8 = 0;
     while v < 9 {
@@ -239,7 +239,7 @@ fn field(t: Tally, name: &[u8], kind: u8, f: usize, s: Sender, a: &mut [u8], bef
     r
 }
 
-fn fields(name: &[u8], kind: u8, n: usize, s: Sender, a: &mut [u8], before: &[u8], out: &mut [u8], b: &mut [u8], spare: &mut [u8]) -> Tally {
+fn fields(name: &[u8], kind: u8, n: usize, s: Sender, a: &mut [u8; 65536], before: &[u8; 65536], out: &mut [u8; 32769], b: &mut [u8; 65536], spare: &mut [u8; 32769]) -> Tally {
     let mut r = nothing();
     let mut f: usize = 0;
     while f < n {
@@ -251,16 +251,16 @@ fn fields(name: &[u8], kind: u8, n: usize, s: Sender, a: &mut [u8], before: &[u8
 }
 
 // 7 fields of 5 values in 8 calls, and 7 times the bytes: 287 cases.
-pub(crate) fn wholes(s: Sender, a: &mut [u8], before: &[u8], out: &mut [u8], b: &mut [u8], spare: &mut [u8]) -> Tally {
+pub(crate) fn wholes(s: Sender, a: &mut [u8; 65536], before: &[u8; 65536], out: &mut [u8; 32769], b: &mut [u8; 65536], spare: &mut [u8; 32769]) -> Tally {
     fields(b"record, levels and numbers", 0, WHOLES, s, a, before, out, b, spare)
 }
 
 // 2 fields of 9 values and 34 of 7 in 8 calls, and 36 times the bytes: 2,084 cases.
-pub(crate) fn seconds(s: Sender, a: &mut [u8], before: &[u8], out: &mut [u8], b: &mut [u8], spare: &mut [u8]) -> Tally {
+pub(crate) fn seconds(s: Sender, a: &mut [u8; 65536], before: &[u8; 65536], out: &mut [u8; 32769], b: &mut [u8; 65536], spare: &mut [u8; 32769]) -> Tally {
     fields(b"record, seconds and times", 1, SECONDS, s, a, before, out, b, spare)
 }
 
 // 23 fields of 9 values in 8 calls, and 23 times the bytes: 1,679 cases.
-pub(crate) fn singles(s: Sender, a: &mut [u8], before: &[u8], out: &mut [u8], b: &mut [u8], spare: &mut [u8]) -> Tally {
+pub(crate) fn singles(s: Sender, a: &mut [u8; 65536], before: &[u8; 65536], out: &mut [u8; 32769], b: &mut [u8; 65536], spare: &mut [u8; 32769]) -> Tally {
     fields(b"record, shares, dB and Doppler", 2, SINGLES, s, a, before, out, b, spare)
 }

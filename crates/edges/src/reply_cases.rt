@@ -2,7 +2,7 @@
 use crate::calls::Got;
 use crate::calls::Tally;
 use crate::calls::bursted;
-use crate::calls::call;
+use crate::calls::call_on;
 use crate::calls::conn_ack;
 use crate::calls::fit;
 use crate::calls::heard_at;
@@ -13,11 +13,11 @@ use crate::calls::nothing;
 use crate::calls::queued;
 use crate::calls::receive;
 use crate::calls::restore;
+use crate::calls::same_areas;
 use crate::calls::short_ack;
 use crate::calls::turn;
 use crate::made::small_profile;
 use crate::profiles::sized;
-use crate::same::same_bytes;
 use crate::same::same_record;
 use crate::values::above64;
 use crate::values::below64;
@@ -31,14 +31,23 @@ use config::Profile;
 use record::Sender;
 use sender::Reply;
 
-// A reply is answered by `want` and, where refused, record and work area are as they were. The work area is then `before` again.
-fn tried(t: Tally, name: &[u8], at: u64, p: Profile, s: Sender, h: Heard, r: Reply, n: usize, want: u8, before: &[u8], b: &mut [u8]) -> Tally {
-    let payload = [0u8; 18];
-    if n > 18 {
-        return noted(t, name, at, 99, want, 97, false);
+// A reply with the first n bytes of a payload, or all.
+fn receive_some(p: Profile, s: Sender, h: Heard, r: Reply, n: usize, payload: &[u8], b: &mut [u8]) -> Got {
+    if n < payload.len() {
+        return receive(p, s, b, h, r, &payload[..n]);
     }
-    let g = receive(p, s, b, h, r, &payload[..n]);
-    let same = same_record(g.next, s) & same_bytes(b, before);
+    receive(p, s, b, h, r, payload)
+}
+
+fn receive_first(p: Profile, s: Sender, h: Heard, r: Reply, n: usize, b: &mut [u8; 65536]) -> Got {
+    let payload = [0u8; 18];
+    receive_some(p, s, h, r, n, &payload, b)
+}
+
+// A reply is answered by `want` and, where refused, record and work area are as they were. The work area is then `before` again.
+fn tried(t: Tally, name: &[u8], at: u64, p: Profile, s: Sender, h: Heard, r: Reply, n: usize, want: u8, before: &[u8; 65536], b: &mut [u8; 65536]) -> Tally {
+    let g = receive_first(p, s, h, r, n, b);
+    let same = same_record(g.next, s) & same_areas(b, before);
     restore(b, before);
     noted(t, name, at, 1, want, g.number, (g.number == want) & ((want == 0) | same))
 }
@@ -114,7 +123,7 @@ fn later_time(v: u8) -> f64 {
     }
 }
 
-fn time_case(t: Tally, i: u8, late: bool, s: Sender, before: &[u8], b: &mut [u8]) -> Tally {
+fn time_case(t: Tally, i: u8, late: bool, s: Sender, before: &[u8; 65536], b: &mut [u8; 65536]) -> Tally {
     let k = i / 10;
     let v = i % 10;
     let last = if late { 1000.0 } else { 0.0 };
@@ -126,7 +135,7 @@ fn time_case(t: Tally, i: u8, late: bool, s: Sender, before: &[u8], b: &mut [u8]
 }
 
 // 4 replies at 10 times, after 0 and after 1,000: 80 cases.
-pub(crate) fn times(s: Sender, before: &[u8], b: &mut [u8]) -> Tally {
+pub(crate) fn times(s: Sender, before: &[u8; 65536], b: &mut [u8; 65536]) -> Tally {
     let mut r = nothing();
     let mut i: u8 = 0;
     while i < 40 {
@@ -160,7 +169,7 @@ fn reply_db(k: u8, db: f32) -> Reply {
     Reply::Turn(c)
 }
 
-fn db_case(t: Tally, i: u8, s: Sender, before: &[u8], b: &mut [u8]) -> Tally {
+fn db_case(t: Tally, i: u8, s: Sender, before: &[u8; 65536], b: &mut [u8; 65536]) -> Tally {
     let k = i / 9;
     let v = i % 9;
     let db = tried32(v, -100.0, 300.0);
@@ -172,7 +181,7 @@ fn db_case(t: Tally, i: u8, s: Sender, before: &[u8], b: &mut [u8]) -> Tally {
     tried(t, b"dB", i as u64, small_profile(), q, heard_at(0.0), reply_db(k, db), 13, want, before, b)
 }
 
-fn quiet_turn(s: Sender, t: Tally, before: &[u8], b: &mut [u8]) -> Tally {
+fn quiet_turn(s: Sender, t: Tally, before: &[u8; 65536], b: &mut [u8; 65536]) -> Tally {
     let mut c = turn();
     c.report.set = false;
     c.report.db = nan32();
@@ -180,7 +189,7 @@ fn quiet_turn(s: Sender, t: Tally, before: &[u8], b: &mut [u8]) -> Tally {
 }
 
 // The dB measured here in 4 replies and the dB of 3 replies, 9 values each, and a turn without one: 64 cases.
-pub(crate) fn dbs(s: Sender, before: &[u8], b: &mut [u8]) -> Tally {
+pub(crate) fn dbs(s: Sender, before: &[u8; 65536], b: &mut [u8; 65536]) -> Tally {
     let mut r = nothing();
     let mut i: u8 = 0;
     while i < 63 {
@@ -227,8 +236,8 @@ fn number_of(v: u8, hi: u8) -> u8 {
         0
     } else if v == 1 {
         hi
-    } else if (v == 2) & (hi < 255) {
-        hi + 1
+    } else if v == 2 {
+        if hi < 255 { hi + 1 } else { 255 }
     } else {
         255
     }
@@ -241,7 +250,7 @@ fn heard_wave(n: u8) -> Heard {
 }
 
 // Place k: 0 to 2 of a short ack, 3 the connect answer's slot, 4 to 7 the wave of each reply.
-fn number_case(t: Tally, i: u8, s: Sender, before: &[u8], b: &mut [u8]) -> Tally {
+fn number_case(t: Tally, i: u8, s: Sender, before: &[u8; 65536], b: &mut [u8; 65536]) -> Tally {
     let k = i / 4;
     let v = i % 4;
     let n = number_of(v, top(k));
@@ -257,7 +266,7 @@ fn number_case(t: Tally, i: u8, s: Sender, before: &[u8], b: &mut [u8]) -> Tally
 }
 
 // 8 places with 0, the highest, one more and 255: 32 cases.
-pub(crate) fn numbers(s: Sender, before: &[u8], b: &mut [u8]) -> Tally {
+pub(crate) fn numbers(s: Sender, before: &[u8; 65536], b: &mut [u8; 65536]) -> Tally {
     let mut r = nothing();
     let mut i: u8 = 0;
     while i < 32 {
@@ -267,13 +276,13 @@ pub(crate) fn numbers(s: Sender, before: &[u8], b: &mut [u8]) -> Tally {
     r
 }
 
-fn payload_case(t: Tally, k: u8, n: usize, s: Sender, before: &[u8], b: &mut [u8]) -> Tally {
+fn payload_case(t: Tally, k: u8, n: usize, s: Sender, before: &[u8; 65536], b: &mut [u8; 65536]) -> Tally {
     let want = if (k == 2) & (n < 13) { 7 } else { 0 };
     tried(t, b"payloads", n as u64, small_profile(), before_reply(s, k), heard_at(0.0), reply(k), n, want, before, b)
 }
 
 // Payloads of 0 to 18 bytes with each of the 4 replies; only a long ack's is read: 76 cases.
-pub(crate) fn payloads(s: Sender, before: &[u8], b: &mut [u8]) -> Tally {
+pub(crate) fn payloads(s: Sender, before: &[u8; 65536], b: &mut [u8; 65536]) -> Tally {
     let mut r = nothing();
     let mut n: usize = 0;
     while n < 19 {
@@ -287,7 +296,7 @@ pub(crate) fn payloads(s: Sender, before: &[u8], b: &mut [u8]) -> Tally {
 }
 
 // Calls out of turn: 8 calls on the record as it must not be, and the bytes: 9 cases.
-pub(crate) fn turns(s: Sender, a: &mut [u8], before: &[u8], out: &mut [u8]) -> Tally {
+pub(crate) fn turns(s: Sender, a: &mut [u8; 65536], before: &[u8; 65536], out: &mut [u8; 32769]) -> Tally {
     let mut r = nothing();
     let p = small_profile();
     let mut c: u8 = 0;
@@ -295,7 +304,7 @@ pub(crate) fn turns(s: Sender, a: &mut [u8], before: &[u8], out: &mut [u8]) -> T
         let again = c == 1;
         let mut q = s;
         q.link.connected = again;
-        let g = call(p, q, a, out, c);
+        let g = call_on(p, q, a, out, c);
         r = noted(r, b"out of turn", 0, c, 4, g.number, (g.number == 4) & same_record(g.next, q));
         c += 1;
     }
@@ -315,27 +324,32 @@ fn counted(s: Sender, waiting: u32, n: u32) -> Sender {
     q
 }
 
-fn queue_n(s: Sender, n: usize, b: &mut [u8]) -> Got {
-    let bytes = [5u8; 16385];
+// The first n of the bytes, or all.
+fn queue_first(s: Sender, n: usize, bytes: &[u8], b: &mut [u8]) -> Got {
     let p = small_profile();
-    if n <= 16385 {
+    if n < bytes.len() {
         return queued(p, s, b, &bytes[..n]);
     }
-    queued(p, s, b, b"")
+    queued(p, s, b, bytes)
+}
+
+fn queue_n(s: Sender, n: usize, b: &mut [u8; 65536]) -> Got {
+    let bytes = [5u8; 16385];
+    queue_first(s, n, &bytes, b)
 }
 
 // A queuing of n bytes: refused with nothing changed or accepted, with n more bytes waiting.
-fn queue_case(t: Tally, at: u64, s: Sender, n: usize, want: u8, before: &[u8], b: &mut [u8]) -> Tally {
+fn queue_case(t: Tally, at: u64, s: Sender, n: usize, want: u8, before: &[u8; 65536], b: &mut [u8; 65536]) -> Tally {
     let g = queue_n(s, n, b);
     let w = s.counts.waiting as u64;
     let more = g.next.counts.waiting as u64 == w + n as u64 % 65536;
-    let same = same_record(g.next, s) & same_bytes(b, before);
+    let same = same_record(g.next, s) & same_areas(b, before);
     restore(b, before);
     noted(t, b"queued bytes", at, 0, want, g.number, (g.number == want) & (((want == 0) & more) | ((want != 0) & same)))
 }
 
 // 8 at 16,385 waiting, 9 past 2^32 - 1 taken, 8 before 9, none queued: 13 cases.
-pub(crate) fn queues(s: Sender, before: &[u8], b: &mut [u8]) -> Tally {
+pub(crate) fn queues(s: Sender, before: &[u8; 65536], b: &mut [u8; 65536]) -> Tally {
     let mut r = nothing();
     r = queue_case(r, 0, counted(s, 0, 1700), 16384, 0, before, b);
     r = queue_case(r, 1, counted(s, 0, 1700), 16385, 8, before, b);
@@ -352,21 +366,26 @@ pub(crate) fn queues(s: Sender, before: &[u8], b: &mut [u8]) -> Tally {
     queue_case(r, 12, counted(s, 16383, 4294950912), 1, 9, before, b)
 }
 
-// A reply with a payload of 12 bytes and the first `len` bytes of the work area, for which two refusals stand: the first is given.
-fn order_reply(t: Tally, at: u64, p: Profile, s: Sender, len: usize, h: Heard, r: Reply, want: u8, before: &[u8], b: &mut [u8]) -> Tally {
+// A long ack of 12 bytes with the first `len` bytes of a work area; all of it where it has no more.
+fn receive_part(p: Profile, s: Sender, len: usize, a: &mut [u8], h: Heard, r: Reply) -> Got {
     let payload = [0u8; 12];
-    if len <= b.len() {
-        let g = receive(p, s, &mut b[..len], h, r, &payload);
-        let same = same_record(g.next, s) & same_bytes(b, before);
-        return noted(t, b"order", at, 3, want, g.number, (g.number == want) & same);
+    if len < a.len() {
+        return receive(p, s, &mut a[..len], h, r, &payload);
     }
-    noted(t, b"order", at, 99, want, 97, false)
+    receive(p, s, a, h, r, &payload)
 }
 
-fn order_burst(t: Tally, at: u64, p: Profile, s: Sender, want: u8, before: &[u8], b: &mut [u8]) -> Tally {
+// A reply with a payload of 12 bytes and the first `len` bytes of the work area, for which two refusals stand: the first is given.
+fn order_reply(t: Tally, at: u64, p: Profile, s: Sender, len: usize, h: Heard, r: Reply, want: u8, before: &[u8; 65536], b: &mut [u8; 65536]) -> Tally {
+    let g = receive_part(p, s, len, b, h, r);
+    let same = same_record(g.next, s) & same_areas(b, before);
+    noted(t, b"order", at, 3, want, g.number, (g.number == want) & same)
+}
+
+fn order_burst(t: Tally, at: u64, p: Profile, s: Sender, want: u8, before: &[u8; 65536], b: &mut [u8; 65536]) -> Tally {
     let mut out = [165u8; 32];
     let g = bursted(p, s, b, &mut out);
-    let same = same_record(g.next, s) & same_bytes(b, before);
+    let same = same_record(g.next, s) & same_areas(b, before);
     noted(t, b"order", at, 5, want, g.number, (g.number == want) & same)
 }
 
@@ -383,12 +402,12 @@ fn unsound(s: Sender) -> Sender {
 }
 
 // 1 before 2, 2 before 3, 3 before 4, 4 before 5, 5 before 6, 6 before 7, and 7: 8 cases.
-fn reply_orders(s: Sender, before: &[u8], b: &mut [u8]) -> Tally {
+fn reply_orders(s: Sender, before: &[u8; 65536], b: &mut [u8; 65536]) -> Tally {
     let p = small_profile();
     let late = fit(s, 1);
     let r = reply(2);
     let h = heard_at(0.0);
-    let all = b.len();
+    let all: usize = 65536;
     let mut t = nothing();
     t = order_reply(t, 0, sized(513, 180), s, all, h, r, 1, before, b);
     t = order_reply(t, 1, sized(513, 512), unsound(s), 0, h, r, 1, before, b);
@@ -401,7 +420,7 @@ fn reply_orders(s: Sender, before: &[u8], b: &mut [u8]) -> Tally {
 }
 
 // 1 to 4 before 10, and 10; 4 before 8: 14 cases with those of replies.
-pub(crate) fn orders(s: Sender, before: &[u8], b: &mut [u8]) -> Tally {
+pub(crate) fn orders(s: Sender, before: &[u8; 65536], b: &mut [u8; 65536]) -> Tally {
     let p = small_profile();
     let late = fit(s, 1);
     let mut t = reply_orders(s, before, b);
