@@ -56,9 +56,15 @@ fn short_area(t: Tally, n: usize, s: Sender, a: &mut [u8; 65536], out: &mut [u8;
     r
 }
 
-
 // A work area of n bytes, long enough: every call is accepted, and bytes past 49,152 are kept.
-fn long_area(t: Tally, n: usize, s: Sender, before: &[u8; 65536], b: &mut [u8; 65536], spare: &mut [u8; 32769]) -> Tally {
+fn long_area(
+    t: Tally,
+    n: usize,
+    s: Sender,
+    before: &[u8; 65536],
+    b: &mut [u8; 65536],
+    spare: &mut [u8; 32769],
+) -> Tally {
     let mut r = t;
     let mut c: u8 = 0;
     while c < 8 {
@@ -72,7 +78,14 @@ fn long_area(t: Tally, n: usize, s: Sender, before: &[u8; 65536], b: &mut [u8; 6
 }
 
 // 7 lengths in 8 calls, and the bytes: 57 cases.
-pub(crate) fn areas(s: Sender, a: &mut [u8; 65536], before: &[u8; 65536], out: &mut [u8; 32769], b: &mut [u8; 65536], spare: &mut [u8; 32769]) -> Tally {
+pub(crate) fn areas(
+    s: Sender,
+    a: &mut [u8; 65536],
+    before: &[u8; 65536],
+    out: &mut [u8; 32769],
+    b: &mut [u8; 65536],
+    spare: &mut [u8; 32769],
+) -> Tally {
     let mut r = nothing();
     r = short_area(r, 0, s, a, out);
     r = short_area(r, 1, s, a, out);
@@ -101,12 +114,25 @@ fn burst_some(p: Profile, s: Sender, n: usize, a: &mut [u8], out: &mut [u8]) -> 
     bursted(p, s, a, out)
 }
 
-fn burst_part(p: Profile, s: Sender, n: usize, b: &mut [u8; 65536], spare: &mut [u8; 32769]) -> Got {
+fn burst_part(
+    p: Profile,
+    s: Sender,
+    n: usize,
+    b: &mut [u8; 65536],
+    spare: &mut [u8; 32769],
+) -> Got {
     burst_some(p, s, n, b, spare)
 }
 
 // A burst into the first n bytes of the output: its answer; 99 where the record changed with a refusal, 98 where an accepted burst hasn't `full` bytes.
-fn burst_into(long: u32, n: usize, full: usize, s: Sender, b: &mut [u8; 65536], spare: &mut [u8; 32769]) -> u8 {
+fn burst_into(
+    long: u32,
+    n: usize,
+    full: usize,
+    s: Sender,
+    b: &mut [u8; 65536],
+    spare: &mut [u8; 32769],
+) -> u8 {
     let p = fast(18, long);
     let g = burst_part(p, s, n, b, spare);
     if g.number == 0 {
@@ -116,7 +142,15 @@ fn burst_into(long: u32, n: usize, full: usize, s: Sender, b: &mut [u8; 65536], 
 }
 
 // An output too short: 10, and the bytes as they were.
-fn short_output(t: Tally, long: u32, n: usize, s: Sender, before: &[u8; 65536], b: &mut [u8; 65536], spare: &mut [u8; 32769]) -> Tally {
+fn short_output(
+    t: Tally,
+    long: u32,
+    n: usize,
+    s: Sender,
+    before: &[u8; 65536],
+    b: &mut [u8; 65536],
+    spare: &mut [u8; 32769],
+) -> Tally {
     restore(b, before);
     blank(spare);
     let got = burst_into(long, n, 0, s, b, spare);
@@ -125,7 +159,16 @@ fn short_output(t: Tally, long: u32, n: usize, s: Sender, before: &[u8; 65536], 
 }
 
 // An output long enough for the burst's frames, of `full` bytes together, which end in the CRC of the last; past them the bytes are kept.
-fn long_output(t: Tally, long: u32, n: usize, full: usize, s: Sender, before: &[u8; 65536], b: &mut [u8; 65536], spare: &mut [u8; 32769]) -> Tally {
+fn long_output(
+    t: Tally,
+    long: u32,
+    n: usize,
+    full: usize,
+    s: Sender,
+    before: &[u8; 65536],
+    b: &mut [u8; 65536],
+    spare: &mut [u8; 32769],
+) -> Tally {
     restore(b, before);
     blank(spare);
     let got = burst_into(long, n, full, s, b, spare);
@@ -134,7 +177,15 @@ fn long_output(t: Tally, long: u32, n: usize, full: usize, s: Sender, before: &[
 }
 
 // Outputs of no byte and around 64 frames: 4 cases.
-fn outputs_of(t: Tally, long: u32, most: usize, s: Sender, before: &[u8; 65536], b: &mut [u8; 65536], spare: &mut [u8; 32769]) -> Tally {
+fn outputs_of(
+    t: Tally,
+    long: u32,
+    most: usize,
+    s: Sender,
+    before: &[u8; 65536],
+    b: &mut [u8; 65536],
+    spare: &mut [u8; 32769],
+) -> Tally {
     let mut r = t;
     if (most < 1) | (40000 < most) {
         return noted(t, b"outputs", 0, 5, 0, 97, false);
@@ -146,7 +197,12 @@ fn outputs_of(t: Tally, long: u32, most: usize, s: Sender, before: &[u8; 65536],
 }
 
 // Long frames of 18, 190 and 512 bytes, of which 64 go in a burst, with outputs of 4 lengths each: 12 cases.
-pub(crate) fn outputs(s: Sender, before: &[u8; 65536], b: &mut [u8; 65536], spare: &mut [u8; 32769]) -> Tally {
+pub(crate) fn outputs(
+    s: Sender,
+    before: &[u8; 65536],
+    b: &mut [u8; 65536],
+    spare: &mut [u8; 32769],
+) -> Tally {
     let mut r = nothing();
     r = outputs_of(r, 18, 1152, s, before, b, spare);
     r = outputs_of(r, 190, 12160, s, before, b, spare);

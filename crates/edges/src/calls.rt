@@ -1,4 +1,7 @@
 // The calls that are tried, 0 to 7: queue, connect, short ack, long ack, turn, burst, find, piece; and what came of them against what document 01 says.
+use crate::same::all_from;
+use crate::same::same_bytes;
+use crate::same::same_record;
 use answers::Ack;
 use answers::ConnAck;
 use answers::Heard;
@@ -12,9 +15,6 @@ use libc::STDOUT_FILENO;
 use outgoing::Outgoing;
 use record::Sender;
 use report::ChanClass;
-use crate::same::all_from;
-use crate::same::same_bytes;
-use crate::same::same_record;
 use sender::Reply;
 use sender::number;
 
@@ -82,7 +82,15 @@ pub(crate) fn told(name: &[u8], t: Tally, before: u64) -> u64 {
 }
 
 // A case: it differs where it is not ok, and is then written with its numbers.
-pub(crate) fn noted(t: Tally, name: &[u8], at: u64, call: u8, want: u8, got: u8, ok: bool) -> Tally {
+pub(crate) fn noted(
+    t: Tally,
+    name: &[u8],
+    at: u64,
+    call: u8,
+    want: u8,
+    got: u8,
+    ok: bool,
+) -> Tally {
     if !ok {
         write_all(STDOUT_FILENO, name);
         say(b", case ", at);
@@ -150,7 +158,14 @@ pub(crate) fn turn() -> Turn {
 }
 
 // A reply with a payload of zeros.
-pub(crate) fn receive(p: Profile, s: Sender, a: &mut [u8], h: Heard, r: Reply, payload: &[u8]) -> Got {
+pub(crate) fn receive(
+    p: Profile,
+    s: Sender,
+    a: &mut [u8],
+    h: Heard,
+    r: Reply,
+    payload: &[u8],
+) -> Got {
     let q = sender::sender_rx(p, s, a, h, r, payload);
     let v = q.verdict;
     let next = q.next;
@@ -303,11 +318,24 @@ fn put_over(to: &mut [u8], from: &[u8]) {
 }
 
 // The calls on whole arrays.
-pub(crate) fn call_on(p: Profile, s: Sender, a: &mut [u8; 65536], out: &mut [u8; 32769], c: u8) -> Got {
+pub(crate) fn call_on(
+    p: Profile,
+    s: Sender,
+    a: &mut [u8; 65536],
+    out: &mut [u8; 32769],
+    c: u8,
+) -> Got {
     call(p, s, a, out, c)
 }
 
-pub(crate) fn receive_on(p: Profile, s: Sender, a: &mut [u8; 65536], h: Heard, r: Reply, payload: &[u8]) -> Got {
+pub(crate) fn receive_on(
+    p: Profile,
+    s: Sender,
+    a: &mut [u8; 65536],
+    h: Heard,
+    r: Reply,
+    payload: &[u8],
+) -> Got {
     receive(p, s, a, h, r, payload)
 }
 
@@ -329,7 +357,16 @@ pub(crate) fn blank_from(out: &[u8; 32769], at: usize) -> bool {
 }
 
 // Every call is refused by `want`, with the record as it was.
-pub(crate) fn refused(t: Tally, name: &[u8], at: u64, p: Profile, s: Sender, a: &mut [u8; 65536], out: &mut [u8; 32769], want: u8) -> Tally {
+pub(crate) fn refused(
+    t: Tally,
+    name: &[u8],
+    at: u64,
+    p: Profile,
+    s: Sender,
+    a: &mut [u8; 65536],
+    out: &mut [u8; 32769],
+    want: u8,
+) -> Tally {
     let mut r = t;
     let mut c: u8 = 0;
     while c < 8 {
@@ -343,13 +380,28 @@ pub(crate) fn refused(t: Tally, name: &[u8], at: u64, p: Profile, s: Sender, a: 
 }
 
 // The bytes after refused calls: the work area as `before`, the output blank.
-pub(crate) fn kept(t: Tally, name: &[u8], at: u64, a: &[u8; 65536], before: &[u8; 65536], out: &[u8; 32769]) -> Tally {
+pub(crate) fn kept(
+    t: Tally,
+    name: &[u8],
+    at: u64,
+    a: &[u8; 65536],
+    before: &[u8; 65536],
+    out: &[u8; 32769],
+) -> Tally {
     let ok = same_areas(a, before) & blank_from(out, 0);
     noted(t, name, at, 99, 0, 0, ok)
 }
 
 // Every call is accepted. The work area may hold anything: the record has no piece.
-pub(crate) fn accepted(t: Tally, name: &[u8], at: u64, p: Profile, s: Sender, a: &mut [u8; 65536], out: &mut [u8; 32769]) -> Tally {
+pub(crate) fn accepted(
+    t: Tally,
+    name: &[u8],
+    at: u64,
+    p: Profile,
+    s: Sender,
+    a: &mut [u8; 65536],
+    out: &mut [u8; 32769],
+) -> Tally {
     let mut r = t;
     let mut c: u8 = 0;
     while c < 8 {
@@ -367,7 +419,17 @@ pub(crate) fn restore(to: &mut [u8; 65536], from: &[u8; 65536]) {
 }
 
 // Every call is accepted, each from the work area `before`; the queuing may have its refusal `full`. Past 49,152 the bytes are kept.
-pub(crate) fn taken(t: Tally, name: &[u8], at: u64, p: Profile, s: Sender, before: &[u8; 65536], b: &mut [u8; 65536], spare: &mut [u8; 32769], full: u8) -> Tally {
+pub(crate) fn taken(
+    t: Tally,
+    name: &[u8],
+    at: u64,
+    p: Profile,
+    s: Sender,
+    before: &[u8; 65536],
+    b: &mut [u8; 65536],
+    spare: &mut [u8; 32769],
+    full: u8,
+) -> Tally {
     let mut r = t;
     let mut c: u8 = 0;
     while c < 8 {
@@ -382,7 +444,19 @@ pub(crate) fn taken(t: Tally, name: &[u8], at: u64, p: Profile, s: Sender, befor
 }
 
 // Every call is accepted or, where `want` is 3, refused by it.
-pub(crate) fn judged(t: Tally, name: &[u8], at: u64, p: Profile, s: Sender, want: u8, a: &mut [u8; 65536], before: &[u8; 65536], out: &mut [u8; 32769], b: &mut [u8; 65536], spare: &mut [u8; 32769]) -> Tally {
+pub(crate) fn judged(
+    t: Tally,
+    name: &[u8],
+    at: u64,
+    p: Profile,
+    s: Sender,
+    want: u8,
+    a: &mut [u8; 65536],
+    before: &[u8; 65536],
+    out: &mut [u8; 32769],
+    b: &mut [u8; 65536],
+    spare: &mut [u8; 32769],
+) -> Tally {
     if want == 3 {
         return refused(t, name, at, p, s, a, out, 3);
     }

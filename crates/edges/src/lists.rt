@@ -219,30 +219,83 @@ fn list_wanted(kind: u8, k: u8) -> u8 {
     if k < 8 { 3 } else { 0 }
 }
 
-fn group(name: &[u8], kind: u8, n: u8, s: Sender, a: &mut [u8; 65536], before: &[u8; 65536], out: &mut [u8; 32769], b: &mut [u8; 65536], spare: &mut [u8; 32769]) -> Tally {
+fn group(
+    name: &[u8],
+    kind: u8,
+    n: u8,
+    s: Sender,
+    a: &mut [u8; 65536],
+    before: &[u8; 65536],
+    out: &mut [u8; 32769],
+    b: &mut [u8; 65536],
+    spare: &mut [u8; 32769],
+) -> Tally {
     let p = small_profile();
     let mut r = nothing();
     let mut k: u8 = 0;
     while k < n {
         let q = list_record(s, kind, k);
-        r = judged(r, name, k as u64, p, q, list_wanted(kind, k), a, before, out, b, spare);
+        r = judged(
+            r,
+            name,
+            k as u64,
+            p,
+            q,
+            list_wanted(kind, k),
+            a,
+            before,
+            out,
+            b,
+            spare,
+        );
         k += 1;
     }
     kept(r, name, 99, a, before, out)
 }
 
 // 11 records in 8 calls, and the bytes: 89 cases.
-pub(crate) fn helds(s: Sender, a: &mut [u8; 65536], before: &[u8; 65536], out: &mut [u8; 32769], b: &mut [u8; 65536], spare: &mut [u8; 32769]) -> Tally {
+pub(crate) fn helds(
+    s: Sender,
+    a: &mut [u8; 65536],
+    before: &[u8; 65536],
+    out: &mut [u8; 32769],
+    b: &mut [u8; 65536],
+    spare: &mut [u8; 32769],
+) -> Tally {
     group(b"record, held list", 0, 11, s, a, before, out, b, spare)
 }
 
 // 12 records in 8 calls, and the bytes: 97 cases.
-pub(crate) fn sents(s: Sender, a: &mut [u8; 65536], before: &[u8; 65536], out: &mut [u8; 32769], b: &mut [u8; 65536], spare: &mut [u8; 32769]) -> Tally {
-    group(b"record, outstanding burst", 1, 12, s, a, before, out, b, spare)
+pub(crate) fn sents(
+    s: Sender,
+    a: &mut [u8; 65536],
+    before: &[u8; 65536],
+    out: &mut [u8; 32769],
+    b: &mut [u8; 65536],
+    spare: &mut [u8; 32769],
+) -> Tally {
+    group(
+        b"record, outstanding burst",
+        1,
+        12,
+        s,
+        a,
+        before,
+        out,
+        b,
+        spare,
+    )
 }
 
 // 13 records in 8 calls, and the bytes: 105 cases.
-pub(crate) fn counts(s: Sender, a: &mut [u8; 65536], before: &[u8; 65536], out: &mut [u8; 32769], b: &mut [u8; 65536], spare: &mut [u8; 32769]) -> Tally {
+pub(crate) fn counts(
+    s: Sender,
+    a: &mut [u8; 65536],
+    before: &[u8; 65536],
+    out: &mut [u8; 32769],
+    b: &mut [u8; 65536],
+    spare: &mut [u8; 32769],
+) -> Tally {
     group(b"record, counts", 2, 13, s, a, before, out, b, spare)
 }
 
@@ -262,7 +315,15 @@ fn nudge(a: &mut [u8; 65536], at: usize, up: bool) {
 }
 
 // A byte of the table of pieces, one up or down, and back.
-fn nudged(t: Tally, name: &[u8], at: u64, up: bool, s: Sender, a: &mut [u8; 65536], out: &mut [u8; 32769]) -> Tally {
+fn nudged(
+    t: Tally,
+    name: &[u8],
+    at: u64,
+    up: bool,
+    s: Sender,
+    a: &mut [u8; 65536],
+    out: &mut [u8; 32769],
+) -> Tally {
     let p = small_profile();
     let i = (at % 72) as usize;
     nudge(a, 32768 + i, up);
@@ -272,7 +333,12 @@ fn nudged(t: Tally, name: &[u8], at: u64, up: bool, s: Sender, a: &mut [u8; 6553
 }
 
 // Each of the 8 bytes of the 9 rows, which lie one behind the other with no gap up to the next offset, up and down in 8 calls, and the bytes: 1,153 cases.
-pub(crate) fn rows(s: Sender, a: &mut [u8; 65536], before: &[u8; 65536], out: &mut [u8; 32769]) -> Tally {
+pub(crate) fn rows(
+    s: Sender,
+    a: &mut [u8; 65536],
+    before: &[u8; 65536],
+    out: &mut [u8; 32769],
+) -> Tally {
     let name = b"record, rows of pieces";
     let mut r = nothing();
     let mut i: u64 = 0;
@@ -336,38 +402,113 @@ fn held_all(s: Sender) -> Sender {
 }
 
 // The burst of 64 pieces of 255 bytes: 16,320 bytes, 2,048 pieces of 8 bytes, 64 held, a long payload of 255. 5 records in 8 calls, and the bytes: 41 cases.
-pub(crate) fn whole_burst(s: Sender, a: &mut [u8; 65536], before: &[u8; 65536], out: &mut [u8; 32769], b: &mut [u8; 65536], spare: &mut [u8; 32769]) -> Tally {
+pub(crate) fn whole_burst(
+    s: Sender,
+    a: &mut [u8; 65536],
+    before: &[u8; 65536],
+    out: &mut [u8; 32769],
+    b: &mut [u8; 65536],
+    spare: &mut [u8; 32769],
+) -> Tally {
     let name = b"record, 64 pieces of 255 bytes";
     let mut r = nothing();
     r = judged(r, name, 0, fast(18, 512), s, 0, a, before, out, b, spare);
     r = judged(r, name, 1, fast(18, 265), s, 0, a, before, out, b, spare);
     r = judged(r, name, 2, fast(18, 264), s, 3, a, before, out, b, spare);
     r = judged(r, name, 3, fast(19, 512), s, 0, a, before, out, b, spare);
-    r = judged(r, name, 4, fast(18, 512), held_all(s), 0, a, before, out, b, spare);
+    r = judged(
+        r,
+        name,
+        4,
+        fast(18, 512),
+        held_all(s),
+        0,
+        a,
+        before,
+        out,
+        b,
+        spare,
+    );
     kept(r, name, 5, a, before, out)
 }
 
-// The last byte a piece of its own: 2,049 pieces of 8 bytes, fewer of 9; 65 offsets outstanding and unsent, or 64. 5 records in 8 calls, and the bytes: 41 cases.
-fn split_cases(s: Sender, a: &mut [u8; 65536], before: &[u8; 65536], out: &mut [u8; 32769], b: &mut [u8; 65536], spare: &mut [u8; 32769]) -> Tally {
+// The last byte a piece of its own: 2,049 pieces of 8 bytes, fewer of 9; 65 offsets outstanding and unsent, or 64.
+// 5 records in 8 calls, and the bytes: 41 cases.
+fn split_cases(
+    s: Sender,
+    a: &mut [u8; 65536],
+    before: &[u8; 65536],
+    out: &mut [u8; 32769],
+    b: &mut [u8; 65536],
+    spare: &mut [u8; 32769],
+) -> Tally {
     let name = b"record, 65 pieces";
     let q = split(s, false);
     let mut r = nothing();
     r = judged(r, name, 0, fast(18, 512), q, 3, a, before, out, b, spare);
     r = judged(r, name, 1, fast(19, 512), q, 0, a, before, out, b, spare);
-    r = judged(r, name, 2, fast(19, 512), held_last(s, 1, 64), 3, a, before, out, b, spare);
-    r = judged(r, name, 3, fast(19, 512), held_last(s, 0, 64), 0, a, before, out, b, spare);
-    r = judged(r, name, 4, fast(19, 512), held_last(s, 1, 63), 0, a, before, out, b, spare);
+    r = judged(
+        r,
+        name,
+        2,
+        fast(19, 512),
+        held_last(s, 1, 64),
+        3,
+        a,
+        before,
+        out,
+        b,
+        spare,
+    );
+    r = judged(
+        r,
+        name,
+        3,
+        fast(19, 512),
+        held_last(s, 0, 64),
+        0,
+        a,
+        before,
+        out,
+        b,
+        spare,
+    );
+    r = judged(
+        r,
+        name,
+        4,
+        fast(19, 512),
+        held_last(s, 1, 63),
+        0,
+        a,
+        before,
+        out,
+        b,
+        spare,
+    );
     kept(r, name, 5, a, before, out)
 }
 
-pub(crate) fn split_burst(s: Sender, a: &mut [u8; 65536], before: &mut [u8; 65536], out: &mut [u8; 32769], b: &mut [u8; 65536], spare: &mut [u8; 32769]) -> Tally {
+pub(crate) fn split_burst(
+    s: Sender,
+    a: &mut [u8; 65536],
+    before: &mut [u8; 65536],
+    out: &mut [u8; 32769],
+    b: &mut [u8; 65536],
+    spare: &mut [u8; 32769],
+) -> Tally {
     put_rows(a, 16065, 254, 16319, 1);
     restore(before, a);
     split_cases(s, a, before, out, b, spare)
 }
 
 // 16,321 bytes flying: 8 calls and the bytes, 9 cases.
-pub(crate) fn over_burst(s: Sender, a: &mut [u8; 65536], before: &mut [u8; 65536], out: &mut [u8; 32769]) -> Tally {
+pub(crate) fn over_burst(
+    s: Sender,
+    a: &mut [u8; 65536],
+    before: &mut [u8; 65536],
+    out: &mut [u8; 32769],
+) -> Tally {
     let name = b"record, 16,321 bytes flying";
     put_rows(a, 16065, 255, 16320, 1);
     restore(before, a);
@@ -379,9 +520,21 @@ fn as_meant_small(s: Sender) -> bool {
     let c = s.counts;
     let h = s.at_peer;
     let b = s.last_burst;
-    let counts = (c.pieces == 9) & (c.flying == 1530) & (c.next_offset == 1700) & (c.bytes_acked == 170) & (c.waiting == 100);
-    let held = (h.n == 9) & (h.rest == 7) & (h.off[0] == 170) & (h.off[1] == 340) & (h.off[8] == 1530);
-    let sent = (b.n == 2) & (b.off[0] == 170) & (b.off[1] == 340) & (b.bits[0] == 240) & (b.held[0] == 2160);
+    let counts = (c.pieces == 9)
+        & (c.flying == 1530)
+        & (c.next_offset == 1700)
+        & (c.bytes_acked == 170)
+        & (c.waiting == 100);
+    let held = (h.n == 9)
+        & (h.rest == 7)
+        & (h.off[0] == 170)
+        & (h.off[1] == 340)
+        & (h.off[8] == 1530);
+    let sent = (b.n == 2)
+        & (b.off[0] == 170)
+        & (b.off[1] == 340)
+        & (b.bits[0] == 240)
+        & (b.held[0] == 2160);
     counts & held & sent
 }
 
@@ -392,6 +545,14 @@ fn as_meant_large(s: Sender) -> bool {
 
 // The records are those that the cases are about: 2 cases.
 pub(crate) fn as_meant(small: Sender, large: Sender) -> Tally {
-    let t = noted(nothing(), b"records made", 0, 99, 0, 0, as_meant_small(small));
+    let t = noted(
+        nothing(),
+        b"records made",
+        0,
+        99,
+        0,
+        0,
+        as_meant_small(small),
+    );
     noted(t, b"records made", 1, 99, 0, 0, as_meant_large(large))
 }

@@ -37,39 +37,126 @@ fn waiting(a: &mut [u8; 65536]) -> Sender {
     q.next
 }
 
-fn profile_groups(n: u64, a: &mut [u8; 65536], before: &mut [u8; 65536], out: &mut [u8; 32769], b: &mut [u8; 65536], spare: &mut [u8; 32769]) -> u64 {
+fn profile_groups(
+    n: u64,
+    a: &mut [u8; 65536],
+    before: &mut [u8; 65536],
+    out: &mut [u8; 32769],
+    b: &mut [u8; 65536],
+    spare: &mut [u8; 32769],
+) -> u64 {
     pattern(a);
     pattern(before);
     bounds::blank(out);
     let s = waiting(b);
     let mut d = n;
-    d = told(b"profile, whole numbers", profiles::wholes(s, a, before, out, b, spare), d);
-    d = told(b"profile, seconds and rates", profiles::seconds(s, a, before, out, b, spare), d);
-    d = told(b"profile, dB", profiles::dbs(s, a, before, out, b, spare), d);
-    d = told(b"profile, optional values not there", profiles::unset(s, b, spare), d);
-    told(b"profile, short frame and long", profiles::sizes(s, a, before, out, b, spare), d)
+    d = told(
+        b"profile, whole numbers",
+        profiles::wholes(s, a, before, out, b, spare),
+        d,
+    );
+    d = told(
+        b"profile, seconds and rates",
+        profiles::seconds(s, a, before, out, b, spare),
+        d,
+    );
+    d = told(
+        b"profile, dB",
+        profiles::dbs(s, a, before, out, b, spare),
+        d,
+    );
+    d = told(
+        b"profile, optional values not there",
+        profiles::unset(s, b, spare),
+        d,
+    );
+    told(
+        b"profile, short frame and long",
+        profiles::sizes(s, a, before, out, b, spare),
+        d,
+    )
 }
 
-fn record_groups(n: u64, s: Sender, a: &mut [u8; 65536], before: &mut [u8; 65536], out: &mut [u8; 32769], b: &mut [u8; 65536], spare: &mut [u8; 32769]) -> u64 {
+fn record_groups(
+    n: u64,
+    s: Sender,
+    a: &mut [u8; 65536],
+    before: &mut [u8; 65536],
+    out: &mut [u8; 32769],
+    b: &mut [u8; 65536],
+    spare: &mut [u8; 32769],
+) -> u64 {
     let mut d = n;
-    d = told(b"record, levels and numbers", records::wholes(s, a, before, out, b, spare), d);
-    d = told(b"record, seconds and times", records::seconds(s, a, before, out, b, spare), d);
-    d = told(b"record, shares, dB and Doppler", records::singles(s, a, before, out, b, spare), d);
-    d = told(b"record, held list", lists::helds(s, a, before, out, b, spare), d);
-    d = told(b"record, outstanding burst", lists::sents(s, a, before, out, b, spare), d);
-    d = told(b"record, counts", lists::counts(s, a, before, out, b, spare), d);
+    d = told(
+        b"record, levels and numbers",
+        records::wholes(s, a, before, out, b, spare),
+        d,
+    );
+    d = told(
+        b"record, seconds and times",
+        records::seconds(s, a, before, out, b, spare),
+        d,
+    );
+    d = told(
+        b"record, shares, dB and Doppler",
+        records::singles(s, a, before, out, b, spare),
+        d,
+    );
+    d = told(
+        b"record, held list",
+        lists::helds(s, a, before, out, b, spare),
+        d,
+    );
+    d = told(
+        b"record, outstanding burst",
+        lists::sents(s, a, before, out, b, spare),
+        d,
+    );
+    d = told(
+        b"record, counts",
+        lists::counts(s, a, before, out, b, spare),
+        d,
+    );
     told(b"record, rows of pieces", lists::rows(s, a, before, out), d)
 }
 
-fn large_groups(n: u64, s: Sender, a: &mut [u8; 65536], before: &mut [u8; 65536], out: &mut [u8; 32769], b: &mut [u8; 65536], spare: &mut [u8; 32769]) -> u64 {
+fn large_groups(
+    n: u64,
+    s: Sender,
+    a: &mut [u8; 65536],
+    before: &mut [u8; 65536],
+    out: &mut [u8; 32769],
+    b: &mut [u8; 65536],
+    spare: &mut [u8; 32769],
+) -> u64 {
     let mut d = n;
-    d = told(b"record, 64 pieces of 255 bytes", lists::whole_burst(s, a, before, out, b, spare), d);
-    d = told(b"record, 65 pieces", lists::split_burst(s, a, before, out, b, spare), d);
-    told(b"record, 16,321 bytes flying", lists::over_burst(s, a, before, out), d)
+    d = told(
+        b"record, 64 pieces of 255 bytes",
+        lists::whole_burst(s, a, before, out, b, spare),
+        d,
+    );
+    d = told(
+        b"record, 65 pieces",
+        lists::split_burst(s, a, before, out, b, spare),
+        d,
+    );
+    told(
+        b"record, 16,321 bytes flying",
+        lists::over_burst(s, a, before, out),
+        d,
+    )
 }
 
 // Of replies and queued bytes.
-fn reply_groups(n: u64, s: Sender, a: &mut [u8; 65536], before: &mut [u8; 65536], out: &mut [u8; 32769], b: &mut [u8; 65536], spare: &mut [u8; 32769]) -> u64 {
+fn reply_groups(
+    n: u64,
+    s: Sender,
+    a: &mut [u8; 65536],
+    before: &mut [u8; 65536],
+    out: &mut [u8; 32769],
+    b: &mut [u8; 65536],
+    spare: &mut [u8; 32769],
+) -> u64 {
     let mut d = n;
     restore(b, before);
     d = told(b"out of turn", reply_cases::turns(s, a, before, out), d);
@@ -91,7 +178,13 @@ fn full(a: &mut [u8; 65536]) -> Sender {
     q.next
 }
 
-fn run(a: &mut [u8; 65536], before: &mut [u8; 65536], out: &mut [u8; 32769], b: &mut [u8; 65536], spare: &mut [u8; 32769]) {
+fn run(
+    a: &mut [u8; 65536],
+    before: &mut [u8; 65536],
+    out: &mut [u8; 32769],
+    b: &mut [u8; 65536],
+    spare: &mut [u8; 32769],
+) {
     let mut d: u64 = 0;
     d = profile_groups(d, a, before, out, b, spare);
     let s = made::small(a, spare);

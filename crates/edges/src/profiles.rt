@@ -4,12 +4,12 @@ use crate::calls::accepted;
 use crate::calls::kept;
 use crate::calls::nothing;
 use crate::calls::refused;
-use config::Profile;
-use record::Sender;
 use crate::values::nan32;
+use crate::values::tried_whole;
 use crate::values::tried32;
 use crate::values::tried64;
-use crate::values::tried_whole;
+use config::Profile;
+use record::Sender;
 
 // The profile that fields are changed in: the usual one, with frames of 18 and 512 bytes.
 pub(crate) fn wide_profile() -> Profile {
@@ -321,7 +321,18 @@ fn case_number(f: usize, v: u8) -> u64 {
 }
 
 // A value of a field, in every call.
-fn value(t: Tally, name: &[u8], kind: u8, f: usize, v: u8, s: Sender, a: &mut [u8; 65536], out: &mut [u8; 32769], b: &mut [u8; 65536], spare: &mut [u8; 32769]) -> Tally {
+fn value(
+    t: Tally,
+    name: &[u8],
+    kind: u8,
+    f: usize,
+    v: u8,
+    s: Sender,
+    a: &mut [u8; 65536],
+    out: &mut [u8; 32769],
+    b: &mut [u8; 65536],
+    spare: &mut [u8; 32769],
+) -> Tally {
     if !there(kind, f, v) {
         return t;
     }
@@ -333,7 +344,17 @@ fn value(t: Tally, name: &[u8], kind: u8, f: usize, v: u8, s: Sender, a: &mut [u
     refused(t, name, at, p, s, a, out, 1)
 }
 
-fn field(t: Tally, name: &[u8], kind: u8, f: usize, s: Sender, a: &mut [u8; 65536], out: &mut [u8; 32769], b: &mut [u8; 65536], spare: &mut [u8; 32769]) -> Tally {
+fn field(
+    t: Tally,
+    name: &[u8],
+    kind: u8,
+    f: usize,
+    s: Sender,
+    a: &mut [u8; 65536],
+    out: &mut [u8; 32769],
+    b: &mut [u8; 65536],
+    spare: &mut [u8; 32769],
+) -> Tally {
     let mut r = t;
     let mut v: u8 = 0;
     while v < 9 {
@@ -344,7 +365,17 @@ fn field(t: Tally, name: &[u8], kind: u8, f: usize, s: Sender, a: &mut [u8; 6553
 }
 
 // n fields. After each of them the work area and the output of the refused calls are as they were.
-fn fields(name: &[u8], kind: u8, n: usize, s: Sender, a: &mut [u8; 65536], before: &[u8; 65536], out: &mut [u8; 32769], b: &mut [u8; 65536], spare: &mut [u8; 32769]) -> Tally {
+fn fields(
+    name: &[u8],
+    kind: u8,
+    n: usize,
+    s: Sender,
+    a: &mut [u8; 65536],
+    before: &[u8; 65536],
+    out: &mut [u8; 32769],
+    b: &mut [u8; 65536],
+    spare: &mut [u8; 32769],
+) -> Tally {
     let mut r = nothing();
     let mut f: usize = 0;
     while f < n {
@@ -357,17 +388,58 @@ fn fields(name: &[u8], kind: u8, n: usize, s: Sender, a: &mut [u8; 65536], befor
 
 // 47 fields, four values inside, two outside but for 4 fields with none below 0 and 17 with none above 2^32 - 1: 47 * 6 - 21 = 261 values in 8 calls, and 47
 // times the bytes: 2,135 cases.
-pub(crate) fn wholes(s: Sender, a: &mut [u8; 65536], before: &[u8; 65536], out: &mut [u8; 32769], b: &mut [u8; 65536], spare: &mut [u8; 32769]) -> Tally {
-    fields(b"profile, whole numbers", 0, WHOLES, s, a, before, out, b, spare)
+pub(crate) fn wholes(
+    s: Sender,
+    a: &mut [u8; 65536],
+    before: &[u8; 65536],
+    out: &mut [u8; 32769],
+    b: &mut [u8; 65536],
+    spare: &mut [u8; 32769],
+) -> Tally {
+    fields(
+        b"profile, whole numbers",
+        0,
+        WHOLES,
+        s,
+        a,
+        before,
+        out,
+        b,
+        spare,
+    )
 }
 
 // 48 fields of 9 values in 8 calls, and 48 times the bytes: 3,504 cases.
-pub(crate) fn seconds(s: Sender, a: &mut [u8; 65536], before: &[u8; 65536], out: &mut [u8; 32769], b: &mut [u8; 65536], spare: &mut [u8; 32769]) -> Tally {
-    fields(b"profile, seconds and rates", 1, SECONDS, s, a, before, out, b, spare)
+pub(crate) fn seconds(
+    s: Sender,
+    a: &mut [u8; 65536],
+    before: &[u8; 65536],
+    out: &mut [u8; 32769],
+    b: &mut [u8; 65536],
+    spare: &mut [u8; 32769],
+) -> Tally {
+    fields(
+        b"profile, seconds and rates",
+        1,
+        SECONDS,
+        s,
+        a,
+        before,
+        out,
+        b,
+        spare,
+    )
 }
 
 // 40 fields of 9 values in 8 calls, and 40 times the bytes: 2,920 cases.
-pub(crate) fn dbs(s: Sender, a: &mut [u8; 65536], before: &[u8; 65536], out: &mut [u8; 32769], b: &mut [u8; 65536], spare: &mut [u8; 32769]) -> Tally {
+pub(crate) fn dbs(
+    s: Sender,
+    a: &mut [u8; 65536],
+    before: &[u8; 65536],
+    out: &mut [u8; 32769],
+    b: &mut [u8; 65536],
+    spare: &mut [u8; 32769],
+) -> Tally {
     fields(b"profile, dB", 2, DBS, s, a, before, out, b, spare)
 }
 
@@ -396,7 +468,14 @@ pub(crate) fn sized(short: u32, long: u32) -> Profile {
 }
 
 // Short frames above, equal to and below the long: 6 profiles in 8 calls, and the bytes: 49 cases.
-pub(crate) fn sizes(s: Sender, a: &mut [u8; 65536], before: &[u8; 65536], out: &mut [u8; 32769], b: &mut [u8; 65536], spare: &mut [u8; 32769]) -> Tally {
+pub(crate) fn sizes(
+    s: Sender,
+    a: &mut [u8; 65536],
+    before: &[u8; 65536],
+    out: &mut [u8; 32769],
+    b: &mut [u8; 65536],
+    spare: &mut [u8; 32769],
+) -> Tally {
     let name = b"profile, short frame and long";
     let mut r = nothing();
     r = accepted(r, name, 0, sized(18, 18), s, b, spare);

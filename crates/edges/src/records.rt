@@ -4,9 +4,9 @@ use crate::calls::judged;
 use crate::calls::kept;
 use crate::calls::nothing;
 use crate::made::small_profile;
+use crate::values::tried_whole;
 use crate::values::tried32;
 use crate::values::tried64;
-use crate::values::tried_whole;
 use record::Sender;
 
 // Seconds and times: burst_s 0, last_time 1, success_at 2 to 18, blocked_until 19 to 35.
@@ -220,16 +220,51 @@ fn case_number(f: usize, v: u8) -> u64 {
     0
 }
 
-fn value(t: Tally, name: &[u8], kind: u8, f: usize, v: u8, s: Sender, a: &mut [u8; 65536], before: &[u8; 65536], out: &mut [u8; 32769], b: &mut [u8; 65536], spare: &mut [u8; 32769]) -> Tally {
+fn value(
+    t: Tally,
+    name: &[u8],
+    kind: u8,
+    f: usize,
+    v: u8,
+    s: Sender,
+    a: &mut [u8; 65536],
+    before: &[u8; 65536],
+    out: &mut [u8; 32769],
+    b: &mut [u8; 65536],
+    spare: &mut [u8; 32769],
+) -> Tally {
     if !there(kind, f, v) {
         return t;
     }
     let q = record_of(s, kind, f, v);
     let p = small_profile();
-    judged(t, name, case_number(f, v), p, q, wanted(kind, f, v), a, before, out, b, spare)
+    judged(
+        t,
+        name,
+        case_number(f, v),
+        p,
+        q,
+        wanted(kind, f, v),
+        a,
+        before,
+        out,
+        b,
+        spare,
+    )
 }
 
-fn field(t: Tally, name: &[u8], kind: u8, f: usize, s: Sender, a: &mut [u8; 65536], before: &[u8; 65536], out: &mut [u8; 32769], b: &mut [u8; 65536], spare: &mut [u8; 32769]) -> Tally {
+fn field(
+    t: Tally,
+    name: &[u8],
+    kind: u8,
+    f: usize,
+    s: Sender,
+    a: &mut [u8; 65536],
+    before: &[u8; 65536],
+    out: &mut [u8; 32769],
+    b: &mut [u8; 65536],
+    spare: &mut [u8; 32769],
+) -> Tally {
     let mut r = t;
     let mut v: u8 = 0;
     while v < 9 {
@@ -239,7 +274,17 @@ fn field(t: Tally, name: &[u8], kind: u8, f: usize, s: Sender, a: &mut [u8; 6553
     r
 }
 
-fn fields(name: &[u8], kind: u8, n: usize, s: Sender, a: &mut [u8; 65536], before: &[u8; 65536], out: &mut [u8; 32769], b: &mut [u8; 65536], spare: &mut [u8; 32769]) -> Tally {
+fn fields(
+    name: &[u8],
+    kind: u8,
+    n: usize,
+    s: Sender,
+    a: &mut [u8; 65536],
+    before: &[u8; 65536],
+    out: &mut [u8; 32769],
+    b: &mut [u8; 65536],
+    spare: &mut [u8; 32769],
+) -> Tally {
     let mut r = nothing();
     let mut f: usize = 0;
     while f < n {
@@ -251,16 +296,67 @@ fn fields(name: &[u8], kind: u8, n: usize, s: Sender, a: &mut [u8; 65536], befor
 }
 
 // 7 fields of 5 values in 8 calls, and 7 times the bytes: 287 cases.
-pub(crate) fn wholes(s: Sender, a: &mut [u8; 65536], before: &[u8; 65536], out: &mut [u8; 32769], b: &mut [u8; 65536], spare: &mut [u8; 32769]) -> Tally {
-    fields(b"record, levels and numbers", 0, WHOLES, s, a, before, out, b, spare)
+pub(crate) fn wholes(
+    s: Sender,
+    a: &mut [u8; 65536],
+    before: &[u8; 65536],
+    out: &mut [u8; 32769],
+    b: &mut [u8; 65536],
+    spare: &mut [u8; 32769],
+) -> Tally {
+    fields(
+        b"record, levels and numbers",
+        0,
+        WHOLES,
+        s,
+        a,
+        before,
+        out,
+        b,
+        spare,
+    )
 }
 
 // 2 fields of 9 values and 34 of 7 in 8 calls, and 36 times the bytes: 2,084 cases.
-pub(crate) fn seconds(s: Sender, a: &mut [u8; 65536], before: &[u8; 65536], out: &mut [u8; 32769], b: &mut [u8; 65536], spare: &mut [u8; 32769]) -> Tally {
-    fields(b"record, seconds and times", 1, SECONDS, s, a, before, out, b, spare)
+pub(crate) fn seconds(
+    s: Sender,
+    a: &mut [u8; 65536],
+    before: &[u8; 65536],
+    out: &mut [u8; 32769],
+    b: &mut [u8; 65536],
+    spare: &mut [u8; 32769],
+) -> Tally {
+    fields(
+        b"record, seconds and times",
+        1,
+        SECONDS,
+        s,
+        a,
+        before,
+        out,
+        b,
+        spare,
+    )
 }
 
 // 23 fields of 9 values in 8 calls, and 23 times the bytes: 1,679 cases.
-pub(crate) fn singles(s: Sender, a: &mut [u8; 65536], before: &[u8; 65536], out: &mut [u8; 32769], b: &mut [u8; 65536], spare: &mut [u8; 32769]) -> Tally {
-    fields(b"record, shares, dB and Doppler", 2, SINGLES, s, a, before, out, b, spare)
+pub(crate) fn singles(
+    s: Sender,
+    a: &mut [u8; 65536],
+    before: &[u8; 65536],
+    out: &mut [u8; 32769],
+    b: &mut [u8; 65536],
+    spare: &mut [u8; 32769],
+) -> Tally {
+    fields(
+        b"record, shares, dB and Doppler",
+        2,
+        SINGLES,
+        s,
+        a,
+        before,
+        out,
+        b,
+        spare,
+    )
 }

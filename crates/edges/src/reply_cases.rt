@@ -32,7 +32,15 @@ use record::Sender;
 use sender::Reply;
 
 // A reply with the first n bytes of a payload, or all.
-fn receive_some(p: Profile, s: Sender, h: Heard, r: Reply, n: usize, payload: &[u8], b: &mut [u8]) -> Got {
+fn receive_some(
+    p: Profile,
+    s: Sender,
+    h: Heard,
+    r: Reply,
+    n: usize,
+    payload: &[u8],
+    b: &mut [u8],
+) -> Got {
     if n < payload.len() {
         return receive(p, s, b, h, r, &payload[..n]);
     }
@@ -45,11 +53,31 @@ fn receive_first(p: Profile, s: Sender, h: Heard, r: Reply, n: usize, b: &mut [u
 }
 
 // A reply is answered by `want` and, where refused, record and work area are as they were. The work area is then `before` again.
-fn tried(t: Tally, name: &[u8], at: u64, p: Profile, s: Sender, h: Heard, r: Reply, n: usize, want: u8, before: &[u8; 65536], b: &mut [u8; 65536]) -> Tally {
+fn tried(
+    t: Tally,
+    name: &[u8],
+    at: u64,
+    p: Profile,
+    s: Sender,
+    h: Heard,
+    r: Reply,
+    n: usize,
+    want: u8,
+    before: &[u8; 65536],
+    b: &mut [u8; 65536],
+) -> Tally {
     let g = receive_first(p, s, h, r, n, b);
     let same = same_record(g.next, s) & same_areas(b, before);
     restore(b, before);
-    noted(t, name, at, 1, want, g.number, (g.number == want) & ((want == 0) | same))
+    noted(
+        t,
+        name,
+        at,
+        1,
+        want,
+        g.number,
+        (g.number == want) & ((want == 0) | same),
+    )
 }
 
 fn reply(k: u8) -> Reply {
@@ -123,7 +151,14 @@ fn later_time(v: u8) -> f64 {
     }
 }
 
-fn time_case(t: Tally, i: u8, late: bool, s: Sender, before: &[u8; 65536], b: &mut [u8; 65536]) -> Tally {
+fn time_case(
+    t: Tally,
+    i: u8,
+    late: bool,
+    s: Sender,
+    before: &[u8; 65536],
+    b: &mut [u8; 65536],
+) -> Tally {
     let k = i / 10;
     let v = i % 10;
     let last = if late { 1000.0 } else { 0.0 };
@@ -131,7 +166,19 @@ fn time_case(t: Tally, i: u8, late: bool, s: Sender, before: &[u8; 65536], b: &m
     let want = if v < 4 { 0 } else { 5 };
     let mut q = before_reply(s, k);
     q.link.last_time = last;
-    tried(t, b"times", i as u64, small_profile(), q, heard_at(time), reply(k), 13, want, before, b)
+    tried(
+        t,
+        b"times",
+        i as u64,
+        small_profile(),
+        q,
+        heard_at(time),
+        reply(k),
+        13,
+        want,
+        before,
+        b,
+    )
 }
 
 // 4 replies at 10 times, after 0 and after 1,000: 80 cases.
@@ -175,17 +222,53 @@ fn db_case(t: Tally, i: u8, s: Sender, before: &[u8; 65536], b: &mut [u8; 65536]
     let db = tried32(v, -100.0, 300.0);
     let want = if v < 4 { 0 } else { 6 };
     if k < 4 {
-        return tried(t, b"dB", i as u64, small_profile(), before_reply(s, k), heard_db(db), reply(k), 13, want, before, b);
+        return tried(
+            t,
+            b"dB",
+            i as u64,
+            small_profile(),
+            before_reply(s, k),
+            heard_db(db),
+            reply(k),
+            13,
+            want,
+            before,
+            b,
+        );
     }
     let q = if k == 4 { fit(s, 1) } else { s };
-    tried(t, b"dB", i as u64, small_profile(), q, heard_at(0.0), reply_db(k, db), 13, want, before, b)
+    tried(
+        t,
+        b"dB",
+        i as u64,
+        small_profile(),
+        q,
+        heard_at(0.0),
+        reply_db(k, db),
+        13,
+        want,
+        before,
+        b,
+    )
 }
 
 fn quiet_turn(s: Sender, t: Tally, before: &[u8; 65536], b: &mut [u8; 65536]) -> Tally {
     let mut c = turn();
     c.report.set = false;
     c.report.db = nan32();
-    tried(t, b"dB", 99, small_profile(), s, heard_at(0.0), Reply::Turn(c), 13, 0, before, b)
+    tried(
+        t,
+        b"dB",
+        99,
+        small_profile(),
+        s,
+        heard_at(0.0),
+        Reply::Turn(c),
+        13,
+        0,
+        before,
+        b,
+    )
 }
 
 // The dB measured here in 4 replies and the dB of 3 replies, 9 values each, and a turn without one: 64 cases.
@@ -257,12 +340,48 @@ fn number_case(t: Tally, i: u8, s: Sender, before: &[u8; 65536], b: &mut [u8; 65
     let want = if v < 2 { 0 } else { 6 };
     let p = small_profile();
     if k < 3 {
-        return tried(t, b"reply numbers", i as u64, p, s, heard_at(0.0), ack_with(k, n), 13, want, before, b);
+        return tried(
+            t,
+            b"reply numbers",
+            i as u64,
+            p,
+            s,
+            heard_at(0.0),
+            ack_with(k, n),
+            13,
+            want,
+            before,
+            b,
+        );
     }
     if k == 3 {
-        return tried(t, b"reply numbers", i as u64, p, fit(s, 1), heard_at(0.0), connect_slot(n), 13, want, before, b);
+        return tried(
+            t,
+            b"reply numbers",
+            i as u64,
+            p,
+            fit(s, 1),
+            heard_at(0.0),
+            connect_slot(n),
+            13,
+            want,
+            before,
+            b,
+        );
     }
-    tried(t, b"reply numbers", i as u64, p, before_reply(s, k - 4), heard_wave(n), reply(k - 4), 13, want, before, b)
+    tried(
+        t,
+        b"reply numbers",
+        i as u64,
+        p,
+        before_reply(s, k - 4),
+        heard_wave(n),
+        reply(k - 4),
+        13,
+        want,
+        before,
+        b,
+    )
 }
 
 // 8 places with 0, the highest, one more and 255: 32 cases.
@@ -276,9 +395,28 @@ pub(crate) fn numbers(s: Sender, before: &[u8; 65536], b: &mut [u8; 65536]) -> T
     r
 }
 
-fn payload_case(t: Tally, k: u8, n: usize, s: Sender, before: &[u8; 65536], b: &mut [u8; 65536]) -> Tally {
+fn payload_case(
+    t: Tally,
+    k: u8,
+    n: usize,
+    s: Sender,
+    before: &[u8; 65536],
+    b: &mut [u8; 65536],
+) -> Tally {
     let want = if (k == 2) & (n < 13) { 7 } else { 0 };
-    tried(t, b"payloads", n as u64, small_profile(), before_reply(s, k), heard_at(0.0), reply(k), n, want, before, b)
+    tried(
+        t,
+        b"payloads",
+        n as u64,
+        small_profile(),
+        before_reply(s, k),
+        heard_at(0.0),
+        reply(k),
+        n,
+        want,
+        before,
+        b,
+    )
 }
 
 // Payloads of 0 to 18 bytes with each of the 4 replies; only a long ack's is read: 76 cases.
@@ -296,7 +434,12 @@ pub(crate) fn payloads(s: Sender, before: &[u8; 65536], b: &mut [u8; 65536]) -> 
 }
 
 // Calls out of turn: 8 calls on the record as it must not be, and the bytes: 9 cases.
-pub(crate) fn turns(s: Sender, a: &mut [u8; 65536], before: &[u8; 65536], out: &mut [u8; 32769]) -> Tally {
+pub(crate) fn turns(
+    s: Sender,
+    a: &mut [u8; 65536],
+    before: &[u8; 65536],
+    out: &mut [u8; 32769],
+) -> Tally {
     let mut r = nothing();
     let p = small_profile();
     let mut c: u8 = 0;
@@ -305,7 +448,15 @@ pub(crate) fn turns(s: Sender, a: &mut [u8; 65536], before: &[u8; 65536], out: &
         let mut q = s;
         q.link.connected = again;
         let g = call_on(p, q, a, out, c);
-        r = noted(r, b"out of turn", 0, c, 4, g.number, (g.number == 4) & same_record(g.next, q));
+        r = noted(
+            r,
+            b"out of turn",
+            0,
+            c,
+            4,
+            g.number,
+            (g.number == 4) & same_record(g.next, q),
+        );
         c += 1;
     }
     kept(r, b"out of turn", 99, a, before, out)
@@ -339,13 +490,29 @@ fn queue_n(s: Sender, n: usize, b: &mut [u8; 65536]) -> Got {
 }
 
 // A queuing of n bytes: refused with nothing changed or accepted, with n more bytes waiting.
-fn queue_case(t: Tally, at: u64, s: Sender, n: usize, want: u8, before: &[u8; 65536], b: &mut [u8; 65536]) -> Tally {
+fn queue_case(
+    t: Tally,
+    at: u64,
+    s: Sender,
+    n: usize,
+    want: u8,
+    before: &[u8; 65536],
+    b: &mut [u8; 65536],
+) -> Tally {
     let g = queue_n(s, n, b);
     let w = s.counts.waiting as u64;
     let more = g.next.counts.waiting as u64 == w + n as u64 % 65536;
     let same = same_record(g.next, s) & same_areas(b, before);
     restore(b, before);
-    noted(t, b"queued bytes", at, 0, want, g.number, (g.number == want) & (((want == 0) & more) | ((want != 0) & same)))
+    noted(
+        t,
+        b"queued bytes",
+        at,
+        0,
+        want,
+        g.number,
+        (g.number == want) & (((want == 0) & more) | ((want != 0) & same)),
+    )
 }
 
 // 8 at 16,385 waiting, 9 past 2^32 - 1 taken, 8 before 9, none queued: 13 cases.
@@ -376,17 +543,52 @@ fn receive_part(p: Profile, s: Sender, len: usize, a: &mut [u8], h: Heard, r: Re
 }
 
 // A reply with a payload of 12 bytes and the first `len` bytes of the work area, for which two refusals stand: the first is given.
-fn order_reply(t: Tally, at: u64, p: Profile, s: Sender, len: usize, h: Heard, r: Reply, want: u8, before: &[u8; 65536], b: &mut [u8; 65536]) -> Tally {
+fn order_reply(
+    t: Tally,
+    at: u64,
+    p: Profile,
+    s: Sender,
+    len: usize,
+    h: Heard,
+    r: Reply,
+    want: u8,
+    before: &[u8; 65536],
+    b: &mut [u8; 65536],
+) -> Tally {
     let g = receive_part(p, s, len, b, h, r);
     let same = same_record(g.next, s) & same_areas(b, before);
-    noted(t, b"order", at, 3, want, g.number, (g.number == want) & same)
+    noted(
+        t,
+        b"order",
+        at,
+        3,
+        want,
+        g.number,
+        (g.number == want) & same,
+    )
 }
 
-fn order_burst(t: Tally, at: u64, p: Profile, s: Sender, want: u8, before: &[u8; 65536], b: &mut [u8; 65536]) -> Tally {
+fn order_burst(
+    t: Tally,
+    at: u64,
+    p: Profile,
+    s: Sender,
+    want: u8,
+    before: &[u8; 65536],
+    b: &mut [u8; 65536],
+) -> Tally {
     let mut out = [165u8; 32];
     let g = bursted(p, s, b, &mut out);
     let same = same_record(g.next, s) & same_areas(b, before);
-    noted(t, b"order", at, 5, want, g.number, (g.number == want) & same)
+    noted(
+        t,
+        b"order",
+        at,
+        5,
+        want,
+        g.number,
+        (g.number == want) & same,
+    )
 }
 
 fn bad_heard(time: f64, wave: u8) -> Heard {

@@ -1,4 +1,6 @@
 // Two records, field by field, floats by their bits; and bytes.
+use crate::values::bits32;
+use crate::values::bits64;
 use config::MaybeDb;
 use goodput::Gear;
 use ladder::Holds;
@@ -10,8 +12,6 @@ use record::LastBurst;
 use record::Link;
 use record::Sender;
 use report::ChanClass;
-use crate::values::bits32;
-use crate::values::bits64;
 ghost use Prim.Native.Nat.{_<_};
 
 fn same64(x: f64, y: f64) -> bool {
