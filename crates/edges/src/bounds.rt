@@ -187,7 +187,10 @@ fn outputs_of(
     spare: &mut [u8; 32769],
 ) -> Tally {
     let mut r = t;
-    if (most < 1) | (40000 < most) {
+    if most < 1 {
+        return noted(t, b"outputs", 0, 5, 0, 97, false);
+    }
+    if 40000 < most {
         return noted(t, b"outputs", 0, 5, 0, 97, false);
     }
     r = short_output(r, long, 0, s, before, b, spare);

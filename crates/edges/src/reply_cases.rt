@@ -255,7 +255,8 @@ fn db_case(t: Tally, i: u8, s: Sender, before: &[u8; 65536], b: &mut [u8; 65536]
 fn quiet_turn(s: Sender, t: Tally, before: &[u8; 65536], b: &mut [u8; 65536]) -> Tally {
     let mut c = turn();
     c.report.set = false;
-    c.report.db = nan32();
+    let db = nan32();
+    c.report.db = db;
     tried(
         t,
         b"dB",
@@ -489,6 +490,11 @@ fn queue_n(s: Sender, n: usize, b: &mut [u8; 65536]) -> Got {
     queue_first(s, n, &bytes, b)
 }
 
+// n, which is at most 16,385.
+fn few(n: usize) -> u64 {
+    if n < 65536 { n as u64 } else { 0 }
+}
+
 // A queuing of n bytes: refused with nothing changed or accepted, with n more bytes waiting.
 fn queue_case(
     t: Tally,
@@ -501,7 +507,7 @@ fn queue_case(
 ) -> Tally {
     let g = queue_n(s, n, b);
     let w = s.counts.waiting as u64;
-    let more = g.next.counts.waiting as u64 == w + n as u64 % 65536;
+    let more = g.next.counts.waiting as u64 == w + few(n);
     let same = same_record(g.next, s) & same_areas(b, before);
     restore(b, before);
     noted(
