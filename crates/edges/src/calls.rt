@@ -418,6 +418,10 @@ pub(crate) fn restore(to: &mut [u8; 65536], from: &[u8; 65536]) {
     put_over(to, from);
 }
 
+fn queue_or_none(c: u8, full: u8) -> u8 {
+    if c == 0 { full } else { 0 }
+}
+
 // Every call is accepted, each from the work area `before`; the queuing may have its refusal `full`. Past 49,152 the bytes are kept.
 pub(crate) fn taken(
     t: Tally,
@@ -435,7 +439,7 @@ pub(crate) fn taken(
     while c < 8 {
         restore(b, before);
         let g = call_on(p, fit(s, c), b, spare, c);
-        let want = if c == 0 { full } else { 0 };
+        let want = queue_or_none(c, full);
         let ok = (g.number == want) & ((c != 7) | (g.sent == 0));
         r = noted(r, name, at, c, want, g.number, ok);
         c += 1;
