@@ -7,6 +7,7 @@ use crate::calls::bursted;
 use crate::calls::call;
 use crate::calls::fit;
 use crate::calls::kept;
+use crate::calls::least;
 use crate::calls::noted;
 use crate::calls::nothing;
 use crate::calls::restore;
@@ -32,10 +33,8 @@ fn same_past(a: &[u8; 65536], b: &[u8; 65536]) -> bool {
 // Call c with the first n bytes of the area, or all.
 fn call_part(n: usize, s: Sender, a: &mut [u8], out: &mut [u8], c: u8) -> Got {
     let p = small_profile();
-    if n < a.len() {
-        return call(p, s, &mut a[..n], out, c);
-    }
-    call(p, s, a, out, c)
+    let k = least(n, a);
+    call(p, s, &mut a[..k], out, c)
 }
 
 fn call_with(n: usize, s: Sender, a: &mut [u8; 65536], out: &mut [u8; 32769], c: u8) -> Got {
@@ -108,10 +107,8 @@ pub(crate) fn blank(out: &mut [u8; 32769]) {
 
 // A burst into the first n bytes of the output, or all.
 fn burst_some(p: Profile, s: Sender, n: usize, a: &mut [u8], out: &mut [u8]) -> Got {
-    if n < out.len() {
-        return bursted(p, s, a, &mut out[..n]);
-    }
-    bursted(p, s, a, out)
+    let k = least(n, out);
+    bursted(p, s, a, &mut out[..k])
 }
 
 fn burst_part(

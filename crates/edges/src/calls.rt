@@ -17,6 +17,7 @@ use record::Sender;
 use report::ChanClass;
 use sender::Reply;
 use sender::number;
+ghost use Rattle.io.specs.Counts.{Counts};
 
 // The output's bytes before a call.
 pub const BLANK: u8 = 165;
@@ -63,7 +64,8 @@ pub(crate) fn nothing() -> Tally {
     }
 }
 
-fn sum(x: u64, y: u64) -> u64 {
+// The sum of numbers below 10^12.
+pub(crate) fn sum(x: u64, y: u64) -> u64 {
     if x < 1000000000000 {
         if y < 1000000000000 {
             return x + y;
@@ -157,7 +159,13 @@ pub(crate) fn turn() -> Turn {
     }
 }
 
-// A reply with a payload of zeros.
+// n, or the slice's length where that is less.
+pub(crate) fn least(n: usize, a: &[u8]) -> usize
+    ensures { λ r. ⌜ Counts r (now (a .entry)) ⌝ }
+{
+    if n < a.len() { n } else { a.len() }
+}
+
 pub(crate) fn receive(
     p: Profile,
     s: Sender,
@@ -422,7 +430,27 @@ fn queue_or_none(c: u8, full: u8) -> u8 {
     if c == 0 { full } else { 0 }
 }
 
-// Every call is accepted, each from the work area `before`; the queuing may have its refusal `full`. Past 49,152 the bytes are kept.
+// Call c from the work area `before`: accepted, but the queuing is answered by `full`.
+fn taken_call(
+    t: Tally,
+    name: &[u8],
+    at: u64,
+    p: Profile,
+    s: Sender,
+    before: &[u8; 65536],
+    b: &mut [u8; 65536],
+    spare: &mut [u8; 32769],
+    full: u8,
+    c: u8,
+) -> Tally {
+    restore(b, before);
+    let g = call_on(p, fit(s, c), b, spare, c);
+    let want = queue_or_none(c, full);
+    let ok = (g.number == want) & ((c != 7) | (g.sent == 0));
+    noted(t, name, at, c, want, g.number, ok)
+}
+
+// Every call is accepted, each from the work area `before`; the queuing may have its refusal `full`.
 pub(crate) fn taken(
     t: Tally,
     name: &[u8],
@@ -437,11 +465,7 @@ pub(crate) fn taken(
     let mut r = t;
     let mut c: u8 = 0;
     while c < 8 {
-        restore(b, before);
-        let g = call_on(p, fit(s, c), b, spare, c);
-        let want = queue_or_none(c, full);
-        let ok = (g.number == want) & ((c != 7) | (g.sent == 0));
-        r = noted(r, name, at, c, want, g.number, ok);
+        r = taken_call(r, name, at, p, s, before, b, spare, full, c);
         c += 1;
     }
     r

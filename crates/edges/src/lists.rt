@@ -432,6 +432,23 @@ pub(crate) fn whole_burst(
     kept(r, name, 5, a, before, out)
 }
 
+// A profile with payloads of 9 bytes.
+fn nine_case(
+    t: Tally,
+    name: &[u8],
+    at: u64,
+    s: Sender,
+    want: u8,
+    a: &mut [u8; 65536],
+    before: &[u8; 65536],
+    out: &mut [u8; 32769],
+    b: &mut [u8; 65536],
+    spare: &mut [u8; 32769],
+) -> Tally {
+    let p = fast(19, 512);
+    judged(t, name, at, p, s, want, a, before, out, b, spare)
+}
+
 // The last byte a piece of its own: 2,049 pieces of 8 bytes, fewer of 9; 65 offsets outstanding and unsent, or 64.
 // 5 records in 8 calls, and the bytes: 41 cases.
 fn split_cases(
@@ -444,48 +461,15 @@ fn split_cases(
 ) -> Tally {
     let name = b"record, 65 pieces";
     let q = split(s, false);
+    let unsent = held_last(s, 1, 64);
+    let sent = held_last(s, 0, 64);
+    let fewer = held_last(s, 1, 63);
     let mut r = nothing();
     r = judged(r, name, 0, fast(18, 512), q, 3, a, before, out, b, spare);
-    r = judged(r, name, 1, fast(19, 512), q, 0, a, before, out, b, spare);
-    r = judged(
-        r,
-        name,
-        2,
-        fast(19, 512),
-        held_last(s, 1, 64),
-        3,
-        a,
-        before,
-        out,
-        b,
-        spare,
-    );
-    r = judged(
-        r,
-        name,
-        3,
-        fast(19, 512),
-        held_last(s, 0, 64),
-        0,
-        a,
-        before,
-        out,
-        b,
-        spare,
-    );
-    r = judged(
-        r,
-        name,
-        4,
-        fast(19, 512),
-        held_last(s, 1, 63),
-        0,
-        a,
-        before,
-        out,
-        b,
-        spare,
-    );
+    r = nine_case(r, name, 1, q, 0, a, before, out, b, spare);
+    r = nine_case(r, name, 2, unsent, 3, a, before, out, b, spare);
+    r = nine_case(r, name, 3, sent, 0, a, before, out, b, spare);
+    r = nine_case(r, name, 4, fewer, 0, a, before, out, b, spare);
     kept(r, name, 5, a, before, out)
 }
 

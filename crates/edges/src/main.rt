@@ -97,11 +97,23 @@ fn record_groups(
         records::seconds(s, a, before, out, b, spare),
         d,
     );
-    d = told(
+    told(
         b"record, shares, dB and Doppler",
         records::singles(s, a, before, out, b, spare),
         d,
-    );
+    )
+}
+
+fn list_groups(
+    n: u64,
+    s: Sender,
+    a: &mut [u8; 65536],
+    before: &mut [u8; 65536],
+    out: &mut [u8; 32769],
+    b: &mut [u8; 65536],
+    spare: &mut [u8; 32769],
+) -> u64 {
+    let mut d = n;
     d = told(
         b"record, held list",
         lists::helds(s, a, before, out, b, spare),
@@ -190,6 +202,7 @@ fn run(
     let s = made::small(a, spare);
     restore(before, a);
     d = record_groups(d, s, a, before, out, b, spare);
+    d = list_groups(d, s, a, before, out, b, spare);
     d = reply_groups(d, s, a, before, out, b, spare);
     let f = full(a);
     restore(before, a);

@@ -7,6 +7,7 @@ use crate::calls::conn_ack;
 use crate::calls::fit;
 use crate::calls::heard_at;
 use crate::calls::kept;
+use crate::calls::least;
 use crate::calls::long_ack;
 use crate::calls::noted;
 use crate::calls::nothing;
@@ -15,6 +16,7 @@ use crate::calls::receive;
 use crate::calls::restore;
 use crate::calls::same_areas;
 use crate::calls::short_ack;
+use crate::calls::sum;
 use crate::calls::turn;
 use crate::made::small_profile;
 use crate::profiles::sized;
@@ -41,10 +43,8 @@ fn receive_some(
     payload: &[u8],
     b: &mut [u8],
 ) -> Got {
-    if n < payload.len() {
-        return receive(p, s, b, h, r, &payload[..n]);
-    }
-    receive(p, s, b, h, r, payload)
+    let k = least(n, payload);
+    receive(p, s, b, h, r, &payload[..k])
 }
 
 fn receive_first(p: Profile, s: Sender, h: Heard, r: Reply, n: usize, b: &mut [u8; 65536]) -> Got {
@@ -333,56 +333,47 @@ fn heard_wave(n: u8) -> Heard {
     h
 }
 
+fn number_tried(
+    t: Tally,
+    i: u8,
+    s: Sender,
+    h: Heard,
+    r: Reply,
+    want: u8,
+    before: &[u8; 65536],
+    b: &mut [u8; 65536],
+) -> Tally {
+    let p = small_profile();
+    tried(
+        t,
+        b"reply numbers",
+        i as u64,
+        p,
+        s,
+        h,
+        r,
+        13,
+        want,
+        before,
+        b,
+    )
+}
+
 // Place k: 0 to 2 of a short ack, 3 the connect answer's slot, 4 to 7 the wave of each reply.
 fn number_case(t: Tally, i: u8, s: Sender, before: &[u8; 65536], b: &mut [u8; 65536]) -> Tally {
     let k = i / 4;
     let v = i % 4;
     let n = number_of(v, top(k));
     let want = if v < 2 { 0 } else { 6 };
-    let p = small_profile();
+    let h = heard_at(0.0);
     if k < 3 {
-        return tried(
-            t,
-            b"reply numbers",
-            i as u64,
-            p,
-            s,
-            heard_at(0.0),
-            ack_with(k, n),
-            13,
-            want,
-            before,
-            b,
-        );
+        return number_tried(t, i, s, h, ack_with(k, n), want, before, b);
     }
     if k == 3 {
-        return tried(
-            t,
-            b"reply numbers",
-            i as u64,
-            p,
-            fit(s, 1),
-            heard_at(0.0),
-            connect_slot(n),
-            13,
-            want,
-            before,
-            b,
-        );
+        return number_tried(t, i, fit(s, 1), h, connect_slot(n), want, before, b);
     }
-    tried(
-        t,
-        b"reply numbers",
-        i as u64,
-        p,
-        before_reply(s, k - 4),
-        heard_wave(n),
-        reply(k - 4),
-        13,
-        want,
-        before,
-        b,
-    )
+    let q = before_reply(s, k - 4);
+    number_tried(t, i, q, heard_wave(n), reply(k - 4), want, before, b)
 }
 
 // 8 places with 0, the highest, one more and 255: 32 cases.
@@ -479,10 +470,8 @@ fn counted(s: Sender, waiting: u32, n: u32) -> Sender {
 // The first n of the bytes, or all.
 fn queue_first(s: Sender, n: usize, bytes: &[u8], b: &mut [u8]) -> Got {
     let p = small_profile();
-    if n < bytes.len() {
-        return queued(p, s, b, &bytes[..n]);
-    }
-    queued(p, s, b, bytes)
+    let k = least(n, bytes);
+    queued(p, s, b, &bytes[..k])
 }
 
 fn queue_n(s: Sender, n: usize, b: &mut [u8; 65536]) -> Got {
@@ -493,6 +482,17 @@ fn queue_n(s: Sender, n: usize, b: &mut [u8; 65536]) -> Got {
 // n, which is at most 16,385.
 fn few(n: usize) -> u64 {
     if n < 65536 { n as u64 } else { 0 }
+}
+
+fn wide(n: u32) -> u64 {
+    n as u64
+}
+
+// Whether n bytes more are waiting.
+fn more_waiting(s: Sender, next: Sender, n: usize) -> bool {
+    let before = s.counts.waiting;
+    let after = next.counts.waiting;
+    wide(after) == sum(wide(before), few(n))
 }
 
 // A queuing of n bytes: refused with nothing changed or accepted, with n more bytes waiting.
@@ -506,8 +506,7 @@ fn queue_case(
     b: &mut [u8; 65536],
 ) -> Tally {
     let g = queue_n(s, n, b);
-    let w = s.counts.waiting as u64;
-    let more = g.next.counts.waiting as u64 == w + few(n);
+    let more = more_waiting(s, g.next, n);
     let same = same_record(g.next, s) & same_areas(b, before);
     restore(b, before);
     noted(
@@ -542,10 +541,8 @@ pub(crate) fn queues(s: Sender, before: &[u8; 65536], b: &mut [u8; 65536]) -> Ta
 // A long ack of 12 bytes with the first `len` bytes of a work area; all of it where it has no more.
 fn receive_part(p: Profile, s: Sender, len: usize, a: &mut [u8], h: Heard, r: Reply) -> Got {
     let payload = [0u8; 12];
-    if len < a.len() {
-        return receive(p, s, &mut a[..len], h, r, &payload);
-    }
-    receive(p, s, a, h, r, &payload)
+    let k = least(len, a);
+    receive(p, s, &mut a[..k], h, r, &payload)
 }
 
 // A reply with a payload of 12 bytes and the first `len` bytes of the work area, for which two refusals stand: the first is given.

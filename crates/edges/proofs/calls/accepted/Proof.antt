@@ -1,16 +1,8 @@
-use Prim.Native.Nat.{ℕ, _+_, _-_, _≤_, _<_}
-use mathlib.Core.Path.{_≡_, refl, sym, ap, _∙_}
-use mathlib.Core.List.{List, [], _∷_, _++_}
-use native.Mathlib.Omega.{arith}
-use lib.ListN.{length, getD, length-set}
+-- `calls::accepted` is safe and ends. Assumes nothing.
+use Prim.Native.Nat.{_-_, _≤_}
 use borrow.Author.Needs.{needs}
 use Rattle.edges.proofs.calls.accepted.Statement.{statement}
 use Rattle.edges.proofs.calls.accepted.Tie as tie
-use Rattle.edges.proofs.calls.accepted.Reads as reads
-use Rattle.edges.proofs.calls.accepted.Lts as lts
-use Rattle.edges.proofs.calls.call_on.Reads as call-on-reads
-use Rattle.edges.proofs.calls.fit.Reads as fit-reads
-use Rattle.edges.proofs.calls.noted.Reads as noted-reads
 
 abbrev Inv-loop : tie.InvT-loop
 Inv-loop name at p s a₀ out₀ r₀ c₀ a out r c = c ≤ 8
@@ -18,35 +10,27 @@ Inv-loop name at p s a₀ out₀ r₀ c₀ a out r c = c ≤ 8
 abbrev μ-loop : tie.MeasureT-loop
 μ-loop name at p s a₀ out₀ r₀ c₀ a out r c = 8 - c
 
--- src/calls.rt:355:5
 loop-holds : tie.Need-loop-holds Inv-loop μ-loop
 loop-holds c = search needs
 
--- src/calls.rt:356:28
 fit-requires : tie.Need-fit-requires Inv-loop μ-loop
 fit-requires c κs = search needs
 
--- src/calls.rt:356:13
 call-on-requires : tie.Need-call-on-requires Inv-loop μ-loop
 call-on-requires c κs = search needs
 
--- src/calls.rt:358:9
 noted-requires : tie.Need-noted-requires Inv-loop μ-loop
 noted-requires c κs = search needs
 
--- src/calls.rt:359:9
 add-c : tie.Need-add-c Inv-loop μ-loop
 add-c c = search needs
 
--- src/calls.rt:355:5
 loop-less : tie.Need-loop-less Inv-loop μ-loop
 loop-less c = search needs
 
--- src/calls.rt:355:5
 loop-again : tie.Need-loop-again Inv-loop μ-loop
 loop-again c = search needs
 
--- src/calls.rt:352:1
 returns : tie.Need-returns Inv-loop μ-loop
 returns c = search needs
 

@@ -1,15 +1,8 @@
-use Prim.Native.Nat.{ℕ, _+_, _-_, _≤_, _<_}
-use mathlib.Core.Path.{_≡_, refl, sym, ap, _∙_}
-use mathlib.Core.List.{List, [], _∷_, _++_}
-use native.Mathlib.Omega.{arith}
-use lib.ListN.{length, getD, length-set}
+-- `reply_cases::payloads` is safe and ends. Assumes nothing.
+use Prim.Native.Nat.{_-_, _≤_}
 use borrow.Author.Needs.{needs}
 use Rattle.edges.proofs.reply_cases.payloads.Statement.{statement}
 use Rattle.edges.proofs.reply_cases.payloads.Tie as tie
-use Rattle.edges.proofs.reply_cases.payloads.Reads as reads
-use Rattle.edges.proofs.reply_cases.payloads.Lts as lts
-use Rattle.edges.proofs.calls.nothing.Reads as nothing-reads
-use Rattle.edges.proofs.reply_cases.payload_case.Reads as payload-case-reads
 
 abbrev Inv-loop : tie.InvT-loop
 Inv-loop s before b₀ r₀ n₀ b r n = n ≤ 19
@@ -17,43 +10,33 @@ Inv-loop s before b₀ r₀ n₀ b r n = n ≤ 19
 abbrev μ-loop : tie.MeasureT-loop
 μ-loop s before b₀ r₀ n₀ b r n = 19 - n
 
--- src/reply_cases.rt:286:9
 nothing-requires : tie.Need-nothing-requires Inv-loop μ-loop
 nothing-requires c κs = search needs
 
--- src/reply_cases.rt:288:5
 loop-holds : tie.Need-loop-holds Inv-loop μ-loop
 loop-holds c = search needs
 
--- src/reply_cases.rt:289:9
 payload-case-requires : tie.Need-payload-case-requires Inv-loop μ-loop
 payload-case-requires c κs = search needs
 
--- src/reply_cases.rt:290:9
 payload-case-requires-2 : tie.Need-payload-case-requires-2 Inv-loop μ-loop
 payload-case-requires-2 c κs = search needs
 
--- src/reply_cases.rt:291:9
 payload-case-requires-3 : tie.Need-payload-case-requires-3 Inv-loop μ-loop
 payload-case-requires-3 c κs = search needs
 
--- src/reply_cases.rt:292:9
 payload-case-requires-4 : tie.Need-payload-case-requires-4 Inv-loop μ-loop
 payload-case-requires-4 c κs = search needs
 
--- src/reply_cases.rt:293:9
 add-n : tie.Need-add-n Inv-loop μ-loop
 add-n c = search needs
 
--- src/reply_cases.rt:288:5
 loop-less : tie.Need-loop-less Inv-loop μ-loop
 loop-less c = search needs
 
--- src/reply_cases.rt:288:5
 loop-again : tie.Need-loop-again Inv-loop μ-loop
 loop-again c = search needs
 
--- src/reply_cases.rt:285:1
 returns : tie.Need-returns Inv-loop μ-loop
 returns c = search needs
 
