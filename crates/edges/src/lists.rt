@@ -219,6 +219,25 @@ fn list_wanted(kind: u8, k: u8) -> u8 {
     if k < 8 { 3 } else { 0 }
 }
 
+// Record k of a kind, in every call.
+fn list_case(
+    t: Tally,
+    name: &[u8],
+    kind: u8,
+    k: u8,
+    s: Sender,
+    a: &mut [u8; 65536],
+    before: &[u8; 65536],
+    out: &mut [u8; 32769],
+    b: &mut [u8; 65536],
+    spare: &mut [u8; 32769],
+) -> Tally {
+    let p = small_profile();
+    let q = list_record(s, kind, k);
+    let want = list_wanted(kind, k);
+    judged(t, name, k as u64, p, q, want, a, before, out, b, spare)
+}
+
 fn group(
     name: &[u8],
     kind: u8,
@@ -230,24 +249,10 @@ fn group(
     b: &mut [u8; 65536],
     spare: &mut [u8; 32769],
 ) -> Tally {
-    let p = small_profile();
     let mut r = nothing();
     let mut k: u8 = 0;
     while k < n {
-        let q = list_record(s, kind, k);
-        r = judged(
-            r,
-            name,
-            k as u64,
-            p,
-            q,
-            list_wanted(kind, k),
-            a,
-            before,
-            out,
-            b,
-            spare,
-        );
+        r = list_case(r, name, kind, k, s, a, before, out, b, spare);
         k += 1;
     }
     kept(r, name, 99, a, before, out)

@@ -5,13 +5,10 @@ use Rattle.edges.proofs.lists.group.Statement.{statement}
 use Rattle.edges.proofs.lists.group.Tie as tie
 
 abbrev Inv-loop : tie.InvT-loop
-Inv-loop name kind n s a₀ before out₀ b₀ spare₀ p r₀ k₀ a out b spare r k = k ≤ n
+Inv-loop name kind n s a₀ before out₀ b₀ spare₀ r₀ k₀ a out b spare r k = k ≤ n
 
 abbrev μ-loop : tie.MeasureT-loop
-μ-loop name kind n s a₀ before out₀ b₀ spare₀ p r₀ k₀ a out b spare r k = n - k
-
-small-profile-requires : tie.Need-small-profile-requires Inv-loop μ-loop
-small-profile-requires c κs = search needs
+μ-loop name kind n s a₀ before out₀ b₀ spare₀ r₀ k₀ a out b spare r k = n - k
 
 nothing-requires : tie.Need-nothing-requires Inv-loop μ-loop
 nothing-requires c κs = search needs
@@ -19,17 +16,8 @@ nothing-requires c κs = search needs
 loop-holds : tie.Need-loop-holds Inv-loop μ-loop
 loop-holds c = search needs
 
-list-record-requires : tie.Need-list-record-requires Inv-loop μ-loop
-list-record-requires c κs = search needs
-
-cast-judged : tie.Need-cast-judged Inv-loop μ-loop
-cast-judged c = search needs
-
-list-wanted-requires : tie.Need-list-wanted-requires Inv-loop μ-loop
-list-wanted-requires c κs = search needs
-
-judged-requires : tie.Need-judged-requires Inv-loop μ-loop
-judged-requires c κs = search needs
+list-case-requires : tie.Need-list-case-requires Inv-loop μ-loop
+list-case-requires c κs = search needs
 
 add-k : tie.Need-add-k Inv-loop μ-loop
 add-k c = search needs
@@ -52,13 +40,9 @@ group-spec =
     (tie.spec
     Inv-loop
     μ-loop
-    small-profile-requires
     nothing-requires
     loop-holds
-    list-record-requires
-    cast-judged
-    list-wanted-requires
-    judged-requires
+    list-case-requires
     add-k
     loop-less
     loop-again
