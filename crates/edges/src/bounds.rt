@@ -12,23 +12,12 @@ use crate::calls::noted;
 use crate::calls::nothing;
 use crate::calls::restore;
 use crate::calls::same_areas;
+use crate::calls::same_past;
 use crate::made::fast;
 use crate::made::small_profile;
 use crate::same::same_record;
 use config::Profile;
 use record::Sender;
-
-// Whether two areas have the same bytes from 49,152 on.
-fn same_past(a: &[u8; 65536], b: &[u8; 65536]) -> bool {
-    let mut i: usize = 49152;
-    while i < 65536 {
-        if a[i] != b[i] {
-            return false;
-        }
-        i += 1;
-    }
-    true
-}
 
 // Call c with the first n bytes of the area, or all.
 fn call_part(n: usize, s: Sender, a: &mut [u8], out: &mut [u8], c: u8) -> Got {

@@ -359,6 +359,18 @@ pub(crate) fn same_areas(a: &[u8; 65536], b: &[u8; 65536]) -> bool {
     same_bytes(a, b)
 }
 
+// Whether two areas have the same bytes from 49,152 on.
+pub(crate) fn same_past(a: &[u8; 65536], b: &[u8; 65536]) -> bool {
+    let mut i: usize = 49152;
+    while i < 65536 {
+        if a[i] != b[i] {
+            return false;
+        }
+        i += 1;
+    }
+    true
+}
+
 // Whether the output is blank from `at` on.
 pub(crate) fn blank_from(out: &[u8; 32769], at: usize) -> bool {
     all_from(out, at, BLANK)
@@ -430,7 +442,7 @@ fn queue_or_none(c: u8, full: u8) -> u8 {
     if c == 0 { full } else { 0 }
 }
 
-// Call c from the work area `before`: accepted, but the queuing is answered by `full`.
+// Call c from the work area `before`: accepted, but the queuing is answered by `full`. Past 49,152 the bytes are kept.
 fn taken_call(
     t: Tally,
     name: &[u8],
@@ -446,7 +458,7 @@ fn taken_call(
     restore(b, before);
     let g = call_on(p, fit(s, c), b, spare, c);
     let want = queue_or_none(c, full);
-    let ok = (g.number == want) & ((c != 7) | (g.sent == 0));
+    let ok = (g.number == want) & ((c != 7) | (g.sent == 0)) & same_past(b, before);
     noted(t, name, at, c, want, g.number, ok)
 }
 

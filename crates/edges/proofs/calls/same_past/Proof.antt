@@ -1,8 +1,8 @@
--- `bounds::same_past` is safe and ends. Assumes nothing.
+-- `calls::same_past` is safe and ends. Assumes nothing.
 use Prim.Native.Nat.{_-_, _≤_}
 use borrow.Author.Needs.{needs}
-use Rattle.edges.proofs.bounds.same_past.Statement.{statement}
-use Rattle.edges.proofs.bounds.same_past.Tie as tie
+use Rattle.edges.proofs.calls.same_past.Statement.{statement}
+use Rattle.edges.proofs.calls.same_past.Tie as tie
 
 abbrev Inv-loop : tie.InvT-loop
 Inv-loop a b i₀ i = i ≤ 65536
