@@ -1,0 +1,181 @@
+// Numbers at the edges: the neighbours of a float by its bits, and what is no finite number.
+
+// The bits of a number. A NaN has none that mean anything: it is given a pattern that no other number has.
+pub(crate) fn bits64(x: f64) -> u64 {
+    if x != x {
+        return 18446744073709551615;
+    }
+    f64::to_bits(x)
+}
+
+pub(crate) fn bits32(x: f32) -> u32 {
+    if x != x {
+        return 4294967295;
+    }
+    f32::to_bits(x)
+}
+
+// The f64 of a pattern; 0 for a NaN's.
+fn of_bits64(n: u64) -> f64 {
+    if n % 4503599627370496 == 0 {
+        return f64::from_bits(n);
+    }
+    if n % 9223372036854775808 / 4503599627370496 == 2047 {
+        return 0.0;
+    }
+    f64::from_bits(n)
+}
+
+fn of_bits32(n: u32) -> f32 {
+    if n % 8388608 == 0 {
+        return f32::from_bits(n);
+    }
+    if n % 2147483648 / 8388608 == 255 {
+        return 0.0;
+    }
+    f32::from_bits(n)
+}
+
+fn more64(n: u64) -> u64 {
+    if n < 18446744073709551615 { n + 1 } else { n }
+}
+
+fn less64(n: u64) -> u64 {
+    if 0 < n { n - 1 } else { n }
+}
+
+pub(crate) fn more32(n: u32) -> u32 {
+    if n < 4294967295 { n + 1 } else { n }
+}
+
+pub(crate) fn less32(n: u32) -> u32 {
+    if 0 < n { n - 1 } else { n }
+}
+
+// The next f64 above a finite one.
+pub(crate) fn above64(x: f64) -> f64 {
+    if x == 0.0 {
+        return of_bits64(1);
+    }
+    if x < 0.0 {
+        return of_bits64(less64(bits64(x)));
+    }
+    of_bits64(more64(bits64(x)))
+}
+
+// The next f64 below a finite one.
+pub(crate) fn below64(x: f64) -> f64 {
+    if x == 0.0 {
+        return of_bits64(9223372036854775809);
+    }
+    if x < 0.0 {
+        return of_bits64(more64(bits64(x)));
+    }
+    of_bits64(less64(bits64(x)))
+}
+
+pub(crate) fn above32(x: f32) -> f32 {
+    if x == 0.0 {
+        return of_bits32(1);
+    }
+    if x < 0.0 {
+        return of_bits32(less32(bits32(x)));
+    }
+    of_bits32(more32(bits32(x)))
+}
+
+pub(crate) fn below32(x: f32) -> f32 {
+    if x == 0.0 {
+        return of_bits32(2147483649);
+    }
+    if x < 0.0 {
+        return of_bits32(more32(bits32(x)));
+    }
+    of_bits32(less32(bits32(x)))
+}
+
+pub(crate) fn nan64() -> f64 {
+    0.0 / 0.0
+}
+
+pub(crate) fn infinity64() -> f64 {
+    1.0 / 0.0
+}
+
+pub(crate) fn minus_infinity64() -> f64 {
+    -1.0 / 0.0
+}
+
+pub(crate) fn nan32() -> f32 {
+    0.0 / 0.0
+}
+
+pub(crate) fn infinity32() -> f32 {
+    1.0 / 0.0
+}
+
+pub(crate) fn minus_infinity32() -> f32 {
+    -1.0 / 0.0
+}
+
+// The values tried of a number with limits, by number: 0 to 3 inside, 4 to 8 outside.
+pub(crate) fn tried64(v: u8, lo: f64, hi: f64) -> f64 {
+    if v == 0 {
+        lo
+    } else if v == 1 {
+        above64(lo)
+    } else if v == 2 {
+        below64(hi)
+    } else if v == 3 {
+        hi
+    } else if v == 4 {
+        below64(lo)
+    } else if v == 5 {
+        above64(hi)
+    } else if v == 6 {
+        nan64()
+    } else if v == 7 {
+        infinity64()
+    } else {
+        minus_infinity64()
+    }
+}
+
+pub(crate) fn tried32(v: u8, lo: f32, hi: f32) -> f32 {
+    if v == 0 {
+        lo
+    } else if v == 1 {
+        above32(lo)
+    } else if v == 2 {
+        below32(hi)
+    } else if v == 3 {
+        hi
+    } else if v == 4 {
+        below32(lo)
+    } else if v == 5 {
+        above32(hi)
+    } else if v == 6 {
+        nan32()
+    } else if v == 7 {
+        infinity32()
+    } else {
+        minus_infinity32()
+    }
+}
+
+// The same of a whole number: 0 to 3 inside, 4 and 5 outside.
+pub(crate) fn tried_whole(v: u8, lo: u32, hi: u32) -> u32 {
+    if v == 0 {
+        lo
+    } else if v == 1 {
+        more32(lo)
+    } else if v == 2 {
+        less32(hi)
+    } else if v == 3 {
+        hi
+    } else if v == 4 {
+        less32(lo)
+    } else {
+        more32(hi)
+    }
+}
