@@ -1,11 +1,13 @@
--- Document 01's reckoned examples marked P as one table: a field for each, proved from the definitions by computation.
+-- Document 01's reckoned examples marked P, and that of a hold, as one table: a field for each, proved from the definitions by computation.
 -- Assumes nothing.
 use mathlib.Core.Path.{_≡_, refl}
 use mathlib.Core.Bool.{true, false}
-use lib.Ieee.{binary32, ofBits, add, le}
+use lib.Ieee.{Float, binary32, binary64, ofBits, add, mul, le, lt, isNan}
 use mathlib.Core.List.{List, [], _∷_}
-use Prim.Native.Nat.{ℕ, _+_, _*_}
+use Prim.Native.Nat.{ℕ, _+_, _-_, _*_}
 use Rattle.laws.specs.Steps.{highest}
+use Rattle.float.specs.Pick.{minF}
+use Rattle.exp.specs.Hold.{holdOf}
 use Rattle.level.specs.Ladder.{thresholds, waveRank, topLevelIn}
 use Rattle.header.specs.Header.{airCode, userBits, nextBurstId}
 use Rattle.harq.specs.Held.{above, smallest, upTo, incrementOf, startOf, partialField, checkBits, burstCheckBits}
@@ -25,6 +27,14 @@ codes = record { mother = 5760; ends = 5760 ∷ 4320 ∷ 2880 ∷ 2160 ∷ 1920 
 abbrev pub levelAt : ℕ → ℕ
 levelAt db =
     levelFor (record { «thresholds_db» = thresholds; «margin_db» = ofBits binary32 0 }) 0 (record { echo = false; doppler = false }) 16 (ofBits binary32 db)
+
+-- an f64 given by its bits
+abbrev pub bits64 : ℕ → Float
+bits64 = ofBits binary64
+
+-- the hold of 30 s after so many failures, with no others, and a cap
+abbrev pub holdAfter : ℕ → Float → Float
+holdAfter fails cap = holdOf (bits64 0x403e_0000_0000_0000) (fails - 1) cap
 
 pub record Cases : Type 0 where
   -- P1 held 2880: increment 1440
@@ -51,9 +61,11 @@ pub record Cases : Type 0 where
   pub p11 : (levelAt 0x40c0_0000 ≡ 10) × (levelAt 0x4020_0000 ≡ 9) × (levelAt 0xc1a0_0000 ≡ 0)
   -- P12 number 3, last heard 0: next is 1
   pub p12 : nextBurstId 3 true 0 ≡ 1
+  -- Hold 30 s, third failure, no others: 120 s (capped at 1,000,000); capped at 100: 100
+  pub hold : (holdAfter 3 (bits64 0x412e_8480_0000_0000) ≡ bits64 0x405e_0000_0000_0000) × (holdAfter 3 (bits64 0x4059_0000_0000_0000) ≡ bits64 0x4059_0000_0000_0000)
 
 pub cases : Cases
-unfolding levelFor enough familyOk airDb entryAt ofBits add le highest waveRank airCode userBits topLevelIn nextBurstId above smallest upTo incrementOf startOf partialField checkBits burstCheckBits
+unfolding levelFor enough familyOk airDb entryAt minF ofBits add mul le lt isNan highest waveRank airCode userBits topLevelIn nextBurstId above smallest upTo incrementOf startOf partialField checkBits burstCheckBits
 cases =
     record {
       p1 = refl;
@@ -68,4 +80,5 @@ cases =
       p10 = (refl, refl, refl, refl, refl, refl);
       p11 = (refl, refl, refl);
       p12 = refl;
+      hold = (refl, refl);
     }

@@ -1,4 +1,8 @@
 // Document 01's reckoned examples, run through the code: a line each, as the paper words it, with what came out.
+mod area;
+mod holds;
+
+use area::area_cases;
 use config::Marks;
 use harq::Harq;
 use harq::burst_check_bits;
@@ -6,6 +10,7 @@ use harq::partial_field;
 use header::air_code;
 use header::next_burst_id;
 use header::user_bits;
+use holds::hold_cases;
 use io::print_decimal;
 use io::write_all;
 use level::top_level_in;
@@ -89,4 +94,6 @@ fn main() {
     held_cases();
     level_cases();
     gear_cases();
+    area_cases();
+    hold_cases();
 }
