@@ -14,9 +14,9 @@ use io::write_all;
 use libc::STDOUT_FILENO;
 use outgoing::Outgoing;
 use record::Sender;
-use report::ChanClass;
 use refusals::Reply;
 use refusals::number;
+use report::ChanClass;
 ghost use Rattle.io.specs.Counts.{Counts};
 
 // The output's bytes before a call.

@@ -1,11 +1,11 @@
 // Two records, field by field, floats by their bits; and bytes.
-use crate::values::bits32;
-use crate::values::bits64;
 use config::MaybeDb;
 use goodput::Gear;
 use ladder::Holds;
 use memory::Reports;
 use memory::Tries;
+use patterns::to_bits32;
+use patterns::to_bits64;
 use record::AtPeer;
 use record::Counts;
 use record::LastBurst;
@@ -15,11 +15,11 @@ use report::ChanClass;
 ghost use Prim.Native.Nat.{_<_};
 
 fn same64(x: f64, y: f64) -> bool {
-    bits64(x) == bits64(y)
+    to_bits64(x) == to_bits64(y)
 }
 
 fn same32(x: f32, y: f32) -> bool {
-    bits32(x) == bits32(y)
+    to_bits32(x) == to_bits32(y)
 }
 
 fn same_db(x: MaybeDb, y: MaybeDb) -> bool {

@@ -1,40 +1,8 @@
 // Numbers at the edges: the neighbours of a float by its bits, and what is no finite number.
-
-// The bits of a number. A NaN has none that mean anything: it is given a pattern that no other number has.
-pub(crate) fn bits64(x: f64) -> u64 {
-    if x != x {
-        return 18446744073709551615;
-    }
-    f64::to_bits(x)
-}
-
-pub(crate) fn bits32(x: f32) -> u32 {
-    if x != x {
-        return 4294967295;
-    }
-    f32::to_bits(x)
-}
-
-// The f64 of a pattern; 0 for a NaN's.
-fn of_bits64(n: u64) -> f64 {
-    if n % 4503599627370496 == 0 {
-        return f64::from_bits(n);
-    }
-    if n % 9223372036854775808 / 4503599627370496 == 2047 {
-        return 0.0;
-    }
-    f64::from_bits(n)
-}
-
-fn of_bits32(n: u32) -> f32 {
-    if n % 8388608 == 0 {
-        return f32::from_bits(n);
-    }
-    if n % 2147483648 / 8388608 == 255 {
-        return 0.0;
-    }
-    f32::from_bits(n)
-}
+use patterns::of_bits32;
+use patterns::of_bits64;
+use patterns::to_bits32;
+use patterns::to_bits64;
 
 fn more64(n: u64) -> u64 {
     if n < 18446744073709551615 { n + 1 } else { n }
@@ -58,9 +26,9 @@ pub(crate) fn above64(x: f64) -> f64 {
         return of_bits64(1);
     }
     if x < 0.0 {
-        return of_bits64(less64(bits64(x)));
+        return of_bits64(less64(to_bits64(x)));
     }
-    of_bits64(more64(bits64(x)))
+    of_bits64(more64(to_bits64(x)))
 }
 
 // The next f64 below a finite one.
@@ -69,9 +37,9 @@ pub(crate) fn below64(x: f64) -> f64 {
         return of_bits64(9223372036854775809);
     }
     if x < 0.0 {
-        return of_bits64(more64(bits64(x)));
+        return of_bits64(more64(to_bits64(x)));
     }
-    of_bits64(less64(bits64(x)))
+    of_bits64(less64(to_bits64(x)))
 }
 
 pub(crate) fn above32(x: f32) -> f32 {
@@ -79,9 +47,9 @@ pub(crate) fn above32(x: f32) -> f32 {
         return of_bits32(1);
     }
     if x < 0.0 {
-        return of_bits32(less32(bits32(x)));
+        return of_bits32(less32(to_bits32(x)));
     }
-    of_bits32(more32(bits32(x)))
+    of_bits32(more32(to_bits32(x)))
 }
 
 pub(crate) fn below32(x: f32) -> f32 {
@@ -89,9 +57,9 @@ pub(crate) fn below32(x: f32) -> f32 {
         return of_bits32(2147483649);
     }
     if x < 0.0 {
-        return of_bits32(more32(bits32(x)));
+        return of_bits32(more32(to_bits32(x)));
     }
-    of_bits32(less32(bits32(x)))
+    of_bits32(less32(to_bits32(x)))
 }
 
 pub(crate) fn nan64() -> f64 {
