@@ -159,16 +159,16 @@ pub(crate) fn connect(
     )
 }
 
-pub(crate) fn short(
-    line: &[u8],
-    r: Read,
-    run: Run,
-    area: &mut [u8],
-    t: &mut [u8],
-    bytes: &[u8],
-) -> Run {
-    let h = heard_first(line, r);
-    let burst = whole(line, h.read);
+// A short ack's line, and whether it was right.
+pub struct ShortLine {
+    pub hearing: Hearing,
+    pub reply: Ack,
+    pub ok: bool,
+}
+
+fn short_words(line: &[u8], r: Read) -> ShortLine {
+    let hearing = heard_first(line, r);
+    let burst = whole(line, hearing.read);
     let bitmap = whole(line, burst);
     let db = single(line, bitmap);
     let turn = flag(line, db);
@@ -177,22 +177,39 @@ pub(crate) fn short(
     let echo = flag(line, stored);
     let doppler = flag(line, echo);
     let slot = whole(line, doppler);
-    if !done(line, slot) {
+    ShortLine {
+        hearing,
+        reply: Ack {
+            burst: u8_of(burst.value),
+            bitmap: u8_of(bitmap.value),
+            snr_db: single_of(db.value),
+            want_turn: turn.value == 1,
+            want_disc: disc.value == 1,
+            stored: stored.value == 1,
+            class: ChanClass {
+                echo: echo.value == 1,
+                doppler: doppler.value == 1,
+            },
+            slot: u8_of(slot.value),
+        },
+        ok: done(line, slot),
+    }
+}
+
+pub(crate) fn short(
+    line: &[u8],
+    r: Read,
+    run: Run,
+    area: &mut [u8],
+    t: &mut [u8],
+    bytes: &[u8],
+) -> Run {
+    let q = short_words(line, r);
+    if !q.ok {
         return failed(run);
     }
-    let reply = Ack {
-        burst: u8_of(burst.value),
-        bitmap: u8_of(bitmap.value),
-        snr_db: single_of(db.value),
-        want_turn: turn.value == 1,
-        want_disc: disc.value == 1,
-        stored: stored.value == 1,
-        class: ChanClass {
-            echo: echo.value == 1,
-            doppler: doppler.value == 1,
-        },
-        slot: u8_of(slot.value),
-    };
+    let h = q.hearing;
+    let reply = q.reply;
     receive(
         run,
         area,
