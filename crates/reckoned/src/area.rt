@@ -56,7 +56,7 @@ fn merge_case(a: &mut [u8], held: &[u32])
     say_rows(a, n);
 }
 
-pub fn area_cases() {
+pub(crate) fn area_cases() {
     let mut area = [0u8; 49152];
     split_case(&mut area);
     let held = [40u32; 1];

@@ -94,7 +94,7 @@ fn hold_case(text: &[u8], most: f64) {
     }
 }
 
-pub fn hold_cases() {
+pub(crate) fn hold_cases() {
     hold_case(b"hold 30 s, third failure, no others, s ", 1000000.0);
     hold_case(b"capped at 100, s ", 100.0);
 }
