@@ -19,6 +19,7 @@ ghost use Rattle.limits.specs.Ranged.{Ranged};
 ghost use Rattle.answers.specs.Answers.{noted, withClass, longDb, turnDb, Answerable, shortAcked, longAcked, turnedTo, connectedTo};
 
 // When and how a reply was heard: the time, the wave by rank, and the dB measured here.
+#[repr(C)]
 pub struct Heard {
     pub time: f64,
     pub wave: u8,
@@ -26,6 +27,7 @@ pub struct Heard {
 }
 
 // Tiny::ConnAck, with the session. `cue`: the called station's capabilities include CUE.
+#[repr(C)]
 pub struct ConnAck {
     pub session: u8,
     pub snr_db: f32,
@@ -35,6 +37,7 @@ pub struct ConnAck {
 }
 
 // Tiny::Ack.
+#[repr(C)]
 pub struct Ack {
     pub burst: u8,
     pub bitmap: u8,
@@ -47,6 +50,7 @@ pub struct Ack {
 }
 
 // The flags of a long ack's frame.
+#[repr(C)]
 pub struct LongAck {
     pub want_turn: bool,
     pub want_disc: bool,
@@ -54,6 +58,7 @@ pub struct LongAck {
 }
 
 // Tiny::Turn.
+#[repr(C)]
 pub struct Turn {
     pub report: MaybeDb,
 }

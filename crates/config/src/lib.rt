@@ -6,12 +6,14 @@ ghost use Rattle.config.specs.Durations.{slotAt, frameBits, maxBitsAt, d
 ghost use Rattle.config.specs.Entries.{entryAt};
 
 // An optional dB value: a flag beside it.
+#[repr(C)]
 pub struct MaybeDb {
     pub set: bool,
     pub db: f32,
 }
 
 // An optional level.
+#[repr(C)]
 pub struct MaybeLevel {
     pub set: bool,
     pub level: usize,
@@ -19,6 +21,7 @@ pub struct MaybeLevel {
 
 // The air: per level the coded bits of a frame, and pre_s + bits / rate seconds for a burst of at most max_bits; per wave the
 // seconds of a short ack; and those of a cue.
+#[repr(C)]
 pub struct Air {
     pub slot_bits: [u32; 17],
     pub pre_s: [f64; 17],
@@ -30,12 +33,14 @@ pub struct Air {
 
 // Gear-shift thresholds for each level, and the margin wanted above them: thresholds_db with margin_db, or eff_thresholds_db
 // with eff_margin_db.
+#[repr(C)]
 pub struct Marks {
     pub thresholds_db: [f32; 17],
     pub margin_db: f32,
 }
 
 // The length of bursts.
+#[repr(C)]
 pub struct Lengths {
     pub max_burst_s: f64,
     pub max_burst_long_s: f64,
@@ -47,6 +52,7 @@ pub struct Lengths {
 }
 
 // How long a level is held off.
+#[repr(C)]
 pub struct HoldTimes {
     pub fail_hold_s: f64,
     pub fail_hold_max_s: f64,
@@ -54,6 +60,7 @@ pub struct HoldTimes {
 }
 
 // The Config values that the sender uses, and the bodies that the files lack.
+#[repr(C)]
 pub struct Profile {
     pub air: Air,
     pub short_bytes: u32,

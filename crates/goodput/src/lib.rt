@@ -19,6 +19,7 @@ ghost use Rattle.limits.specs.Ranged.{Ranged};
 ghost use Rattle.goodput.specs.Goodput.{priorOf, memoryS, remembered, chanceOf, marksOf, cueFor, roomOf, scoreOf, barOf, worthOf, inReach, candidate, over, weighed, pickByGoodput};
 
 // The gear record.
+#[repr(C)]
 pub struct Gear {
     pub level: usize,
     pub target: usize,

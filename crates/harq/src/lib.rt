@@ -10,6 +10,7 @@ pub const MAX_SLOTS: usize = 64;
 pub const PARTIAL_MAX: usize = 62;
 
 // The mother code's length, and where the six code rates end.
+#[repr(C)]
 pub struct Harq {
     pub mother: u32,
     pub ends: [u32; 6],

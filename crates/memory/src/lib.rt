@@ -6,6 +6,7 @@ ghost use lib.Ieee.{nan};
 ghost use Rattle.memory.specs.Memory.{pushed, aimOf, shareAfter, noted, failed, cleared, faded, hits, marked, channelFailed};
 
 // Per level: whether it was tried, the share of its frames that came through, the time of that, and the bursts lost whole.
+#[repr(C)]
 pub struct Tries {
     pub tried: [bool; 17],
     pub success: [f32; 17],
@@ -14,6 +15,7 @@ pub struct Tries {
 }
 
 // The last three reports: how many there are; c is the newest, b the one before it, a the oldest.
+#[repr(C)]
 pub struct Reports {
     pub count: u8,
     pub a: f32,

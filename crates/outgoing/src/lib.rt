@@ -21,6 +21,7 @@ ghost use Rattle.outgoing.specs.Outgoing.{framesIn, headed, burstBits, a
 const TD_EASE_DOPPLER_HZ: f32 = 1.8;
 
 // The frames of a burst; n of them: full offset, payload length, and the span of coded bits.
+#[repr(C)]
 pub struct Frames {
     pub off: [u32; 64],
     pub len: [u32; 64],
@@ -30,6 +31,7 @@ pub struct Frames {
 }
 
 // Outgoing of station.rs, with each frame's full offset and the burst's number.
+#[repr(C)]
 pub struct Outgoing {
     // By rank.
     pub wave: u8,

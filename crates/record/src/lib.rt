@@ -9,6 +9,7 @@ ghost use mathlib.Core.Path.{_≡_};
 ghost use Rattle.record.specs.Fresh.{freshGear, freshLink, noCounts, noHeld, noSent, fresh};
 
 // What the sender knows of the link.
+#[repr(C)]
 pub struct Link {
     // State::Connected.
     pub connected: bool,
@@ -30,6 +31,7 @@ pub struct Link {
 }
 
 // Bytes and pieces, and the milliseconds on the air.
+#[repr(C)]
 pub struct Counts {
     pub next_offset: u32,
     pub waiting: u32,
@@ -40,6 +42,7 @@ pub struct Counts {
 }
 
 // at_peer: n held pieces; the last `rest` of them are at_peer_rest.
+#[repr(C)]
 pub struct AtPeer {
     pub off: [u32; 64],
     pub bits: [u32; 64],
@@ -48,6 +51,7 @@ pub struct AtPeer {
 }
 
 // last_burst: the n frames of the outstanding burst.
+#[repr(C)]
 pub struct LastBurst {
     pub off: [u32; 64],
     pub bits: [u32; 64],
@@ -55,6 +59,7 @@ pub struct LastBurst {
     pub n: usize,
 }
 
+#[repr(C)]
 pub struct Sender {
     pub gear: Gear,
     pub link: Link,

@@ -5,6 +5,7 @@ ghost use lib.ListN.{length};
 ghost use Rattle.report.specs.Report.{snrFromQ, bit, bitsOf, classOf, spreadOf, slotOf, reportAt};
 
 // The two class bits (report.rs).
+#[repr(C)]
 pub struct ChanClass {
     // Echoes beyond the 4 ms guard.
     pub echo: bool,

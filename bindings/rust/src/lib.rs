@@ -1,0 +1,158 @@
+//! The sender of an HF station: a safe wrapper of the C interface (include/vanitycrow.h, which documents every field).
+//!
+//! A `Station` holds one sender and its work area. Each call either does its work or gives back document 01's refusal, and then
+//! nothing has changed. Nothing is allocated.
+
+pub mod raw;
+
+pub use raw::{
+    Ack, Air, AtPeer, ChanClass, Codes, ConnAck, Counts, Frames, Gear, Heard, HoldTimes, Holds, LastBurst, Lengths, Link, LongAck, Marks, MaybeDb,
+    MaybeLevel, Outgoing, Profile, Reports, Sender, Tries, Turn,
+};
+
+/// Bytes of a work area.
+pub const AREA_BYTES: usize = 49152;
+/// Most frames of a burst.
+pub const MAX_SLOTS: usize = 64;
+
+/// Why a call was refused, by document 01's numbers.
+#[derive(Clone, Copy, Debug, PartialEq, Eq)]
+pub enum Refusal {
+    ProfileOutOfRange = 1,
+    ShortOverLong = 2,
+    Unsound = 3,
+    OutOfTurn = 4,
+    BadTime = 5,
+    BadValue = 6,
+    ShortPayload = 7,
+    QueueFull = 8,
+    AllTaken = 9,
+    ShortOutput = 10,
+}
+
+impl Refusal {
+    /// Document 01's number.
+    pub fn number(self) -> u8 {
+        self as u8
+    }
+}
+
+fn told(number: u8) -> Result<(), Refusal> {
+    use Refusal::*;
+    match number {
+        0 => Ok(()),
+        1 => Err(ProfileOutOfRange),
+        2 => Err(ShortOverLong),
+        3 => Err(Unsound),
+        4 => Err(OutOfTurn),
+        5 => Err(BadTime),
+        6 => Err(BadValue),
+        7 => Err(ShortPayload),
+        8 => Err(QueueFull),
+        9 => Err(AllTaken),
+        10 => Err(ShortOutput),
+        _ => unreachable!("the contracts give 0 to 10"),
+    }
+}
+
+/// A sender with its profile and its work area.
+pub struct Station {
+    profile: Profile,
+    sender: Sender,
+    area: [u8; AREA_BYTES],
+}
+
+impl Station {
+    /// A sender that is not connected yet. A profile out of range is refused by every call.
+    pub fn new(profile: Profile) -> Self {
+        let mut sender = std::mem::MaybeUninit::<Sender>::zeroed();
+        // SAFETY: all zeros is a value of Sender, which has only numbers, bools and arrays of them.
+        let sender = unsafe {
+            raw::vanitycrow_fresh(sender.as_mut_ptr());
+            sender.assume_init()
+        };
+        Station {
+            profile,
+            sender,
+            area: [0; AREA_BYTES],
+        }
+    }
+
+    pub fn profile(&self) -> &Profile {
+        &self.profile
+    }
+
+    /// The record, to read.
+    pub fn sender(&self) -> &Sender {
+        &self.sender
+    }
+
+    /// Queues bytes to send.
+    pub fn queue(&mut self, bytes: &[u8]) -> Result<(), Refusal> {
+        // SAFETY: pointers and lengths are those of live borrows that don't overlap.
+        told(unsafe {
+            raw::vanitycrow_queue(&self.profile, &mut self.sender, self.area.as_mut_ptr(), AREA_BYTES, bytes.as_ptr(), bytes.len())
+        })
+    }
+
+    /// The called station's answer.
+    pub fn connect(&mut self, heard: Heard, reply: ConnAck) -> Result<(), Refusal> {
+        // SAFETY: as above.
+        told(unsafe { raw::vanitycrow_connect(&self.profile, &mut self.sender, self.area.as_mut_ptr(), AREA_BYTES, heard, reply) })
+    }
+
+    pub fn short_ack(&mut self, heard: Heard, reply: Ack) -> Result<(), Refusal> {
+        // SAFETY: as above.
+        told(unsafe { raw::vanitycrow_short_ack(&self.profile, &mut self.sender, self.area.as_mut_ptr(), AREA_BYTES, heard, reply) })
+    }
+
+    pub fn long_ack(&mut self, heard: Heard, reply: LongAck, payload: &[u8]) -> Result<(), Refusal> {
+        // SAFETY: as above.
+        told(unsafe {
+            raw::vanitycrow_long_ack(
+                &self.profile,
+                &mut self.sender,
+                self.area.as_mut_ptr(),
+                AREA_BYTES,
+                heard,
+                reply,
+                payload.as_ptr(),
+                payload.len(),
+            )
+        })
+    }
+
+    pub fn turn(&mut self, heard: Heard, reply: Turn) -> Result<(), Refusal> {
+        // SAFETY: as above.
+        told(unsafe { raw::vanitycrow_turn(&self.profile, &mut self.sender, self.area.as_mut_ptr(), AREA_BYTES, heard, reply) })
+    }
+
+    /// The next burst. Its frames stand back to back in `out`, each of `frame_bytes` bytes.
+    pub fn data_burst(&mut self, out: &mut [u8]) -> Result<Outgoing, Refusal> {
+        // SAFETY: as above.
+        let b = unsafe {
+            raw::vanitycrow_data_burst(
+                &self.profile,
+                &mut self.sender,
+                self.area.as_mut_ptr(),
+                AREA_BYTES,
+                out.as_mut_ptr(),
+                out.len(),
+            )
+        };
+        told(b.refusal).map(|()| b.outgoing)
+    }
+
+    /// Bytes of a frame at the present level.
+    pub fn frame_bytes(&self) -> usize {
+        let short = self.sender.gear.level <= 4;
+        (if short { self.profile.short_bytes } else { self.profile.long_bytes }) as usize
+    }
+
+    /// The bytes of the flying piece at an offset, if one begins there.
+    pub fn piece(&self, offset: u32) -> Result<Option<&[u8]>, Refusal> {
+        // SAFETY: as above; nothing is written.
+        let p = unsafe { raw::vanitycrow_find(&self.profile, &self.sender, self.area.as_ptr(), AREA_BYTES, offset) };
+        told(p.refusal).map(|()| p.here.then(|| &self.area[p.start..p.start + p.len]))
+    }
+}

@@ -1,0 +1,25 @@
+-- What a call answers, with document 01's number in place of its verdict. Definitions only.
+use mathlib.Core.List.{List}
+use Prim.Native.Nat.{ℕ}
+use Rattle.refusals.specs.Refusals.{numberOf}
+use Rattle.sender.specs.declared.Queued.{Queued}
+use Rattle.sender.specs.declared.Received.{Received}
+use Rattle.sender.specs.declared.Bursted.{Bursted}
+use Rattle.sender.specs.declared.Finding.{Finding}
+use Rattle.numbered.specs.declared.Left.{Left}
+use Rattle.numbered.specs.declared.LeftBurst.{LeftBurst}
+use Rattle.numbered.specs.declared.Place.{Place}
+
+-- with the work area after the call
+abbrev pub queueNumber : Queued × List ℕ → Left × List ℕ
+queueNumber q = (record { refusal = numberOf (q .0 .verdict); next = q .0 .next }, q .1)
+
+abbrev pub replyNumber : Received × List ℕ → Left × List ℕ
+replyNumber q = (record { refusal = numberOf (q .0 .verdict); next = q .0 .next }, q .1)
+
+-- with the work area and the output after the call
+abbrev pub burstNumber : Bursted × (List ℕ × List ℕ) → LeftBurst × (List ℕ × List ℕ)
+burstNumber q = (record { refusal = numberOf (q .0 .verdict); outgoing = q .0 .outgoing; next = q .0 .next }, q .1)
+
+abbrev pub findNumber : Finding → Place
+findNumber q = record { refusal = numberOf (q .verdict); here = q .found .here; start = q .found .start; len = q .found .len }

@@ -1,0 +1,115 @@
+// The sender's calls with document 01's numbers in place of the verdicts, and a function for each reply: what the C interface stands on.
+use answers::Ack;
+use answers::ConnAck;
+use answers::Heard;
+use answers::LongAck;
+use answers::Turn;
+use config::Profile;
+use outgoing::Outgoing;
+use record::Sender;
+use refusals::Reply;
+use refusals::number;
+use sender::sender_rx;
+ghost use mathlib.Core.Path.{_≡_};
+ghost use mathlib.Core.List.{[]};
+ghost use Rattle.sender.specs.Calls.{queueOf, receiveOf, findOf, burstCall};
+ghost use Rattle.refusals.specs.declared.Reply.the-variants as R;
+ghost use Rattle.numbered.specs.Numbered.{queueNumber, replyNumber, burstNumber, findNumber};
+
+// A refusal's number, 0 where the call is accepted, and the next record.
+pub struct Left {
+    pub refusal: u8,
+    pub next: Sender,
+}
+
+pub struct LeftBurst {
+    pub refusal: u8,
+    pub outgoing: Outgoing,
+    pub next: Sender,
+}
+
+// A refusal's number; whether there is a piece, and where its bytes lie in the work area.
+#[repr(C)]
+pub struct Place {
+    pub refusal: u8,
+    pub here: bool,
+    pub start: usize,
+    pub len: usize,
+}
+
+pub fn queue(p: Profile, s: Sender, a: &mut [u8], bytes: &[u8]) -> Left
+    ensures { λ r. ⌜ (r, now (a .exit)) ≡ queueNumber (queueOf p s (now (a .entry)) (now (bytes .entry))) ⌝ }
+{
+    let q = sender::queue(p, s, a, bytes);
+    let v = q.verdict;
+    let refusal = number(v);
+    let next = q.next;
+    Left { refusal, next }
+}
+
+fn reply(p: Profile, s: Sender, a: &mut [u8], h: Heard, r: Reply, payload: &[u8]) -> Left
+    ensures { λ q. ⌜ (q, now (a .exit)) ≡ replyNumber (receiveOf p s (now (a .entry)) h r (now (payload .entry))) ⌝ }
+{
+    let q = sender_rx(p, s, a, h, r, payload);
+    let v = q.verdict;
+    let refusal = number(v);
+    let next = q.next;
+    Left { refusal, next }
+}
+
+pub fn connect(p: Profile, s: Sender, a: &mut [u8], h: Heard, r: ConnAck) -> Left
+    ensures { λ q. ⌜ (q, now (a .exit)) ≡ replyNumber (receiveOf p s (now (a .entry)) h (R.ConnAck r) []) ⌝ }
+{
+    let none: [u8; 1] = [0];
+    reply(p, s, a, h, Reply::ConnAck(r), &none[..0])
+}
+
+pub fn short_ack(p: Profile, s: Sender, a: &mut [u8], h: Heard, r: Ack) -> Left
+    ensures { λ q. ⌜ (q, now (a .exit)) ≡ replyNumber (receiveOf p s (now (a .entry)) h (R.Ack r) []) ⌝ }
+{
+    let none: [u8; 1] = [0];
+    reply(p, s, a, h, Reply::Ack(r), &none[..0])
+}
+
+pub fn long_ack(p: Profile, s: Sender, a: &mut [u8], h: Heard, r: LongAck, payload: &[u8]) -> Left
+    ensures { λ q. ⌜ (q, now (a .exit)) ≡ replyNumber (receiveOf p s (now (a .entry)) h (R.LongAck r) (now (payload .entry))) ⌝ }
+{
+    reply(p, s, a, h, Reply::LongAck(r), payload)
+}
+
+pub fn turn(p: Profile, s: Sender, a: &mut [u8], h: Heard, r: Turn) -> Left
+    ensures { λ q. ⌜ (q, now (a .exit)) ≡ replyNumber (receiveOf p s (now (a .entry)) h (R.Turn r) []) ⌝ }
+{
+    let none: [u8; 1] = [0];
+    reply(p, s, a, h, Reply::Turn(r), &none[..0])
+}
+
+pub fn data_burst(p: Profile, s: Sender, a: &mut [u8], out: &mut [u8]) -> LeftBurst
+    ensures { λ r. ⌜ (r, (now (a .exit), now (out .exit))) ≡ burstNumber (burstCall p s (now (a .entry)) (now (out .entry))) ⌝ }
+{
+    let q = sender::data_burst(p, s, a, out);
+    let v = q.verdict;
+    let refusal = number(v);
+    let outgoing = q.outgoing;
+    let next = q.next;
+    LeftBurst {
+        refusal,
+        outgoing,
+        next,
+    }
+}
+
+pub fn find(p: Profile, s: Sender, a: &[u8], off: u32) -> Place
+    ensures { λ r. ⌜ r ≡ findNumber (findOf p s (now (a .entry)) off) ⌝ }
+{
+    let q = sender::find(p, s, a, off);
+    let v = q.verdict;
+    let refusal = number(v);
+    let f = q.found;
+    Place {
+        refusal,
+        here: f.here,
+        start: f.start,
+        len: f.len,
+    }
+}

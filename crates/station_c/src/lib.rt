@@ -1,0 +1,134 @@
+// The C interface: the sender's calls over one record, for C to link. No call requires anything. A slice goes as a pointer and a length.
+use answers::Ack;
+use answers::ConnAck;
+use answers::Heard;
+use answers::LongAck;
+use answers::Turn;
+use config::Profile;
+use numbered::Place;
+use outgoing::Outgoing;
+use record::Sender;
+ghost use mathlib.Core.Path.{_≡_};
+ghost use mathlib.Core.List.{[]};
+ghost use Rattle.record.specs.Fresh.{fresh};
+ghost use Rattle.sender.specs.Calls.{queueOf, receiveOf, findOf, burstCall};
+ghost use Rattle.refusals.specs.declared.Reply.the-variants as R;
+ghost use Rattle.numbered.specs.Numbered.{queueNumber, replyNumber, burstNumber, findNumber};
+ghost use Rattle.station_c.specs.Exported.{left, leftBurst};
+
+// A refusal's number, 0 where the burst is made, and the burst.
+#[repr(C)]
+pub struct Burst {
+    pub refusal: u8,
+    pub outgoing: Outgoing,
+}
+
+// The record of a new sender.
+#[no_mangle]
+pub extern "C" fn vanitycrow_fresh(s: &mut Sender)
+    ensures { λ _. ⌜ now (s .exit) ≡ fresh ⌝ }
+{
+    let f = record::fresh();
+    *s = f;
+}
+
+// Bytes to send.
+#[no_mangle]
+pub extern "C" fn vanitycrow_queue(p: &Profile, s: &mut Sender, a: &mut [u8], bytes: &[u8]) -> u8
+    ensures { λ r. ⌜ (left r (now (s .exit)), now (a .exit)) ≡ queueNumber (queueOf (now (p .entry)) (now (s .entry)) (now (a .entry)) (now (bytes .entry))) ⌝ }
+{
+    let q = numbered::queue(*p, *s, a, bytes);
+    *s = q.next;
+    q.refusal
+}
+
+// A connect answer.
+#[no_mangle]
+pub extern "C" fn vanitycrow_connect(
+    p: &Profile,
+    s: &mut Sender,
+    a: &mut [u8],
+    h: Heard,
+    r: ConnAck,
+) -> u8
+    ensures { λ q. ⌜ (left q (now (s .exit)), now (a .exit)) ≡ replyNumber (receiveOf (now (p .entry)) (now (s .entry)) (now (a .entry)) h (R.ConnAck r) []) ⌝ }
+{
+    let q = numbered::connect(*p, *s, a, h, r);
+    *s = q.next;
+    q.refusal
+}
+
+// A short ack.
+#[no_mangle]
+pub extern "C" fn vanitycrow_short_ack(
+    p: &Profile,
+    s: &mut Sender,
+    a: &mut [u8],
+    h: Heard,
+    r: Ack,
+) -> u8
+    ensures { λ q. ⌜ (left q (now (s .exit)), now (a .exit)) ≡ replyNumber (receiveOf (now (p .entry)) (now (s .entry)) (now (a .entry)) h (R.Ack r) []) ⌝ }
+{
+    let q = numbered::short_ack(*p, *s, a, h, r);
+    *s = q.next;
+    q.refusal
+}
+
+// A long ack and its payload.
+#[no_mangle]
+pub extern "C" fn vanitycrow_long_ack(
+    p: &Profile,
+    s: &mut Sender,
+    a: &mut [u8],
+    h: Heard,
+    r: LongAck,
+    payload: &[u8],
+) -> u8
+    ensures { λ q. ⌜ (left q (now (s .exit)), now (a .exit)) ≡ replyNumber (receiveOf (now (p .entry)) (now (s .entry)) (now (a .entry)) h (R.LongAck r) (now (payload .entry))) ⌝ }
+{
+    let q = numbered::long_ack(*p, *s, a, h, r, payload);
+    *s = q.next;
+    q.refusal
+}
+
+// A turn.
+#[no_mangle]
+pub extern "C" fn vanitycrow_turn(
+    p: &Profile,
+    s: &mut Sender,
+    a: &mut [u8],
+    h: Heard,
+    r: Turn,
+) -> u8
+    ensures { λ q. ⌜ (left q (now (s .exit)), now (a .exit)) ≡ replyNumber (receiveOf (now (p .entry)) (now (s .entry)) (now (a .entry)) h (R.Turn r) []) ⌝ }
+{
+    let q = numbered::turn(*p, *s, a, h, r);
+    *s = q.next;
+    q.refusal
+}
+
+// The next burst. Its frames stand in the output back to back.
+#[no_mangle]
+pub extern "C" fn vanitycrow_data_burst(
+    p: &Profile,
+    s: &mut Sender,
+    a: &mut [u8],
+    out: &mut [u8],
+) -> Burst
+    ensures { λ r. ⌜ (leftBurst r (now (s .exit)), (now (a .exit), now (out .exit))) ≡ burstNumber (burstCall (now (p .entry)) (now (s .entry)) (now (a .entry)) (now (out .entry))) ⌝ }
+{
+    let q = numbered::data_burst(*p, *s, a, out);
+    *s = q.next;
+    Burst {
+        refusal: q.refusal,
+        outgoing: q.outgoing,
+    }
+}
+
+// Where the bytes of the piece at `off` lie in the work area.
+#[no_mangle]
+pub extern "C" fn vanitycrow_find(p: &Profile, s: &Sender, a: &[u8], off: u32) -> Place
+    ensures { λ r. ⌜ r ≡ findNumber (findOf (now (p .entry)) (now (s .entry)) (now (a .entry)) off) ⌝ }
+{
+    numbered::find(*p, *s, a, off)
+}

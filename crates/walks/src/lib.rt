@@ -1,0 +1,1 @@
+// What the proofs that tools/walk.py prints cite. The crate has no code.

@@ -1,0 +1,286 @@
+/* The sender of an HF station: six calls over one record and one work area, and a lookup.
+ *
+ * Link with libstation_c.a (`rt staticlib station_c`). A sender is a struct vanitycrow_sender and a work area of VANITYCROW_AREA_BYTES
+ * bytes, all zero at first; vanitycrow_fresh makes the record. Each call changes both, and nothing else may. One profile serves a sender
+ * for all its calls. No call asks anything of its values: what it cannot take it refuses, with the number of the first refusal below that
+ * holds, and then record, work area and output keep every byte.
+ *
+ * Pointers point to memory of the given lengths that does not overlap, also where a length is 0; a bool is 0 or 1.
+ */
+#ifndef VANITYCROW_H
+#define VANITYCROW_H
+#include <stdbool.h>
+#include <stddef.h>
+#include <stdint.h>
+
+#ifdef __cplusplus
+extern "C" {
+#endif
+
+#define VANITYCROW_AREA_BYTES 49152
+#define VANITYCROW_LEVELS 17 /* 0 (the slowest) to 16 */
+#define VANITYCROW_WAVES 6   /* 0 to 5, by rank */
+#define VANITYCROW_MAX_SLOTS 64 /* frames of a burst */
+#define VANITYCROW_MAX_WAITING 16384 /* bytes that may wait */
+
+/* What a call answers. */
+enum {
+    VANITYCROW_ACCEPTED = 0,
+    VANITYCROW_PROFILE_OUT_OF_RANGE = 1, /* a number of the profile is out of range or not a number */
+    VANITYCROW_SHORT_OVER_LONG = 2,      /* the short frame is larger than the long */
+    VANITYCROW_UNSOUND = 3,              /* the work area is too short, or the record is not sound */
+    VANITYCROW_OUT_OF_TURN = 4,          /* a call other than connect before connect, or connect again */
+    VANITYCROW_BAD_TIME = 5,             /* not within 0 to 10^9, or earlier than the last accepted one */
+    VANITYCROW_BAD_VALUE = 6,            /* a value of a reply is out of range or not a number */
+    VANITYCROW_SHORT_PAYLOAD = 7,        /* a long ack's payload is under 13 bytes */
+    VANITYCROW_QUEUE_FULL = 8,           /* more than VANITYCROW_MAX_WAITING bytes would wait */
+    VANITYCROW_ALL_TAKEN = 9,            /* more than 2^32 - 1 bytes would be taken in all */
+    VANITYCROW_SHORT_OUTPUT = 10         /* the output is shorter than VANITYCROW_MAX_SLOTS long frames */
+};
+
+/* ---- the profile: dB values are -100 to 100; s is seconds */
+
+/* A dB value, if set. */
+struct vanitycrow_maybe_db { bool set; float db; };
+
+/* A level, 0 to 16, if set. */
+struct vanitycrow_maybe_level { bool set; size_t level; };
+
+/* The air. A burst lasts pre_s + bits / rate. */
+struct vanitycrow_air {
+    uint32_t slot_bits[VANITYCROW_LEVELS]; /* coded bits of a frame, 1 to 16384 */
+    double pre_s[VANITYCROW_LEVELS];       /* 0 to 60 */
+    double rate[VANITYCROW_LEVELS];        /* bits per second, 1 to 100000 */
+    uint32_t max_bits[VANITYCROW_LEVELS];  /* most bits of a burst, at least 1 */
+    double ack_s[VANITYCROW_WAVES];        /* a short ack, 0 to 60 */
+    double cue_s;                          /* a cue, 0 to 10 */
+};
+
+/* Gear-shift thresholds, and the margin wanted above them. */
+struct vanitycrow_marks { float thresholds_db[VANITYCROW_LEVELS]; float margin_db; };
+
+/* The code: mother length and the ends of the six rates, 1 to 16384 bits each. */
+struct vanitycrow_codes { uint32_t mother; uint32_t ends[6]; };
+
+/* The length of bursts. */
+struct vanitycrow_lengths {
+    double max_burst_s;      /* 1 to 1000 */
+    double max_burst_long_s; /* 1 to 1000 */
+    double burst_overhead;   /* 0.01 to 1 */
+    double turnaround_s;     /* 0 to 60 */
+    bool burst_adapt;
+    float burst_steady_db;
+    struct vanitycrow_maybe_db burst_climb_db;
+};
+
+/* How long a level is held off. */
+struct vanitycrow_hold_times {
+    double fail_hold_s;     /* 1 to 100000 */
+    double fail_hold_max_s; /* 0 to 1000000 */
+    double loss_hold_s;     /* 0 to 1000000 */
+};
+
+struct vanitycrow_profile {
+    struct vanitycrow_air air;
+    uint32_t short_bytes; /* frame sizes, 18 to 512; the short one is not the larger */
+    uint32_t long_bytes;
+    struct vanitycrow_codes codes;
+    struct vanitycrow_lengths lengths;
+    struct vanitycrow_hold_times hold_times;
+    struct vanitycrow_marks plain; /* for measured dB */
+    struct vanitycrow_marks eff;   /* for reported effective dB */
+    bool eff_snr;
+    float cue_below_db;
+    struct vanitycrow_maybe_db start_margin_db;
+    size_t max_level;        /* 0 to 16 */
+    size_t skip_slices_from; /* 0 to 17 */
+    struct vanitycrow_maybe_level pin_level;
+    bool goodput;  /* else the ladder */
+    uint8_t power; /* 0 no power table, 1 AIR_MEAN_DB, 2 AIR_MEAN_TD_DB */
+    bool harq;
+    bool pick_family;
+    bool smooth_target;
+    bool hold_by_goodput;
+    bool slice_slots;
+    bool harq_stretch;
+    bool merge_pieces;
+    bool cue;
+    bool harq_partial;
+};
+
+/* ---- the record: read it as you like, and leave it to the calls to change */
+
+/* Class of a channel: echoes beyond the guard, fading too fast for OFDM. */
+struct vanitycrow_class { bool echo; bool doppler; };
+
+/* The last reports, at most three: c is the newest. */
+struct vanitycrow_reports { uint8_t count; float a; float b; float c; };
+
+/* Per level: tried or not, the share of frames that came through, when (s), and bursts lost whole. */
+struct vanitycrow_tries {
+    bool tried[VANITYCROW_LEVELS];
+    float success[VANITYCROW_LEVELS];
+    double success_at[VANITYCROW_LEVELS];
+    uint8_t fails[VANITYCROW_LEVELS];
+};
+
+/* Per level: held off until (s), and whether that rules out every faster level. */
+struct vanitycrow_holds { double blocked_until[VANITYCROW_LEVELS]; bool hold_all[VANITYCROW_LEVELS]; };
+
+struct vanitycrow_gear {
+    size_t level;
+    size_t target;
+    double burst_s;
+    struct vanitycrow_maybe_db aim_db;
+    struct vanitycrow_maybe_db last_report_db;
+    struct vanitycrow_reports snr_reports;
+    struct vanitycrow_class peer_class;
+    bool cue; /* both ends agreed to cues */
+    struct vanitycrow_tries tries;
+    struct vanitycrow_holds holds;
+};
+
+struct vanitycrow_link {
+    bool connected;
+    bool awaiting; /* an ack */
+    uint8_t session;
+    double last_time; /* s, of the last accepted reply */
+    uint8_t burst_id; /* 0 to 3 */
+    bool heard;       /* whether peer_heard is a burst number that was heard */
+    uint8_t peer_heard;
+    uint8_t peer_slot;
+    float peer_doppler_hz; /* not a number: none reported */
+    bool peer_wants_turn;
+    bool peer_wants_disc;
+    uint8_t peer_wave; /* that the held pieces were stored from */
+};
+
+struct vanitycrow_counts {
+    uint32_t next_offset; /* of the bytes that have flown */
+    uint32_t waiting;     /* bytes */
+    uint32_t flying;      /* bytes */
+    size_t pieces;        /* flying */
+    uint32_t bytes_acked;
+    uint64_t airtime_ms;  /* stays at 2^64 - 1 once there */
+};
+
+/* The n held pieces, by offset, with the bits held; the last `rest` of them are unsent. */
+struct vanitycrow_at_peer {
+    uint32_t off[VANITYCROW_MAX_SLOTS];
+    uint32_t bits[VANITYCROW_MAX_SLOTS];
+    size_t n;
+    size_t rest;
+};
+
+/* The n frames of the outstanding burst, by offset: bits sent, and bits held with them. */
+struct vanitycrow_last_burst {
+    uint32_t off[VANITYCROW_MAX_SLOTS];
+    uint32_t bits[VANITYCROW_MAX_SLOTS];
+    uint32_t held[VANITYCROW_MAX_SLOTS];
+    size_t n;
+};
+
+struct vanitycrow_sender {
+    struct vanitycrow_gear gear;
+    struct vanitycrow_link link;
+    struct vanitycrow_counts counts;
+    struct vanitycrow_at_peer at_peer;
+    struct vanitycrow_last_burst last_burst;
+};
+
+/* ---- replies */
+
+/* When and how a reply was heard: s; the wave; the dB measured here, -100 to 300. */
+struct vanitycrow_heard { double time; uint8_t wave; float snr_db; };
+
+/* A connect answer. cue: the called station takes cues. */
+struct vanitycrow_conn_ack {
+    uint8_t session;
+    float snr_db; /* -100 to 300 */
+    struct vanitycrow_class class_;
+    uint8_t slot; /* 0 to 2 */
+    bool cue;
+};
+
+struct vanitycrow_ack {
+    uint8_t burst;  /* 0 to 3 */
+    uint8_t bitmap; /* 0 to 63: bit i for frame i */
+    float snr_db;   /* -100 to 300 */
+    bool want_turn;
+    bool want_disc;
+    bool stored;
+    struct vanitycrow_class class_;
+    uint8_t slot; /* 0 to 2 */
+};
+
+/* The flags of a long ack's frame; the rest is in its payload. */
+struct vanitycrow_long_ack { bool want_turn; bool want_disc; bool stored; };
+
+/* A turn; its report is -100 to 300 dB. */
+struct vanitycrow_turn { struct vanitycrow_maybe_db report; };
+
+/* ---- answers */
+
+/* The n frames of a burst. */
+struct vanitycrow_frames {
+    uint32_t off[VANITYCROW_MAX_SLOTS];   /* the payload's offset among all bytes taken */
+    uint32_t len[VANITYCROW_MAX_SLOTS];   /* bytes of payload */
+    uint32_t start[VANITYCROW_MAX_SLOTS]; /* of its coded bits, in the mother code */
+    uint32_t bits[VANITYCROW_MAX_SLOTS];  /* coded bits to send */
+    size_t n;
+};
+
+struct vanitycrow_outgoing {
+    uint8_t wave;
+    size_t code;    /* the level */
+    uint16_t user;  /* header bits */
+    uint16_t extra; /* the peer's third of a slice burst, else the parity field */
+    bool cue;       /* a cue goes before it */
+    bool td_ease;
+    uint8_t number; /* 0 to 3 */
+    struct vanitycrow_frames frames;
+};
+
+/* outgoing is all zero where the burst is refused. */
+struct vanitycrow_burst { uint8_t refusal; struct vanitycrow_outgoing outgoing; };
+
+/* Where the bytes of a piece lie: area[start] to area[start + len - 1]; nowhere unless here. */
+struct vanitycrow_place { uint8_t refusal; bool here; size_t start; size_t len; };
+
+/* ---- calls: p the profile, s the record, a the work area of a_len bytes */
+
+/* Makes *s the record of a new sender, whatever it was. */
+void vanitycrow_fresh(struct vanitycrow_sender *s);
+
+/* Queues n bytes to send; 0 are accepted. Refusals 1 2 3 4 8 9. */
+uint8_t vanitycrow_queue(const struct vanitycrow_profile *p, struct vanitycrow_sender *s, uint8_t *a, size_t a_len, const uint8_t *bytes, size_t n);
+
+/* A connect answer. Refusals 1 to 6. */
+uint8_t vanitycrow_connect(const struct vanitycrow_profile *p, struct vanitycrow_sender *s, uint8_t *a, size_t a_len, struct vanitycrow_heard h,
+                           struct vanitycrow_conn_ack r);
+
+/* A short ack. Refusals 1 to 6. */
+uint8_t vanitycrow_short_ack(const struct vanitycrow_profile *p, struct vanitycrow_sender *s, uint8_t *a, size_t a_len, struct vanitycrow_heard h,
+                             struct vanitycrow_ack r);
+
+/* A long ack and the n bytes of its payload. Refusals 1 to 7. */
+uint8_t vanitycrow_long_ack(const struct vanitycrow_profile *p, struct vanitycrow_sender *s, uint8_t *a, size_t a_len, struct vanitycrow_heard h,
+                            struct vanitycrow_long_ack r, const uint8_t *payload, size_t n);
+
+/* A turn. Refusals 1 to 6. */
+uint8_t vanitycrow_turn(const struct vanitycrow_profile *p, struct vanitycrow_sender *s, uint8_t *a, size_t a_len, struct vanitycrow_heard h,
+                        struct vanitycrow_turn r);
+
+/* The next burst: frames.n frames back to back in out, each of the level's frame size; what lies past them keeps its bytes.
+ * Refusals 1 2 3 4 10. */
+struct vanitycrow_burst vanitycrow_data_burst(const struct vanitycrow_profile *p, struct vanitycrow_sender *s, uint8_t *a, size_t a_len, uint8_t *out,
+                                              size_t n);
+
+/* Where the bytes of the flying piece at this offset lie in the work area. Refusals 1 to 4. */
+struct vanitycrow_place vanitycrow_find(const struct vanitycrow_profile *p, const struct vanitycrow_sender *s, const uint8_t *a, size_t a_len,
+                                        uint32_t off);
+
+#ifdef __cplusplus
+}
+#endif
+#endif
