@@ -17,7 +17,7 @@ use Rattle.station.proofs.Sent.Laws as T2′
 use Rattle.sender.specs.declared.Bursted.{Bursted}
 use Rattle.sender.proofs.Bursted as T3
 use Rattle.sender.proofs.Bursted.Laws as T3′
-use Rattle.sender.proofs.Verdict.Laws as T4′
+use Rattle.refusals.proofs.Verdict.Laws as T4′
 use Rattle.outgoing.proofs.Outgoing.Laws as T5′
 use Rattle.sender.proofs.data_burst as g0
 use Rattle.sender.proofs.data_burst.Symbol as g0-def

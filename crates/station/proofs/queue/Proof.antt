@@ -13,8 +13,8 @@ use Rattle.config.proofs.Profile.Laws as T0′
 use Rattle.record.specs.declared.Sender.{Sender}
 use Rattle.record.proofs.Sender as T1
 use Rattle.record.proofs.Sender.Laws as T1′
-use Rattle.sender.proofs.Verdict as T2
-use Rattle.sender.proofs.Verdict.Laws as T2′
+use Rattle.refusals.proofs.Verdict as T2
+use Rattle.refusals.proofs.Verdict.Laws as T2′
 use Rattle.sender.specs.declared.Queued.{Queued}
 use Rattle.sender.proofs.Queued as T3
 use Rattle.sender.proofs.Queued.Laws as T3′

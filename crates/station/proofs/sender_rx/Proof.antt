@@ -16,11 +16,11 @@ use Rattle.record.proofs.Sender.Laws as T1′
 use Rattle.answers.specs.declared.Heard.{Heard}
 use Rattle.answers.proofs.Heard as T2
 use Rattle.answers.proofs.Heard.Laws as T2′
-use Rattle.sender.specs.declared.Reply.{Reply}
-use Rattle.sender.proofs.Reply as T3
-use Rattle.sender.proofs.Reply.Laws as T3′
-use Rattle.sender.proofs.Verdict as T4
-use Rattle.sender.proofs.Verdict.Laws as T4′
+use Rattle.refusals.specs.declared.Reply.{Reply}
+use Rattle.refusals.proofs.Reply as T3
+use Rattle.refusals.proofs.Reply.Laws as T3′
+use Rattle.refusals.proofs.Verdict as T4
+use Rattle.refusals.proofs.Verdict.Laws as T4′
 use Rattle.sender.specs.declared.Received.{Received}
 use Rattle.sender.proofs.Received as T5
 use Rattle.sender.proofs.Received.Laws as T5′
