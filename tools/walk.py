@@ -85,12 +85,12 @@ def fn_mir(name):
         sys.exit(f'no MIR of {name}')
     return fns[name]
 
-def sources(crate):
+def sources(crate, module=None):                # those of one module, if it is named and has a file of its own
     for base in (f'crates/{crate}/src', f'{kit()}/libs/{crate}/src'):
         if os.path.isdir(base):
             for root, _, files in os.walk(base):
                 for f in sorted(files):
-                    if f.endswith('.rt'):
+                    if f.endswith('.rt') and (f'{module}.rt' not in files or f == f'{module}.rt'):
                         yield re.sub(r'//[^\n]*', '', open(os.path.join(root, f)).read())
 
 def commas(s):
@@ -106,7 +106,7 @@ def commas(s):
 def fn_src(name):
     crate, *path, short = name.split('::')
     of = path[-1] if path and path[-1][0].isupper() else None           # a method's type
-    for text in sources(crate):
+    for text in sources(crate, path[-1] if path and not of else None):
         start = 0
         if of:
             m = re.search(r'\bimpl\s+' + of + r'\s*\{', text)

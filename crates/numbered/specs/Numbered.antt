@@ -19,7 +19,7 @@ replyNumber q = (record { refusal = numberOf (q .0 .verdict); next = q .0 .next 
 
 -- with the work area and the output after the call
 abbrev pub burstNumber : Bursted × (List ℕ × List ℕ) → LeftBurst × (List ℕ × List ℕ)
-burstNumber q = (record { refusal = numberOf (q .0 .verdict); outgoing = q .0 .outgoing; next = q .0 .next }, q .1)
+burstNumber q = (record { burst = record { refusal = numberOf (q .0 .verdict); outgoing = q .0 .outgoing }; next = q .0 .next }, q .1)
 
 abbrev pub findNumber : Finding → Place
 findNumber q = record { refusal = numberOf (q .verdict); here = q .found .here; start = q .found .start; len = q .found .len }

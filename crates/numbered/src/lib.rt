@@ -22,9 +22,15 @@ pub struct Left {
     pub next: Sender,
 }
 
-pub struct LeftBurst {
+// A refusal's number, 0 where the burst is made, and the burst.
+#[repr(C)]
+pub struct Burst {
     pub refusal: u8,
     pub outgoing: Outgoing,
+}
+
+pub struct LeftBurst {
+    pub burst: Burst,
     pub next: Sender,
 }
 
@@ -92,11 +98,8 @@ pub fn data_burst(p: Profile, s: Sender, a: &mut [u8], out: &mut [u8]) -> LeftBu
     let refusal = number(v);
     let outgoing = q.outgoing;
     let next = q.next;
-    LeftBurst {
-        refusal,
-        outgoing,
-        next,
-    }
+    let burst = Burst { refusal, outgoing };
+    LeftBurst { burst, next }
 }
 
 pub fn find(p: Profile, s: Sender, a: &[u8], off: u32) -> Place

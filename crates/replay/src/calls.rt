@@ -1,4 +1,5 @@
 // The calls of a list and their answers (call-list.md, Calls and their answers).
+use crate::held;
 use crate::profile::single_of;
 use crate::state::state;
 use crate::text::flag as put_flag;
@@ -24,17 +25,13 @@ use answers::LongAck;
 use answers::Turn;
 use config::MaybeDb;
 use config::Profile;
+use numbered::Left;
+use numbered::LeftBurst;
 use outgoing::Frames;
 use outgoing::Outgoing;
 use patterns::of_bits64;
 use record::Sender;
-use refusals::Reply;
-use refusals::number;
 use report::ChanClass;
-use sender::Bursted;
-use sender::data_burst;
-use sender::queue;
-use sender::sender_rx;
 ghost use Prim.Native.Nat.{_≤_, _<_};
 
 // The run so far: the profile and the sender, what is lent of the work area and of the output, and what is used of the text's
@@ -103,31 +100,14 @@ fn heard_first(line: &[u8], r: Read) -> Hearing {
     }
 }
 
-fn receive(
-    run: Run,
-    area: &mut [u8],
-    t: &mut [u8],
-    h: Heard,
-    reply: Reply,
-    payload: &[u8],
-    name: &[u8],
-) -> Run {
-    let lent = least(run.area, area);
-    let q = sender_rx(run.p, run.s, &mut area[..lent], h, reply, payload);
-    let v = q.verdict;
-    let n = answer(t, run.text, name, number(v));
+// The answer to a queuing or a reply, and the record that it left.
+fn answered(run: Run, q: Left, t: &mut [u8], name: &[u8]) -> Run {
+    let n = answer(t, run.text, name, q.refusal);
     let next = q.next;
     moved(run, next, n)
 }
 
-pub(crate) fn connect(
-    line: &[u8],
-    r: Read,
-    run: Run,
-    area: &mut [u8],
-    t: &mut [u8],
-    bytes: &[u8],
-) -> Run {
+pub(crate) fn connect(line: &[u8], r: Read, run: Run, area: &mut [u8], t: &mut [u8]) -> Run {
     let h = heard_first(line, r);
     let session = whole(line, h.read);
     let db = single(line, session);
@@ -148,15 +128,9 @@ pub(crate) fn connect(
         slot: u8_of(slot.value),
         cue: cue.value == 1,
     };
-    receive(
-        run,
-        area,
-        t,
-        h.heard,
-        Reply::ConnAck(reply),
-        &bytes[..0],
-        b"connect",
-    )
+    let lent = least(run.area, area);
+    let q = held::connect(run.p, run.s, &mut area[..lent], h.heard, reply);
+    answered(run, q, t, b"connect")
 }
 
 // A short ack's line, and whether it was right.
@@ -196,29 +170,16 @@ fn short_words(line: &[u8], r: Read) -> ShortLine {
     }
 }
 
-pub(crate) fn short(
-    line: &[u8],
-    r: Read,
-    run: Run,
-    area: &mut [u8],
-    t: &mut [u8],
-    bytes: &[u8],
-) -> Run {
+pub(crate) fn short(line: &[u8], r: Read, run: Run, area: &mut [u8], t: &mut [u8]) -> Run {
     let q = short_words(line, r);
     if !q.ok {
         return failed(run);
     }
     let h = q.hearing;
     let reply = q.reply;
-    receive(
-        run,
-        area,
-        t,
-        h.heard,
-        Reply::Ack(reply),
-        &bytes[..0],
-        b"short",
-    )
+    let lent = least(run.area, area);
+    let q = held::short_ack(run.p, run.s, &mut area[..lent], h.heard, reply);
+    answered(run, q, t, b"short")
 }
 
 // A long ack's line: the reply, how many bytes its payload has, and how far it was read.
@@ -251,15 +212,9 @@ fn long_call(q: LongLine, run: Run, area: &mut [u8], t: &mut [u8], bytes: &[u8])
     let n = least(q.payload, bytes);
     let h = q.hearing;
     let reply = q.reply;
-    receive(
-        run,
-        area,
-        t,
-        h.heard,
-        Reply::LongAck(reply),
-        &bytes[..n],
-        b"long",
-    )
+    let lent = least(run.area, area);
+    let q = held::long_ack(run.p, run.s, &mut area[..lent], h.heard, reply, &bytes[..n]);
+    answered(run, q, t, b"long")
 }
 
 pub(crate) fn long(
@@ -277,14 +232,7 @@ pub(crate) fn long(
     long_call(q, run, area, t, bytes)
 }
 
-pub(crate) fn turn(
-    line: &[u8],
-    r: Read,
-    run: Run,
-    area: &mut [u8],
-    t: &mut [u8],
-    bytes: &[u8],
-) -> Run {
+pub(crate) fn turn(line: &[u8], r: Read, run: Run, area: &mut [u8], t: &mut [u8]) -> Run {
     let h = heard_first(line, r);
     let no_db = none(line, h.read);
     let db = single(line, h.read);
@@ -295,25 +243,17 @@ pub(crate) fn turn(
         set: !no_db.ok,
         db: single_of(db.value),
     };
-    receive(
-        run,
-        area,
-        t,
-        h.heard,
-        Reply::Turn(Turn { report }),
-        &bytes[..0],
-        b"turn",
-    )
+    let reply = Turn { report };
+    let lent = least(run.area, area);
+    let q = held::turn(run.p, run.s, &mut area[..lent], h.heard, reply);
+    answered(run, q, t, b"turn")
 }
 
 fn queue_call(n: usize, run: Run, area: &mut [u8], t: &mut [u8], bytes: &[u8]) -> Run {
     let k = least(n, bytes);
     let lent = least(run.area, area);
-    let q = queue(run.p, run.s, &mut area[..lent], &bytes[..k]);
-    let v = q.verdict;
-    let text = answer(t, run.text, b"queue", number(v));
-    let next = q.next;
-    moved(run, next, text)
+    let q = held::queue(run.p, run.s, &mut area[..lent], &bytes[..k]);
+    answered(run, q, t, b"queue")
 }
 
 pub(crate) fn queue_bytes(
@@ -425,9 +365,9 @@ fn frame_size(p: Profile, s: Sender) -> usize {
 }
 
 // The answer to a burst, whose frames stand in the output.
-fn burst_answer(run: Run, b: Bursted, t: &mut [u8], out: &[u8]) -> Run {
-    let v = b.verdict;
-    let refusal = number(v);
+fn burst_answer(run: Run, q: LeftBurst, t: &mut [u8], out: &[u8]) -> Run {
+    let b = q.burst;
+    let refusal = b.refusal;
     if refusal != 0 {
         let n = answer(t, run.text, b"burst", refusal);
         return with_text(run, n);
@@ -435,14 +375,14 @@ fn burst_answer(run: Run, b: Bursted, t: &mut [u8], out: &[u8]) -> Run {
     let sent = b.outgoing;
     let n = burst_line(t, run.text, sent);
     let n = frames(t, n, sent.frames, out, frame_size(run.p, run.s));
-    let next = b.next;
+    let next = q.next;
     moved(run, next, n)
 }
 
-fn burst_call(run: Run, area: &mut [u8], out: &mut [u8]) -> Bursted {
+fn burst_call(run: Run, area: &mut [u8], out: &mut [u8]) -> LeftBurst {
     let lent = least(run.area, area);
     let most = least(run.out, out);
-    data_burst(run.p, run.s, &mut area[..lent], &mut out[..most])
+    held::data_burst(run.p, run.s, &mut area[..lent], &mut out[..most])
 }
 
 pub(crate) fn burst(
@@ -463,7 +403,7 @@ pub(crate) fn burst(
 // A piece that is there.
 fn piece_bytes(run: Run, area: &[u8], t: &mut [u8], n: usize, off: u32) -> usize {
     let lent = least(run.area, area);
-    let b = sender::piece(run.p, run.s, &area[..lent], off);
+    let b = held::piece(run.p, run.s, &area[..lent], off);
     let n = puts(t, n, b"piece");
     let n = put_hex(t, n, b);
     newline(t, n)
@@ -476,14 +416,12 @@ pub(crate) fn piece(line: &[u8], r: Read, run: Run, area: &[u8], t: &mut [u8]) -
     }
     let lent = least(run.area, area);
     let off = (q.value % 4294967296) as u32;
-    let f = sender::find(run.p, run.s, &area[..lent], off);
-    let v = f.verdict;
-    let refusal = number(v);
+    let found = held::find(run.p, run.s, &area[..lent], off);
+    let refusal = found.refusal;
     if refusal != 0 {
         let n = answer(t, run.text, b"piece", refusal);
         return with_text(run, n);
     }
-    let found = f.found;
     if found.here & (q.value < 4294967296) {
         let n = piece_bytes(run, area, t, run.text, off);
         return with_text(run, n);

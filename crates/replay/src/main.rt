@@ -1,5 +1,6 @@
 // Reads a call list on standard input, makes its calls and writes the transcript on standard output (docs/CALLS.md).
 mod calls;
+mod held;
 mod profile;
 mod state;
 mod text;
@@ -86,7 +87,7 @@ fn profile_step(line: &[u8], run: Run, area: &mut [u8], out: &mut [u8], v: &mut 
 fn reply(line: &[u8], run: Run, area: &mut [u8], t: &mut [u8], bytes: &mut [u8]) -> Run {
     let r = word(line, 0, b"short");
     if r.ok {
-        return calls::short(line, r, run, area, t, bytes);
+        return calls::short(line, r, run, area, t);
     }
     let r = word(line, 0, b"long");
     if r.ok {
@@ -94,11 +95,11 @@ fn reply(line: &[u8], run: Run, area: &mut [u8], t: &mut [u8], bytes: &mut [u8])
     }
     let r = word(line, 0, b"turn");
     if r.ok {
-        return calls::turn(line, r, run, area, t, bytes);
+        return calls::turn(line, r, run, area, t);
     }
     let r = word(line, 0, b"connect");
     if r.ok {
-        return calls::connect(line, r, run, area, t, bytes);
+        return calls::connect(line, r, run, area, t);
     }
     failed(run)
 }

@@ -1,1 +1,1 @@
-pub mod Station
+pub mod Exported

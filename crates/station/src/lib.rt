@@ -1,75 +1,130 @@
-// The thin layer: a station program holds one record, and each call of the sender changes it. No call requires anything; the profile is
-// read where it lies.
+// The thin layer: a station program holds one record, and each call of the sender changes it. The calls are exported, for C to link: a slice goes
+// as a pointer and a length. No call requires anything; the profile is read where it lies.
+use answers::Ack;
+use answers::ConnAck;
 use answers::Heard;
+use answers::LongAck;
+use answers::Turn;
 use config::Profile;
-use outgoing::Outgoing;
+use numbered::Burst;
+use numbered::Place;
 use record::Sender;
-use refusals::Reply;
-use refusals::Verdict;
-use sender::Finding;
 ghost use mathlib.Core.Path.{_≡_};
+ghost use mathlib.Core.List.{[]};
 ghost use Rattle.record.specs.Fresh.{fresh};
 ghost use Rattle.sender.specs.Calls.{queueOf, receiveOf, findOf, pieceOf, burstCall};
-ghost use Rattle.station.specs.Station.{queued, received, bursted};
+ghost use Rattle.refusals.specs.declared.Reply.the-variants as R;
+ghost use Rattle.numbered.specs.Numbered.{queueNumber, replyNumber, burstNumber, findNumber};
+ghost use Rattle.station.specs.Exported.{left, leftBurst};
 
-// What becomes of a burst: its verdict, and where it is accepted its header and its frames.
-pub struct Sent {
-    pub verdict: Verdict,
-    pub outgoing: Outgoing,
-}
-
-// Station::new.
-pub fn fresh() -> Sender
-    ensures { λ r. ⌜ r ≡ fresh ⌝ }
+// The record of a new sender.
+#[no_mangle]
+pub extern "C" fn vanitycrow_fresh(s: &mut Sender)
+    ensures { λ _. ⌜ now (s .exit) ≡ fresh ⌝ }
 {
-    sender::fresh()
+    let f = record::fresh();
+    *s = f;
 }
 
 // Bytes to send.
-pub fn queue(p: &Profile, s: &mut Sender, a: &mut [u8], bytes: &[u8]) -> Verdict
-    ensures { λ r. ⌜ (queued r (now (s .exit)), now (a .exit)) ≡ queueOf (now (p .entry)) (now (s .entry)) (now (a .entry)) (now (bytes .entry)) ⌝ }
+#[no_mangle]
+pub extern "C" fn vanitycrow_queue(p: &Profile, s: &mut Sender, a: &mut [u8], bytes: &[u8]) -> u8
+    ensures { λ r. ⌜ (left r (now (s .exit)), now (a .exit)) ≡ queueNumber (queueOf (now (p .entry)) (now (s .entry)) (now (a .entry)) (now (bytes .entry))) ⌝ }
 {
-    let q = sender::queue(*p, *s, a, bytes);
+    let q = numbered::queue(*p, *s, a, bytes);
     *s = q.next;
-    q.verdict
+    q.refusal
 }
 
-// A reply, and a long ack's payload.
-pub fn sender_rx(
+// A connect answer.
+#[no_mangle]
+pub extern "C" fn vanitycrow_connect(
     p: &Profile,
     s: &mut Sender,
     a: &mut [u8],
     h: Heard,
-    r: Reply,
-    payload: &[u8],
-) -> Verdict
-    ensures { λ v. ⌜ (received v (now (s .exit)), now (a .exit)) ≡ receiveOf (now (p .entry)) (now (s .entry)) (now (a .entry)) h r (now (payload .entry)) ⌝ }
+    r: ConnAck,
+) -> u8
+    ensures { λ q. ⌜ (left q (now (s .exit)), now (a .exit)) ≡ replyNumber (receiveOf (now (p .entry)) (now (s .entry)) (now (a .entry)) h (R.ConnAck r) []) ⌝ }
 {
-    let q = sender::sender_rx(*p, *s, a, h, r, payload);
+    let q = numbered::connect(*p, *s, a, h, r);
     *s = q.next;
-    q.verdict
+    q.refusal
+}
+
+// A short ack.
+#[no_mangle]
+pub extern "C" fn vanitycrow_short_ack(
+    p: &Profile,
+    s: &mut Sender,
+    a: &mut [u8],
+    h: Heard,
+    r: Ack,
+) -> u8
+    ensures { λ q. ⌜ (left q (now (s .exit)), now (a .exit)) ≡ replyNumber (receiveOf (now (p .entry)) (now (s .entry)) (now (a .entry)) h (R.Ack r) []) ⌝ }
+{
+    let q = numbered::short_ack(*p, *s, a, h, r);
+    *s = q.next;
+    q.refusal
+}
+
+// A long ack and its payload.
+#[no_mangle]
+pub extern "C" fn vanitycrow_long_ack(
+    p: &Profile,
+    s: &mut Sender,
+    a: &mut [u8],
+    h: Heard,
+    r: LongAck,
+    payload: &[u8],
+) -> u8
+    ensures { λ q. ⌜ (left q (now (s .exit)), now (a .exit)) ≡ replyNumber (receiveOf (now (p .entry)) (now (s .entry)) (now (a .entry)) h (R.LongAck r) (now (payload .entry))) ⌝ }
+{
+    let q = numbered::long_ack(*p, *s, a, h, r, payload);
+    *s = q.next;
+    q.refusal
+}
+
+// A turn.
+#[no_mangle]
+pub extern "C" fn vanitycrow_turn(
+    p: &Profile,
+    s: &mut Sender,
+    a: &mut [u8],
+    h: Heard,
+    r: Turn,
+) -> u8
+    ensures { λ q. ⌜ (left q (now (s .exit)), now (a .exit)) ≡ replyNumber (receiveOf (now (p .entry)) (now (s .entry)) (now (a .entry)) h (R.Turn r) []) ⌝ }
+{
+    let q = numbered::turn(*p, *s, a, h, r);
+    *s = q.next;
+    q.refusal
 }
 
 // The next burst. Its frames stand in the output back to back.
-pub fn data_burst(p: &Profile, s: &mut Sender, a: &mut [u8], out: &mut [u8]) -> Sent
-    ensures { λ r. ⌜ (bursted r (now (s .exit)), (now (a .exit), now (out .exit))) ≡ burstCall (now (p .entry)) (now (s .entry)) (now (a .entry)) (now (out .entry)) ⌝ }
+#[no_mangle]
+pub extern "C" fn vanitycrow_data_burst(
+    p: &Profile,
+    s: &mut Sender,
+    a: &mut [u8],
+    out: &mut [u8],
+) -> Burst
+    ensures { λ r. ⌜ (leftBurst r (now (s .exit)), (now (a .exit), now (out .exit))) ≡ burstNumber (burstCall (now (p .entry)) (now (s .entry)) (now (a .entry)) (now (out .entry))) ⌝ }
 {
-    let q = sender::data_burst(*p, *s, a, out);
+    let q = numbered::data_burst(*p, *s, a, out);
     *s = q.next;
-    Sent {
-        verdict: q.verdict,
-        outgoing: q.outgoing,
-    }
+    q.burst
 }
 
 // Where the bytes of the piece at `off` lie in the work area.
-pub fn find(p: &Profile, s: &Sender, a: &[u8], off: u32) -> Finding
-    ensures { λ r. ⌜ r ≡ findOf (now (p .entry)) (now (s .entry)) (now (a .entry)) off ⌝ }
+#[no_mangle]
+pub extern "C" fn vanitycrow_find(p: &Profile, s: &Sender, a: &[u8], off: u32) -> Place
+    ensures { λ r. ⌜ r ≡ findNumber (findOf (now (p .entry)) (now (s .entry)) (now (a .entry)) off) ⌝ }
 {
-    sender::find(*p, *s, a, off)
+    numbered::find(*p, *s, a, off)
 }
 
-// The bytes of the piece at `off`: the part of the work area that holds them. Empty where refused or not found.
+// The bytes of the piece at `off`: the part of the work area that holds them. Empty where refused or not found. No reference is handed to C.
 pub fn piece<'a>(p: &Profile, s: &Sender, a: &'a [u8], off: u32) -> &'a [u8]
     ensures { λ b. ⌜ now b ≡ pieceOf (now (p .entry)) (now (s .entry)) (now (a .entry)) off ⌝ }
 {
