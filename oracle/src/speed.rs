@@ -41,10 +41,10 @@ impl Spread {
     }
 }
 
-/// What is printed at the end of how the targets fared.
 struct Report {
     clock_ns: f64,
-    missed: Vec<String>,
+    /// The kind of call, the link, and how many times as fast as the original the port was.
+    ratios: Vec<(Kind, &'static str, f64)>,
     worst: f64,
 }
 
@@ -54,7 +54,7 @@ fn judged(met: bool) -> &'static str {
 
 impl Report {
     /// The times of one kind of call.
-    fn row(&mut self, name: &str, clock: &Clock, (kind, word): (Kind, &str)) {
+    fn row(&mut self, name: &'static str, clock: &Clock, (kind, word): (Kind, &str)) {
         let samples = clock.samples(kind);
         if samples.is_empty() {
             return;
@@ -65,23 +65,21 @@ impl Report {
         let Spread([low, _, high, _]) = Spread::of(samples.iter().map(|s| net(s[0]) / net(s[1])));
         let (ratio, target) = (original.median() / port.median(), wanted(kind));
         println!(
-            "  {word:9}  original {:28}  port {:28}  ratio {ratio:6.2} ({low:.2} to {high:.2}; target {target}): {}",
+            "  {word:9}  original {:28}  port {:28}  ratio {ratio:6.3} ({low:.3} to {high:.3}; target {target}): {}",
             original.micro(),
             port.micro(),
             judged(ratio >= target)
         );
-        if ratio < target {
-            self.missed.push(format!("{word}, {name}: {ratio:.2}, target {target}"));
-        }
+        self.ratios.push((kind, name, ratio));
     }
 
-    fn rows(&mut self, name: &str, clock: &Clock, kinds: &[(Kind, &str)]) {
+    fn rows(&mut self, name: &'static str, clock: &Clock, kinds: &[(Kind, &str)]) {
         for &kind in kinds {
             self.row(name, clock, kind);
         }
     }
 
-    fn link(&mut self, name: &str, (clock, sent): (Clock, Sent)) {
+    fn link(&mut self, name: &'static str, (clock, sent): (Clock, Sent)) {
         println!(
             "{name}: level {}, {} frames of {} bytes",
             sent.level, sent.frames, sent.frame_bytes
@@ -113,13 +111,17 @@ impl Report {
         );
     }
 
+    /// Where each kind's target was met and where not.
     fn finish(&self) {
-        println!("targets: burst 5 times as fast as the original, acks and queuing no slower");
-        if self.missed.is_empty() {
-            println!("  all met");
-        }
-        for line in &self.missed {
-            println!("  missed: {line}");
+        for (kind, word) in &KINDS[..4] {
+            let of_kind = || self.ratios.iter().filter(|r| r.0 == *kind);
+            let short = of_kind().filter(|r| r.2 < wanted(*kind));
+            let missed: Vec<String> = short.map(|r| format!("{} ({:.3})", r.1, r.2)).collect();
+            print!("{word}: at least {} times as fast as the original on ", wanted(*kind));
+            println!("{} links of {}", of_kind().count() - missed.len(), of_kind().count());
+            if !missed.is_empty() {
+                println!("  missed: {}", missed.join(", "));
+            }
         }
     }
 }
@@ -151,15 +153,15 @@ pub fn speed() -> Result<(), String> {
     println!("the clock's own {clock_ns:.0} ns are taken off");
     let mut report = Report {
         clock_ns,
-        missed: Vec::new(),
+        ratios: Vec::new(),
         worst: 0.0,
     };
     for link in scenarios::links() {
         report.link(link.name, link.times());
     }
     let (held, sent) = scenarios::held_times();
-    report.link("many short pieces: 2,048, 64 held", (held.clone(), sent));
-    println!("plain queuing of 170 bytes");
+    report.link("2,048 short pieces, 64 held", (held.clone(), sent));
+    println!("plain queuing: 170 bytes");
     report.rows("plain queuing", &scenarios::plain_times(), &KINDS[3..4]);
     report.worst_cases(&held);
     report.finish();

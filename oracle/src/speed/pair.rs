@@ -2,9 +2,11 @@
 //!
 //! What is measured of the original is `data_burst`, `sender_rx` on the message that the receiver hands over, or the
 //! extension of its queue. The refusals and the airtime of harness.rs are left out, the profile's numbers are set before
-//! (active.rs), and the message is made before. What a burst allocates is freed later.
+//! (active.rs), and so is the message made. `exp` is document 01's E on both sides. What a burst allocates is freed later;
+//! a long ack's frame is freed within.
 //!
-//! What is measured of the port is the call through the C interface, its refusals and its airtime included.
+//! What is measured of the port is the call through the C interface, with its refusals and its airtime, and the binding's
+//! copy of a burst's answer (1 KB).
 
 use super::meter::{Kind, Meter};
 use super::port;

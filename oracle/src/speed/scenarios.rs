@@ -8,13 +8,14 @@ use crate::rng::Rng;
 
 /// The far station's report, dB: every level is within reach.
 const REPORT_DB: f32 = 30.0;
+/// Rounds before those that are timed: the gear climbs, and buffers grow.
 const WARM_ROUNDS: usize = 200;
-/// The largest 4-byte queuings fit the queue beside 64 bytes.
+/// With the warm ones, 4 bytes of each fit the queue.
 const ROUNDS: usize = 2000;
 /// Bytes of a plain queuing: a frame's payload.
 const PLAIN_BYTES: usize = 170;
 
-/// A link under way: each round fills the queue, sends a burst and answers it.
+/// A link: each round fills the queue, sends a burst and answers it.
 pub struct Link {
     pub name: &'static str,
     profile: Profile,
@@ -139,7 +140,7 @@ pub fn before_split<M: Meter>(meter: M, merge: bool) -> Pair<M> {
     pair
 }
 
-/// The same, just after, with the burst unanswered at first; at a long level again.
+/// The same with 2,048 pieces, at a long level again.
 pub fn after_split<M: Meter>(meter: M, merge: bool) -> Pair<M> {
     let mut pair = before_split(meter, merge);
     let sent = pair.burst();
