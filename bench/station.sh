@@ -16,6 +16,7 @@ export VANITYCROW_LIB
 oracle/run speed
 # What the library asks for and doesn't have itself: with no function that allocates, it has no heap.
 outside=$(nm "$VANITYCROW_LIB/libstation_c.a" | awk '$1 == "U" { asked[$2] } NF == 3 { had[$3] } END { for (s in asked) if (!(s in had)) print s }' | sort)
+# shellcheck disable=SC2086
 echo "the library's symbols from outside:" ${outside:-none}
 if echo "$outside" | grep -q -E 'alloc|free|map|brk|_Zn'; then
     echo "heap: the library may use one"

@@ -20,15 +20,15 @@ fn wanted(kind: Kind) -> f64 {
     if kind == Kind::Burst { 5.0 } else { 1.0 }
 }
 
-/// The lower quartile, the median and the upper quartile, and the largest.
-struct Spread([f64; 4]);
+/// The lower quartile, the median, the upper quartile, what 99 of 100 are within, and the largest.
+struct Spread([f64; 5]);
 
 impl Spread {
     fn of(values: impl Iterator<Item = f64>) -> Self {
         let mut v: Vec<f64> = values.collect();
         v.sort_by(f64::total_cmp);
         let n = v.len();
-        Self([v[n / 4], v[n / 2], v[n - 1 - n / 4], v[n - 1]])
+        Self([v[n / 4], v[n / 2], v[n - 1 - n / 4], v[n - 1 - n / 100], v[n - 1]])
     }
 
     fn median(&self) -> f64 {
@@ -36,7 +36,7 @@ impl Spread {
     }
 
     fn micro(&self) -> String {
-        let [low, median, high, _] = self.0.map(|ns| ns / 1000.0);
+        let [low, median, high, ..] = self.0.map(|ns| ns / 1000.0);
         format!("{median:8.3} ({low:.3} to {high:.3})")
     }
 }
@@ -62,7 +62,7 @@ impl Report {
         let net = |ns: f64| (ns - self.clock_ns).max(1.0);
         let original = Spread::of(samples.iter().map(|s| net(s[0])));
         let port = Spread::of(samples.iter().map(|s| net(s[1])));
-        let Spread([low, _, high, _]) = Spread::of(samples.iter().map(|s| net(s[0]) / net(s[1])));
+        let Spread([low, _, high, ..]) = Spread::of(samples.iter().map(|s| net(s[0]) / net(s[1])));
         let (ratio, target) = (original.median() / port.median(), wanted(kind));
         println!(
             "  {word:9}  original {:28}  port {:28}  ratio {ratio:6.3} ({low:.3} to {high:.3}; target {target}): {}",
@@ -90,7 +90,11 @@ impl Report {
     /// The port's time at its fullest work area.
     fn worst(&mut self, name: &str, clock: &Clock, kind: Kind) {
         let port = Spread::of(clock.samples(kind).iter().map(|s| s[1] - self.clock_ns));
-        println!("  {name:42} {} us, at most {:.3}", port.micro(), port.0[3] / 1000.0);
+        let [.., most, largest] = port.0.map(|ns| ns / 1000.0);
+        println!(
+            "  {name:38} {:28} us; 99 of 100 within {most:.1}, all within {largest:.1}",
+            port.micro()
+        );
         self.worst = self.worst.max(port.median());
     }
 
