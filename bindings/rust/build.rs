@@ -6,4 +6,5 @@ fn main() {
     println!("cargo:rustc-link-search=native={folder}");
     println!("cargo:rustc-link-lib=static=station_c");
     println!("cargo:rerun-if-env-changed=VANITYCROW_LIB");
+    println!("cargo:rerun-if-changed={folder}/libstation_c.a");
 }

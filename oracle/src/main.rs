@@ -23,6 +23,8 @@ mod profiles;
 mod progress;
 mod rng;
 mod shrink;
+#[cfg(feature = "port")]
+mod speed;
 #[cfg(test)]
 mod tests;
 mod transcript;
@@ -35,6 +37,7 @@ const USAGE: &str = "usage:
   oracle audit [SEED LISTS CALLS]            demand 3 and the sound record on generated lists
   oracle gear SEED COUNT                     COUNT decisions of the original's gear, as crates/gear_cases reads them
   oracle bench                               nanoseconds of the original's on_ack in Goodput: the median, the quartiles
+  oracle speed                               times of the original and of the port side by side (only with the feature port)
   oracle compare PROGRAM SECONDS SEED        PROGRAM, which reads a list and writes its transcript, against the original";
 
 fn read_list(name: &str) -> Result<Vec<u8>, String> {
@@ -82,6 +85,8 @@ fn run(args: &[&str]) -> Result<(), String> {
             let [low, median, high] = bench::bench();
             put(format!("{median:.1} {low:.1} {high:.1}\n").as_bytes())
         }
+        #[cfg(feature = "port")]
+        ["speed"] => speed::speed(),
         ["audit"] => audit::audit(1, 4000, 80),
         ["audit", seed, lists, calls] => audit::audit(number(seed)?, number(lists)?, count(calls)?),
         ["compare", program, seconds, seed] => compare::compare(program, number(seconds)?, number(seed)?),

@@ -235,7 +235,7 @@ impl Profile {
         }
     }
 
-    fn maybe_f32(&self, line: usize) -> Option<f32> {
+    pub fn maybe_f32(&self, line: usize) -> Option<f32> {
         match self.values[line][0] {
             Value::F32(x) => Some(x),
             _ => None,

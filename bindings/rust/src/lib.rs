@@ -56,6 +56,7 @@ fn told(number: u8) -> Result<(), Refusal> {
 }
 
 /// A sender with its profile and its work area.
+#[derive(Clone)]
 pub struct Station {
     profile: Profile,
     sender: Sender,

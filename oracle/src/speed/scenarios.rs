@@ -1,0 +1,208 @@
+//! The links on which both sides are measured.
+
+use super::meter::{Clock, Meter};
+use super::pair::{Pair, Reply, Sent};
+use crate::harness::WAITING_MOST;
+use crate::profile::*;
+use crate::rng::Rng;
+
+/// The far station's report, dB: every level is within reach.
+const REPORT_DB: f32 = 30.0;
+/// Rounds before those that are timed: the gear climbs, and buffers grow.
+const WARM_ROUNDS: usize = 200;
+/// With the warm ones, 4 bytes of each fit the queue.
+const ROUNDS: usize = 2000;
+/// Bytes of a plain queuing: a frame's payload.
+const PLAIN_BYTES: usize = 170;
+
+/// A link: each round fills the queue, sends a burst and answers it.
+pub struct Link {
+    pub name: &'static str,
+    profile: Profile,
+    /// Of a burst's frames, those that arrive.
+    arrive: fn(usize) -> u64,
+}
+
+fn all(frames: usize) -> u64 {
+    u64::MAX >> (64 - frames)
+}
+
+fn two_thirds(frames: usize) -> u64 {
+    all(frames) & 0x6DB6_DB6D_B6DB_6DB6
+}
+
+fn set(p: &mut Profile, line: usize, at: usize, value: Value) {
+    p.values[line][at] = value;
+}
+
+fn pinned(level: u64) -> Profile {
+    let mut p = Profile::usual();
+    set(&mut p, PIN, 0, Value::Whole(level));
+    p
+}
+
+fn ladder() -> Profile {
+    let mut p = Profile::usual();
+    set(&mut p, GEAR, 0, Value::Choice(1));
+    p
+}
+
+/// 64 frames of 512 bytes fit a burst.
+fn largest() -> Profile {
+    let mut p = Profile::usual();
+    set(&mut p, FRAME_BYTES, 1, Value::Whole(512));
+    set(&mut p, 16, 2, Value::F64(16_800.0));
+    p
+}
+
+/// 255 bytes are cut to 32 pieces at the short levels; 64 frames of 8 bits fit a burst, and stay held for 4,096 of them.
+fn short_pieces(merge: bool) -> Profile {
+    let mut p = pinned(16);
+    set(&mut p, FRAME_BYTES, 0, Value::Whole(18));
+    set(&mut p, FRAME_BYTES, 1, Value::Whole(512));
+    set(&mut p, 16, 0, Value::Whole(8));
+    p.values[HARQ] = vec![Value::Whole(1); 7];
+    set(&mut p, HARQ, 0, Value::Whole(16_384));
+    set(&mut p, ON, on::MERGE_PIECES, Value::Flag(merge));
+    p
+}
+
+pub fn links() -> Vec<Link> {
+    let link = |name, profile, arrive| Link { name, profile, arrive };
+    vec![
+        link("free gear", Profile::usual(), all as fn(usize) -> u64),
+        link("pinned 10", pinned(10), all),
+        link("pinned 0", pinned(0), all),
+        link("Ladder", ladder(), all),
+        link("one third lost and held", Profile::usual(), two_thirds),
+        link("64 frames of 512 bytes", largest(), all),
+    ]
+}
+
+fn bytes() -> Vec<u8> {
+    Rng::new(1, 1).bytes(WAITING_MOST)
+}
+
+fn reply(sent: Sent, bitmap: u64) -> Reply {
+    Reply {
+        burst: sent.number,
+        bitmap,
+        stored: true,
+        db: REPORT_DB,
+    }
+}
+
+/// A short ack every other time where it can say as much.
+fn ack<M: Meter>(pair: &mut Pair<M>, round: usize, sent: Sent, bitmap: u64) {
+    let short = bitmap == 0 || bitmap == all(sent.frames) || sent.frames <= 6;
+    if short && round.is_multiple_of(2) {
+        pair.short(reply(sent, bitmap));
+    } else {
+        pair.long(reply(sent, bitmap));
+    }
+}
+
+impl Link {
+    /// The rounds from `from` up to `to`, and the last burst of them.
+    fn rounds<M: Meter>(&self, pair: &mut Pair<M>, from: usize, to: usize) -> Option<Sent> {
+        let bytes = bytes();
+        let mut last = None;
+        for round in from..to {
+            pair.queue(&bytes[pair.original.out.len()..]);
+            let sent = pair.burst();
+            ack(pair, round, sent, (self.arrive)(sent.frames));
+            last = Some(sent);
+        }
+        last
+    }
+
+    pub fn start<M: Meter>(&self, meter: M) -> Pair<M> {
+        let mut pair = Pair::new(meter, &self.profile, REPORT_DB);
+        self.rounds(&mut pair, 0, WARM_ROUNDS);
+        pair
+    }
+
+    /// The times of the rounds after the first ones, and the last burst.
+    pub fn times(&self) -> (Clock, Sent) {
+        let mut pair = self.start(Clock::default()).with(Clock::default());
+        let sent = self.rounds(&mut pair, WARM_ROUNDS, WARM_ROUNDS + ROUNDS);
+        (pair.meter, sent.expect("there are rounds"))
+    }
+}
+
+/// A sender with 64 pieces of 255 bytes in flight, just before it cuts them to 2,048.
+pub fn before_split<M: Meter>(meter: M, merge: bool) -> Pair<M> {
+    let mut pair = Pair::new(meter, &short_pieces(merge), REPORT_DB);
+    pair.queue(&bytes());
+    let sent = pair.burst();
+    assert_eq!((sent.frames, pair.original.out.len()), (64, 64));
+    pair.turn(2, REPORT_DB);
+    pair
+}
+
+/// The same with 2,048 pieces, at a long level again.
+pub fn after_split<M: Meter>(meter: M, merge: bool) -> Pair<M> {
+    let mut pair = before_split(meter, merge);
+    let sent = pair.burst();
+    assert_eq!(pair.original.inflight.len(), 2048);
+    pair.short(reply(sent, 0));
+    assert_eq!(pair.original.level, 16);
+    pair
+}
+
+/// Rounds with 2,048 pieces of which 64 are held and sent again, and 4 bytes queued.
+fn held_rounds<M: Meter>(pair: &mut Pair<M>, count: usize) -> Sent {
+    let mut last = None;
+    for round in 0..count {
+        pair.queue(&[round as u8; 4]);
+        let sent = pair.burst();
+        assert_eq!((sent.frames, pair.original.inflight.len()), (64, 2048));
+        ack(pair, round, sent, 0);
+        assert_eq!(pair.original.at_peer.len(), 64);
+        last = Some(sent);
+    }
+    last.expect("there are rounds")
+}
+
+pub fn held<M: Meter>(meter: M) -> Pair<M> {
+    let mut pair = after_split(meter, false);
+    held_rounds(&mut pair, WARM_ROUNDS);
+    pair
+}
+
+pub fn held_times() -> (Clock, Sent) {
+    let mut pair = held(Clock::default()).with(Clock::default());
+    let sent = held_rounds(&mut pair, ROUNDS);
+    (pair.meter, sent)
+}
+
+/// A burst over and over from one state.
+pub fn burst_times(state: &Pair<Clock>) -> (Clock, Sent) {
+    let mut clock = Clock::default();
+    let mut last = None;
+    for _ in 0..ROUNDS / 4 {
+        let mut pair = state.with(clock);
+        last = Some(pair.burst());
+        clock = pair.meter;
+    }
+    (clock, last.expect("there are rounds"))
+}
+
+/// Queuings of a frame's payload each, from an empty queue to a full one; what is queued then goes out.
+pub fn plain_times() -> Clock {
+    let bytes = bytes();
+    let link = &links()[0];
+    let mut pair = Pair::new(Clock::default(), &link.profile, REPORT_DB);
+    let mut round = 0;
+    while round < ROUNDS {
+        for part in bytes.chunks_exact(PLAIN_BYTES) {
+            pair.queue(part);
+            round += 1;
+        }
+        while !pair.original.out.is_empty() {
+            let sent = pair.burst();
+            pair.long(reply(sent, all(sent.frames)));
+        }
+    }
+    pair.meter
+}
