@@ -2,6 +2,7 @@
  * call every byte of profile, record, work area and output is as before. The last line counts the checks; the status is 1 where one failed. */
 #include <math.h>
 #include <stdio.h>
+#include "defined.h"
 #include "usual.h"
 #include "vanitycrow.h"
 
@@ -564,6 +565,7 @@ static int make_stations(void) {
     t->p = usual();
     memset(t->area, 0, VANITYCROW_AREA_BYTES);
     vanitycrow_fresh(&t->s);
+    VALGRIND_MAKE_MEM_DEFINED(&t->s, sizeof t->s);
     memcpy(&fresh_one, t, sizeof *t);
     g.h.time = 1;
     g.connect.snr_db = 12;
