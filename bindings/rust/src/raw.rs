@@ -150,16 +150,8 @@ extern "C" {
     pub fn vanitycrow_queue(p: *const Profile, s: *mut Sender, a: *mut u8, a_len: usize, bytes: *const u8, n: usize) -> u8;
     pub fn vanitycrow_connect(p: *const Profile, s: *mut Sender, a: *mut u8, a_len: usize, h: Heard, r: ConnAck) -> u8;
     pub fn vanitycrow_short_ack(p: *const Profile, s: *mut Sender, a: *mut u8, a_len: usize, h: Heard, r: Ack) -> u8;
-    pub fn vanitycrow_long_ack(
-        p: *const Profile,
-        s: *mut Sender,
-        a: *mut u8,
-        a_len: usize,
-        h: Heard,
-        r: LongAck,
-        payload: *const u8,
-        n: usize,
-    ) -> u8;
+    pub fn vanitycrow_long_ack(p: *const Profile, s: *mut Sender, a: *mut u8, a_len: usize, h: Heard, r: LongAck, payload: *const u8, n: usize)
+        -> u8;
     pub fn vanitycrow_turn(p: *const Profile, s: *mut Sender, a: *mut u8, a_len: usize, h: Heard, r: Turn) -> u8;
     pub fn vanitycrow_data_burst(p: *const Profile, s: *mut Sender, a: *mut u8, a_len: usize, out: *mut u8, n: usize) -> Burst;
     pub fn vanitycrow_find(p: *const Profile, s: *const Sender, a: *const u8, a_len: usize, off: u32) -> Place;

@@ -20,7 +20,11 @@ fn singles(xs: &[f32]) -> String {
 }
 
 fn maybe(x: MaybeDb) -> String {
-    if x.set { singles(&[x.db]) } else { " none".to_string() }
+    if x.set {
+        singles(&[x.db])
+    } else {
+        " none".to_string()
+    }
 }
 
 fn flags(xs: &[bool]) -> String {
