@@ -5,6 +5,7 @@ fn main() {
     let folder = std::env::var("VANITYCROW_LIB").unwrap_or(format!("{here}/../../target/staticlib"));
     println!("cargo:rustc-link-search=native={folder}");
     println!("cargo:rustc-link-lib=static=station_c");
+    println!("cargo:rerun-if-changed={folder}/libstation_c.a");
     println!("cargo:rerun-if-env-changed=VANITYCROW_LIB");
     println!("cargo:rerun-if-changed={folder}/libstation_c.a");
 }

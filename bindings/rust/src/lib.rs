@@ -72,11 +72,7 @@ impl Station {
             raw::vanitycrow_fresh(sender.as_mut_ptr());
             sender.assume_init()
         };
-        Station {
-            profile,
-            sender,
-            area: [0; AREA_BYTES],
-        }
+        Station { profile, sender, area: [0; AREA_BYTES] }
     }
 
     pub fn profile(&self) -> &Profile {
@@ -91,9 +87,7 @@ impl Station {
     /// Queues bytes to send.
     pub fn queue(&mut self, bytes: &[u8]) -> Result<(), Refusal> {
         // SAFETY: pointers and lengths are those of live borrows that don't overlap.
-        told(unsafe {
-            raw::vanitycrow_queue(&self.profile, &mut self.sender, self.area.as_mut_ptr(), AREA_BYTES, bytes.as_ptr(), bytes.len())
-        })
+        told(unsafe { raw::vanitycrow_queue(&self.profile, &mut self.sender, self.area.as_mut_ptr(), AREA_BYTES, bytes.as_ptr(), bytes.len()) })
     }
 
     /// The called station's answer.
@@ -131,16 +125,8 @@ impl Station {
     /// The next burst. Its frames stand back to back in `out`, each of `frame_bytes` bytes.
     pub fn data_burst(&mut self, out: &mut [u8]) -> Result<Outgoing, Refusal> {
         // SAFETY: as above.
-        let b = unsafe {
-            raw::vanitycrow_data_burst(
-                &self.profile,
-                &mut self.sender,
-                self.area.as_mut_ptr(),
-                AREA_BYTES,
-                out.as_mut_ptr(),
-                out.len(),
-            )
-        };
+        let b =
+            unsafe { raw::vanitycrow_data_burst(&self.profile, &mut self.sender, self.area.as_mut_ptr(), AREA_BYTES, out.as_mut_ptr(), out.len()) };
         told(b.refusal).map(|()| b.outgoing)
     }
 

@@ -4,7 +4,32 @@ macro_rules! plain {
     ($($(#[$doc:meta])* struct $name:ident { $($field:ident: $type:ty,)* })*) => {
         $($(#[$doc])* #[repr(C)] #[derive(Clone, Copy, Debug, PartialEq)]
         pub struct $name { $(pub $field: $type,)* })*
+
+        /// Size and alignment of every struct; offset, size and type of every field. A test compares these lines with the header's.
+        #[doc(hidden)]
+        pub fn layout() -> String {
+            use std::mem::{align_of, offset_of, size_of};
+            let mut lines = String::new();
+            $(
+                lines += &format!("{} {} {}\n", stringify!($name), size_of::<$name>(), align_of::<$name>());
+                $(
+                    let (offset, size) = (offset_of!($name, $field), size_of::<$type>());
+                    lines += &format!("{}.{} {offset} {size} {}\n", stringify!($name), stringify!($field), kind(stringify!($type)));
+                )*
+            )*
+            lines
+        }
     };
+}
+
+/// The type of a field or of its elements, as C tells them apart: usize is u64 here.
+fn kind(name: &str) -> &str {
+    let element = name.trim_start_matches('[').split(';').next().unwrap_or(name);
+    match element {
+        "bool" | "u8" | "u16" | "u32" | "u64" | "f32" | "f64" => element,
+        "usize" => "u64",
+        _ => "struct",
+    }
 }
 
 plain! {
@@ -125,16 +150,8 @@ extern "C" {
     pub fn vanitycrow_queue(p: *const Profile, s: *mut Sender, a: *mut u8, a_len: usize, bytes: *const u8, n: usize) -> u8;
     pub fn vanitycrow_connect(p: *const Profile, s: *mut Sender, a: *mut u8, a_len: usize, h: Heard, r: ConnAck) -> u8;
     pub fn vanitycrow_short_ack(p: *const Profile, s: *mut Sender, a: *mut u8, a_len: usize, h: Heard, r: Ack) -> u8;
-    pub fn vanitycrow_long_ack(
-        p: *const Profile,
-        s: *mut Sender,
-        a: *mut u8,
-        a_len: usize,
-        h: Heard,
-        r: LongAck,
-        payload: *const u8,
-        n: usize,
-    ) -> u8;
+    pub fn vanitycrow_long_ack(p: *const Profile, s: *mut Sender, a: *mut u8, a_len: usize, h: Heard, r: LongAck, payload: *const u8, n: usize)
+        -> u8;
     pub fn vanitycrow_turn(p: *const Profile, s: *mut Sender, a: *mut u8, a_len: usize, h: Heard, r: Turn) -> u8;
     pub fn vanitycrow_data_burst(p: *const Profile, s: *mut Sender, a: *mut u8, a_len: usize, out: *mut u8, n: usize) -> Burst;
     pub fn vanitycrow_find(p: *const Profile, s: *const Sender, a: *const u8, a_len: usize, off: u32) -> Place;

@@ -1,0 +1,7 @@
+//! The layout of the C interface as this crate has it; tests/layout.c writes the header's.
+
+fn main() {
+    print!("{}", vanitycrow::raw::layout());
+    println!("AREA_BYTES {}", vanitycrow::AREA_BYTES);
+    println!("MAX_SLOTS {}", vanitycrow::MAX_SLOTS);
+}

@@ -1,0 +1,499 @@
+/* Every limit of document 01 through the C interface, field by field: in range on the limit, refused by its number just outside; and after each refused
+ * call every byte of profile, record, work area and output is as before. The last line counts the checks; the status is 1 where one failed. */
+#include <math.h>
+#include <stdio.h>
+#include <string.h>
+#include "stations.h"
+#include "usual.h"
+#include "vanitycrow.h"
+
+/* ---- fields by name, place and range */
+
+enum kind { U8, U32, SIZE, F32, F64 };
+enum sides { BOTH, HIGH_ONLY, OR_NAN }; /* which limits there are; whether not a number is in range */
+
+struct field { const char *name; void *at; enum kind kind; size_t count; double low, high; enum sides sides; };
+
+static size_t size_of(enum kind k) {
+    static const size_t sizes[] = {sizeof(uint8_t), sizeof(uint32_t), sizeof(size_t), sizeof(float), sizeof(double)};
+    return sizes[k];
+}
+
+static void put(void *at, enum kind k, double x) {
+    uint8_t u8 = (uint8_t)(k == U8 ? x : 0);
+    uint32_t u32 = (uint32_t)(k == U32 ? x : 0);
+    size_t size = (size_t)(k == SIZE ? x : 0);
+    float f32 = (float)x;
+    const void *from[] = {&u8, &u32, &size, &f32, &x};
+    memcpy(at, from[k], size_of(k));
+}
+
+/* The next value of the kind above x, or below. */
+static double step(enum kind k, double x, int up) {
+    if (k == F64) return nextafter(x, up ? INFINITY : -INFINITY);
+    if (k == F32) return nextafterf((float)x, up ? INFINITY : -INFINITY);
+    return up ? x + 1 : x - 1;
+}
+
+static double largest(enum kind k) {
+    return k == U8 ? UINT8_MAX : k == U32 ? UINT32_MAX : k == SIZE ? 0x1p63 : INFINITY;
+}
+
+typedef void check_fn(const char *what, uint8_t number);
+
+static void check_value(const struct field *f, size_t i, double x, uint8_t number, check_fn *check) {
+    char what[80];
+    snprintf(what, sizeof what, "%s[%zu] = %.9g", f->name, i, x);
+    put((char *)f->at + i * size_of(f->kind), f->kind, x);
+    check(what, number);
+}
+
+/* Each element: the limits are accepted; outside them, and where it is not a number, `number`. */
+static void check_field(const struct field *f, uint8_t number, check_fn *check) {
+    int is_float = f->kind == F32 || f->kind == F64;
+    for (size_t i = 0; i < f->count; i++) {
+        char *at = (char *)f->at + i * size_of(f->kind);
+        char old[sizeof(double)];
+        memcpy(old, at, size_of(f->kind));
+        check_value(f, i, f->high, 0, check);
+        if (f->high < largest(f->kind)) check_value(f, i, step(f->kind, f->high, 1), number, check);
+        if (f->high < largest(f->kind)) check_value(f, i, largest(f->kind), number, check);
+        check_value(f, i, f->sides == HIGH_ONLY ? -INFINITY : f->low, 0, check);
+        if (f->sides != HIGH_ONLY && (is_float || f->low > 0)) check_value(f, i, step(f->kind, f->low, 0), number, check);
+        if (f->sides != HIGH_ONLY && is_float) check_value(f, i, -INFINITY, number, check);
+        if (is_float) check_value(f, i, NAN, f->sides == OR_NAN ? 0 : number, check);
+        memcpy(at, old, size_of(f->kind));
+        check(f->name, 0);
+    }
+}
+
+static void check_fields(const struct field *f, size_t n, uint8_t number, check_fn *check) {
+    for (size_t i = 0; i < n; i++) check_field(f + i, number, check);
+}
+
+#define COUNT(a) (sizeof(a) / sizeof *(a))
+
+/* ---- the profile: refusals 1 and 2 */
+
+/* All calls, of a sender that is not connected and of one that is. */
+static void profile_check(const char *what, uint8_t number) {
+    struct vanitycrow_profile p = subject.p;
+    memcpy(&subject, &fresh_one, sizeof subject);
+    subject.p = p;
+    expect_all(what, &subject, &given, number);
+    memcpy(&subject, &open_one, sizeof subject);
+    subject.p = p;
+    expect_all(what, &subject, &given, number);
+}
+
+static void profile_numbers(void) {
+    struct vanitycrow_profile *p = &subject.p;
+    const struct field fields[] = {
+        {"air.slot_bits", p->air.slot_bits, U32, 17, 1, 16384, BOTH},
+        {"air.pre_s", p->air.pre_s, F64, 17, 0, 60, BOTH},
+        {"air.rate", p->air.rate, F64, 17, 1, 100000, BOTH},
+        {"air.max_bits", p->air.max_bits, U32, 17, 1, UINT32_MAX, BOTH},
+        {"air.ack_s", p->air.ack_s, F64, 6, 0, 60, BOTH},
+        {"air.cue_s", &p->air.cue_s, F64, 1, 0, 10, BOTH},
+        {"short_bytes", &p->short_bytes, U32, 1, 18, 512, BOTH},
+        {"codes.mother", &p->codes.mother, U32, 1, 1, 16384, BOTH},
+        {"codes.ends", p->codes.ends, U32, 6, 1, 16384, BOTH},
+        {"lengths.max_burst_s", &p->lengths.max_burst_s, F64, 1, 1, 1000, BOTH},
+        {"lengths.max_burst_long_s", &p->lengths.max_burst_long_s, F64, 1, 1, 1000, BOTH},
+        {"lengths.burst_overhead", &p->lengths.burst_overhead, F64, 1, .01, 1, BOTH},
+        {"lengths.turnaround_s", &p->lengths.turnaround_s, F64, 1, 0, 60, BOTH},
+        {"lengths.burst_steady_db", &p->lengths.burst_steady_db, F32, 1, -100, 100, BOTH},
+        {"lengths.burst_climb_db.db", &p->lengths.burst_climb_db.db, F32, 1, -100, 100, BOTH},
+        {"hold_times.fail_hold_s", &p->hold_times.fail_hold_s, F64, 1, 1, 100000, BOTH},
+        {"hold_times.fail_hold_max_s", &p->hold_times.fail_hold_max_s, F64, 1, 0, 1000000, BOTH},
+        {"hold_times.loss_hold_s", &p->hold_times.loss_hold_s, F64, 1, 0, 1000000, BOTH},
+        {"plain.thresholds_db", p->plain.thresholds_db, F32, 17, -100, 100, BOTH},
+        {"plain.margin_db", &p->plain.margin_db, F32, 1, -100, 100, BOTH},
+        {"eff.thresholds_db", p->eff.thresholds_db, F32, 17, -100, 100, BOTH},
+        {"eff.margin_db", &p->eff.margin_db, F32, 1, -100, 100, BOTH},
+        {"cue_below_db", &p->cue_below_db, F32, 1, -100, 100, BOTH},
+        {"start_margin_db.db", &p->start_margin_db.db, F32, 1, -100, 100, BOTH},
+        {"max_level", &p->max_level, SIZE, 1, 0, 16, BOTH},
+        {"skip_slices_from", &p->skip_slices_from, SIZE, 1, 0, 17, BOTH},
+        {"pin_level.level", &p->pin_level.level, SIZE, 1, 0, 16, BOTH},
+        {"power", &p->power, U8, 1, 0, 2, BOTH},
+    };
+    const struct field long_bytes = {"long_bytes", &p->long_bytes, U32, 1, 18, 512, BOTH};
+    p->lengths.burst_climb_db.set = p->start_margin_db.set = p->pin_level.set = true;
+    p->long_bytes = 512;
+    check_fields(fields, COUNT(fields), 1, profile_check);
+    p->short_bytes = 18;
+    check_field(&long_bytes, 1, profile_check);
+}
+
+/* What no range binds: flags, and the values beside flags that are off. */
+static void profile_flags(void) {
+    struct vanitycrow_profile *p = &subject.p;
+    bool *const flags[] = {
+        &p->lengths.burst_adapt, &p->eff_snr, &p->goodput, &p->harq, &p->pick_family, &p->smooth_target, &p->hold_by_goodput, &p->slice_slots,
+        &p->harq_stretch, &p->merge_pieces, &p->cue, &p->harq_partial, &p->lengths.burst_climb_db.set, &p->start_margin_db.set, &p->pin_level.set,
+    };
+    p->lengths.burst_climb_db.set = p->start_margin_db.set = p->pin_level.set = true;
+    for (size_t i = 0; i < COUNT(flags); i++) {
+        *flags[i] = !*flags[i];
+        profile_check("a flag", 0);
+        *flags[i] = !*flags[i];
+    }
+    p->lengths.burst_climb_db = p->start_margin_db = (struct vanitycrow_maybe_db){false, NAN};
+    p->pin_level = (struct vanitycrow_maybe_level){false, 17};
+    profile_check("values beside flags that are off", 0);
+}
+
+static void profile_sizes(void) {
+    struct vanitycrow_profile *p = &subject.p;
+    p->short_bytes = 180;
+    p->long_bytes = 180;
+    profile_check("short = long", 0);
+    p->short_bytes = 181;
+    profile_check("short over long", 2);
+    p->power = 3;
+    profile_check("short over long, and a number out of range", 1);
+}
+
+/* ---- the record and the work area: refusal 3 */
+
+static void record_check(const char *what, uint8_t number) {
+    expect_all(what, &subject, &given, number);
+}
+
+static void record_numbers(void) {
+    struct vanitycrow_gear *g = &subject.s.gear;
+    struct vanitycrow_link *k = &subject.s.link;
+    const struct field fields[] = {
+        {"gear.level", &g->level, SIZE, 1, 0, 16, BOTH},
+        {"gear.target", &g->target, SIZE, 1, 0, 16, BOTH},
+        {"gear.burst_s", &g->burst_s, F64, 1, 1, 1000, BOTH},
+        {"gear.aim_db.db", &g->aim_db.db, F32, 1, -100, 308, BOTH},
+        {"gear.last_report_db.db", &g->last_report_db.db, F32, 1, -100, 308, BOTH},
+        {"gear.snr_reports.count", &g->snr_reports.count, U8, 1, 0, 3, BOTH},
+        {"gear.snr_reports.a", &g->snr_reports.a, F32, 1, -100, 308, BOTH},
+        {"gear.snr_reports.b", &g->snr_reports.b, F32, 1, -100, 308, BOTH},
+        {"gear.snr_reports.c", &g->snr_reports.c, F32, 1, -100, 308, BOTH},
+        {"gear.tries.success", g->tries.success, F32, 17, 0, 1, BOTH},
+        {"gear.tries.success_at", g->tries.success_at, F64, 17, 0, 1000000000, HIGH_ONLY},
+        {"gear.tries.fails", g->tries.fails, U8, 17, 0, 255, BOTH},
+        {"gear.holds.blocked_until", g->holds.blocked_until, F64, 17, 0, 1001000000, HIGH_ONLY},
+        {"link.session", &k->session, U8, 1, 0, 255, BOTH},
+        {"link.last_time", &k->last_time, F64, 1, 0, 1000000000, BOTH},
+        {"link.burst_id", &k->burst_id, U8, 1, 0, 3, BOTH},
+        {"link.peer_heard", &k->peer_heard, U8, 1, 0, 3, BOTH},
+        {"link.peer_slot", &k->peer_slot, U8, 1, 0, 2, BOTH},
+        {"link.peer_doppler_hz", &k->peer_doppler_hz, F32, 1, 0, 63.5, OR_NAN},
+        {"link.peer_wave", &k->peer_wave, U8, 1, 0, 5, BOTH},
+        {"counts.waiting", &subject.s.counts.waiting, U32, 1, 0, 16384, BOTH},
+    };
+    memcpy(&subject, &flown_one, sizeof subject);
+    g->aim_db.set = g->last_report_db.set = k->heard = true;
+    memset(g->tries.tried, 1, sizeof g->tries.tried);
+    check_fields(fields, COUNT(fields), 3, record_check);
+    g->aim_db = g->last_report_db = (struct vanitycrow_maybe_db){false, NAN};
+    record_check("dB beside flags that are off", 0);
+}
+
+/* Held pieces, the outstanding burst and their counts. */
+static void record_lists(void) {
+    struct vanitycrow_at_peer *h = &subject.s.at_peer;
+    struct vanitycrow_last_burst *b = &subject.s.last_burst;
+    uint32_t mother = subject.p.codes.mother;
+    const struct field fields[] = {
+        {"at_peer.bits", h->bits, U32, flown_one.s.at_peer.n, 1, 2.0 * mother - 1, BOTH},
+        {"last_burst.held", b->held, U32, flown_one.s.last_burst.n, 16384, 49151, BOTH},
+        {"last_burst.bits", b->bits, U32, flown_one.s.last_burst.n, 1, 16384, BOTH},
+    };
+    memcpy(&subject, &flown_one, sizeof subject);
+    check_field(fields, 3, record_check);
+    for (size_t i = 0; i < b->n; i++) b->bits[i] = 16384;
+    for (size_t i = 0; i < b->n; i++) b->held[i] = 49151;
+    check_fields(fields + 1, 2, 3, record_check);
+    for (size_t i = 0; i < h->n; i++) {
+        memcpy(&subject, &flown_one, sizeof subject);
+        h->off[i] += 1;
+        record_check("a held offset with no piece", 3);
+        h->off[i] = h->off[i ? 0 : 1];
+        record_check("a held offset twice", 3);
+    }
+    for (size_t i = 0; i < b->n; i++) {
+        memcpy(&subject, &flown_one, sizeof subject);
+        b->off[i] += 1;
+        record_check("an outstanding offset with no piece", 3);
+        b->off[i] = b->off[i ? 0 : 1];
+        record_check("an outstanding offset twice", 3);
+    }
+}
+
+struct change { const char *name; size_t *at; size_t value; uint8_t number; };
+
+static void record_list_counts(void) {
+    struct vanitycrow_sender *s = &subject.s;
+    const size_t held = flown_one.s.at_peer.n;
+    const struct change changes[] = {
+        {"held 65", &s->at_peer.n, 65, 3}, {"held 2^64 - 1", &s->at_peer.n, SIZE_MAX, 3},
+        {"rest over held", &s->at_peer.rest, held + 1, 3}, {"rest 2^64 - 1", &s->at_peer.rest, SIZE_MAX, 3},
+        {"none held", &s->at_peer.n, 0, 0}, {"outstanding 65", &s->last_burst.n, 65, 3},
+        {"outstanding 2^64 - 1", &s->last_burst.n, SIZE_MAX, 3}, {"none outstanding", &s->last_burst.n, 0, 0},
+        {"a piece more", &s->counts.pieces, flown_one.s.counts.pieces + 1, 3}, {"a piece less", &s->counts.pieces, flown_one.s.counts.pieces - 1, 3},
+        {"2,049 pieces", &s->counts.pieces, 2049, 3}, {"2^64 - 1 pieces", &s->counts.pieces, SIZE_MAX, 3},
+    };
+    for (size_t i = 0; i < COUNT(changes); i++) {
+        memcpy(&subject, &flown_one, sizeof subject);
+        s->at_peer.rest = 0;
+        *changes[i].at = changes[i].value;
+        record_check(changes[i].name, changes[i].number);
+    }
+}
+
+/* An offset is both outstanding and in the unsent rest; then the rest is what is not outstanding. */
+static void record_rest(void) {
+    struct vanitycrow_sender *s = &subject.s;
+    memcpy(&subject, &flown_one, sizeof subject);
+    s->at_peer.off[0] = s->last_burst.off[0];
+    s->at_peer.bits[0] = 1;
+    s->at_peer.n = s->at_peer.rest = 1;
+    record_check("unsent and outstanding", 3);
+    s->at_peer.rest = 0;
+    record_check("held and outstanding", 0);
+}
+
+static void record_counts(void) {
+    struct vanitycrow_counts *c = &subject.s.counts;
+    uint32_t *const counts[] = {&c->next_offset, &c->flying, &c->bytes_acked};
+    for (size_t i = 0; i < COUNT(counts); i++)
+        for (int up = 0; up < 2; up++) {
+            memcpy(&subject, &flown_one, sizeof subject);
+            *counts[i] += up ? 1 : UINT32_MAX;
+            record_check("a count by one more or less", 3);
+        }
+    memcpy(&subject, &flown_one, sizeof subject);
+    c->airtime_ms = UINT64_MAX;
+    record_check("airtime at its end", 0);
+    memcpy(&subject, &open_one, sizeof subject);
+    c->next_offset = c->bytes_acked = UINT32_MAX - c->waiting;
+    record_check("2^32 - 1 taken", 0);
+    c->next_offset = c->bytes_acked = UINT32_MAX - c->waiting + 1;
+    record_check("2^32 taken", 3);
+}
+
+/* Row i of the table of pieces. */
+static void put_row(size_t i, uint32_t off, uint32_t len) {
+    for (int k = 0; k < 4; k++) subject.area[32768 + 8 * i + k] = (uint8_t)(off >> (8 * k));
+    for (int k = 0; k < 4; k++) subject.area[32772 + 8 * i + k] = (uint8_t)(len >> (8 * k));
+}
+
+/* Two pieces, nothing held nor outstanding: rows that are sound and rows that are not. */
+static void area_rows(void) {
+    static const struct { const char *name; uint32_t off0, len0, off1, len1; uint8_t number; } rows[] = {
+        {"pieces side by side", 0, 100, 100, 170, 0},      {"a gap between", 0, 100, 130, 170, 0},       {"an overlap", 0, 101, 100, 169, 3},
+        {"descending", 170, 100, 0, 170, 3},               {"over the long payload", 0, 171, 200, 99, 3}, {"an empty piece", 0, 0, 0, 170, 3},
+        {"another sum", 0, 100, 100, 169, 3},              {"past the next offset", 0, 100, 131, 170, 3},
+    };
+    struct vanitycrow_counts *c = &subject.s.counts;
+    for (size_t i = 0; i < COUNT(rows); i++) {
+        memcpy(&subject, &open_one, sizeof subject);
+        c->next_offset = 300;
+        c->flying = 270;
+        c->bytes_acked = 30;
+        c->pieces = 2;
+        put_row(0, rows[i].off0, rows[i].len0);
+        put_row(1, rows[i].off1, rows[i].len1);
+        record_check(rows[i].name, rows[i].number);
+    }
+}
+
+/* The most that may fly: 16,320 bytes; and the pieces that short frames would make of it, 2,048. */
+static void area_most(void) {
+    struct vanitycrow_counts *c = &subject.s.counts;
+    for (uint32_t more = 0; more < 2; more++) {
+        memcpy(&subject, &open_one, sizeof subject);
+        subject.p.long_bytes = 265;
+        for (uint32_t i = 0; i < 64; i++) put_row(i, 255 * i, 255);
+        put_row(64, 64 * 255, 1);
+        c->pieces = 64 + more;
+        c->next_offset = c->flying = 16320 + more;
+        record_check("16,320 bytes fly, and one more", more ? 3 : 0);
+    }
+    for (uint32_t more = 0; more < 2; more++) {
+        memcpy(&subject, &open_one, sizeof subject);
+        subject.p.short_bytes = 18;
+        for (uint32_t i = 0; i < 2047; i++) put_row(i, i, 1);
+        put_row(2047, 2047, 8 + more);
+        c->pieces = 2048;
+        c->next_offset = c->flying = 2047 + 8 + more;
+        record_check("2,048 short pieces, and one more", more ? 3 : 0);
+    }
+}
+
+static void area_lengths(void) {
+    static const size_t lengths[] = {0, 1, 49151, 49152, 49153, VANITYCROW_AREA_BYTES + PAST};
+    for (size_t i = 0; i < COUNT(lengths); i++) {
+        given.area_len = lengths[i];
+        memcpy(&subject, &flown_one, sizeof subject);
+        record_check("the work area's length", lengths[i] < 49152 ? 3 : 0);
+        memcpy(&subject, &fresh_one, sizeof subject);
+        record_check("the work area's length", lengths[i] < 49152 ? 3 : 0);
+    }
+    given = usual_arguments();
+}
+
+/* ---- replies: refusals 5, 6 and 7 */
+
+static enum call replied;
+
+static void reply_check(const char *what, uint8_t number) {
+    expect(what, replied, &subject, &given, number);
+}
+
+static void reply_numbers(void) {
+    const struct field heard[] = {
+        {"heard.wave", &given.h.wave, U8, 1, 0, 5, BOTH},
+        {"heard.snr_db", &given.h.snr_db, F32, 1, -100, 300, BOTH},
+    };
+    const struct field own[] = {
+        {"conn_ack.snr_db", &given.connect.snr_db, F32, 1, -100, 300, BOTH}, {"conn_ack.slot", &given.connect.slot, U8, 1, 0, 2, BOTH},
+        {"conn_ack.session", &given.connect.session, U8, 1, 0, 255, BOTH},   {"ack.burst", &given.ack.burst, U8, 1, 0, 3, BOTH},
+        {"ack.bitmap", &given.ack.bitmap, U8, 1, 0, 63, BOTH},               {"ack.snr_db", &given.ack.snr_db, F32, 1, -100, 300, BOTH},
+        {"ack.slot", &given.ack.slot, U8, 1, 0, 2, BOTH},                    {"turn.report.db", &given.turn.report.db, F32, 1, -100, 300, BOTH},
+    };
+    static const enum call calls[] = {CONNECT, CONNECT, CONNECT, SHORT_ACK, SHORT_ACK, SHORT_ACK, SHORT_ACK, TURN};
+    given.turn.report.set = true;
+    for (size_t i = 0; i < COUNT(own); i++) {
+        replied = calls[i];
+        memcpy(&subject, replied == CONNECT ? &fresh_one : &flown_one, sizeof subject);
+        check_field(own + i, 6, reply_check);
+    }
+    for (int c = CONNECT; c <= TURN; c++) {
+        if (c == QUEUE) continue;
+        replied = (enum call)c;
+        memcpy(&subject, c == CONNECT ? &fresh_one : &flown_one, sizeof subject);
+        check_fields(heard, COUNT(heard), 6, reply_check);
+    }
+    given.turn.report = (struct vanitycrow_maybe_db){false, NAN};
+    reply_check("a turn without a report", 0);
+    given = usual_arguments();
+}
+
+static void reply_times(void) {
+    const struct field time = {"heard.time", &given.h.time, F64, 1, 0, 1000000000, BOTH};
+    for (int c = CONNECT; c <= TURN; c++) {
+        if (c == QUEUE) continue;
+        replied = (enum call)c;
+        memcpy(&subject, c == CONNECT ? &fresh_one : &flown_one, sizeof subject);
+        subject.s.link.last_time = 0;
+        check_field(&time, 5, reply_check);
+        subject.s.link.last_time = 77.5;
+        given.h.time = 77.5;
+        reply_check("the last accepted time", 0);
+        given.h.time = nextafter(77.5, 0);
+        reply_check("before the last accepted time", 5);
+        given.h.wave = 6;
+        reply_check("a bad time and a bad wave", 5);
+        given = usual_arguments();
+    }
+}
+
+static void payload_lengths(void) {
+    replied = LONG_ACK;
+    memcpy(&subject, &flown_one, sizeof subject);
+    for (given.payload_len = 0; given.payload_len <= 40; given.payload_len++) reply_check("the payload's length", given.payload_len < 13 ? 7 : 0);
+    given.payload_len = 12;
+    given.h.wave = 6;
+    reply_check("a short payload and a bad wave", 6);
+    given = usual_arguments();
+}
+
+/* ---- queuing: refusals 8 and 9; the output: 10 */
+
+static void queue_lengths(void) {
+    struct vanitycrow_counts *c = &subject.s.counts;
+    replied = QUEUE;
+    memcpy(&subject, &open_one, sizeof subject);
+    for (uint32_t waiting = 0; waiting <= 16384; waiting += 4096) {
+        c->waiting = waiting;
+        given.bytes_len = 16384 - waiting;
+        reply_check("16,384 bytes wait", 0);
+        given.bytes_len++;
+        reply_check("16,385 bytes would wait", 8);
+        c->next_offset = c->bytes_acked = UINT32_MAX - waiting;
+        reply_check("too many would wait and be taken", 8);
+        given.bytes_len = 1;
+        reply_check("2^32 bytes would be taken", waiting < 16384 ? 9 : 8);
+        given.bytes_len = 0;
+        reply_check("none more is taken", 0);
+        c->next_offset = c->bytes_acked = 0;
+    }
+    given = usual_arguments();
+}
+
+static void output_lengths(void) {
+    static const uint32_t longs[] = {32, 180, 512};
+    replied = BURST;
+    for (size_t i = 0; i < COUNT(longs); i++) {
+        memcpy(&subject, &open_one, sizeof subject);
+        subject.p.long_bytes = longs[i];
+        for (int less = 0; less < 3; less++) {
+            given.out_len = less == 2 ? 0 : 64 * longs[i] - less;
+            reply_check("the output's length", less ? 10 : 0);
+        }
+    }
+    given = usual_arguments();
+}
+
+/* All is wrong with a long ack; one thing after another is put right. */
+static void order_of_refusals(void) {
+    replied = LONG_ACK;
+    memcpy(&subject, &fresh_one, sizeof subject);
+    given = (struct arguments){.h = {-1, 6, NAN}, .area_len = 49151};
+    subject.p.power = 3;
+    subject.p.short_bytes = 181;
+    reply_check("all wrong", 1);
+    subject.p.power = 2;
+    reply_check("all but the profile's numbers", 2);
+    subject.p.short_bytes = 180;
+    reply_check("all but the profile", 3);
+    given.area_len = 49152;
+    reply_check("not connected", 4);
+    subject.s.link.connected = true;
+    reply_check("time, values, payload", 5);
+    given.h.time = 0;
+    reply_check("values, payload", 6);
+    given.h.wave = 0;
+    given.h.snr_db = 0;
+    reply_check("payload", 7);
+    given.payload_len = 13;
+    reply_check("all right", 0);
+    given = usual_arguments();
+}
+
+int main(void) {
+    given = usual_arguments();
+    if (!make_stations()) {
+        printf("fields: the stations could not be made\n");
+        return 1;
+    }
+    memcpy(&subject, &fresh_one, sizeof subject);
+    profile_numbers();
+    subject.p = usual();
+    profile_flags();
+    subject.p = usual();
+    profile_sizes();
+    record_numbers();
+    record_lists();
+    record_list_counts();
+    record_rest();
+    record_counts();
+    area_rows();
+    area_most();
+    area_lengths();
+    reply_numbers();
+    reply_times();
+    payload_lengths();
+    queue_lengths();
+    output_lengths();
+    order_of_refusals();
+    printf("fields: %u checks, %u failed\n", checks, failures);
+    return failures ? 1 : 0;
+}
