@@ -55,7 +55,7 @@ use Rattle.keeping.proofs.Replies.{queued-well, connected-well, short-well, lon
 use Rattle.keeping.proofs.Bursts.{burst-kept, choice-fits, bursted-well}
 use Rattle.refusals.specs.declared.Reply.{Reply}
 use Rattle.refusals.specs.declared.Reply.the-variants.{ConnAck, Ack, LongAck, Turn}
-use Rattle.sender.specs.Calls.{longRead}
+use Rattle.answering.specs.Answering.{longRead}
 use Rattle.verdicts.specs.Verdicts.{passed, queueVerdict, receiveVerdict, burstVerdict}
 use Rattle.verdicts.proofs.Passed.{queue-passed, reply-passed}
 use Rattle.demand.specs.Lists.{Call, queues, hears, bursts, State, Given, shown, framesFrom, framesIn, longEvent, next, told}

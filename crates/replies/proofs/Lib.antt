@@ -1,4 +1,3 @@
 pub mod Counts
 pub mod Outcomes
-pub mod Acked
-pub mod Awaited
+pub mod Cleared

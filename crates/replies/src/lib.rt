@@ -1,19 +1,14 @@
-// What a reply says of the outstanding burst, and an ack that is awaited (`ack_in` of sender.rs, `on_ack` of gear.rs).
-use config::Profile;
+// What a reply says of the outstanding burst, and a burst that is outstanding no more (`on_ack` of gear.rs, `ack_in` of sender.rs).
 use gear::Outcome;
-use gear::on_ack;
 use record::LastBurst;
 use record::Sender;
-use settle::settle_burst;
 ghost use mathlib.Core.Path.{_≡_};
 ghost use Prim.Native.Nat.{_+_, _≤_, _<_};
 ghost use lib.ListN.{length};
 ghost use Rattle.laws.specs.Lists.{one};
 ghost use Rattle.ledger.specs.Limits.{maxSlots};
-ghost use Rattle.limits.specs.Ranged.{Ranged};
-ghost use Rattle.settle.specs.Settle.{Settling};
 ghost use Rattle.replies.specs.Outcomes.{tallied, outcomeIn};
-ghost use Rattle.replies.specs.Replies.{ackedBy, bitsFor, withoutBurst};
+ghost use Rattle.replies.specs.Replies.{bitsFor, withoutBurst};
 
 // Counts over a burst's frames: those sent fresh, those of them that came through, and all that came through.
 pub struct Came {
@@ -100,37 +95,4 @@ pub fn clear_burst(s: Sender) -> Sender
     q.last_burst.n = 0;
     q.link.awaiting = false;
     q
-}
-
-// ack_in: an ack that is awaited.
-pub fn ack_in(
-    p: Profile,
-    s: Sender,
-    a: &mut [u8],
-    burst: u8,
-    bitmap: u64,
-    stored: bool,
-    snr_db: f32,
-    time: f64,
-) -> Sender
-    requires { ⌜ Ranged p ⌝ ∗ ⌜ (s .gear .level < 17) × Settling s (now a) ⌝ }
-    ensures { λ q. ⌜ (q, now (a .exit)) ≡ ackedBy p burst bitmap stored «snr_db» time s (now (a .entry)) ⌝ }
-{
-    let g = s.gear;
-    let k = s.link;
-    let b = s.last_burst;
-    let level = g.level;
-    let n = b.n;
-    let matched = burst == k.burst_id;
-    let h = on_ack(g, p, outcome(b, bitmap, matched), snr_db, time);
-    let mut q = s;
-    q.gear = h;
-    if matched & (0 < n) {
-        let w = level::wave_rank(level);
-        q.link.peer_wave = w;
-        let keep = stored & (p.harq & level::long_frame(level));
-        let top = p.codes.h_max();
-        return settle_burst(q, a, bitmap, top, keep);
-    }
-    clear_burst(q)
 }

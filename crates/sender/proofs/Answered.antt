@@ -27,7 +27,8 @@ use Rattle.sender.specs.declared.Queued.{Queued}
 use Rattle.sender.specs.declared.Received.{Received}
 use Rattle.sender.specs.declared.Finding.{Finding}
 use Rattle.verdicts.specs.Verdicts.{passed, standing, queueVerdict, receiveVerdict}
-use Rattle.sender.specs.Calls.{queueOf, answered, receiveOf, findOf, pieceOf}
+use Rattle.answering.specs.Answering.{answered}
+use Rattle.sender.specs.Calls.{queueOf, receiveOf, findOf, pieceOf}
 use Rattle.verdicts.proofs.Passed.{queue-passed, queue-room, receive-passed}
 use Rattle.sender.proofs.Queuing.{withWaiting, queue-area, queue-record}
 

@@ -3,9 +3,6 @@ use mathlib.Core.List.{List, []}
 use mathlib.Core.Bool.{false, cond}
 use Prim.Native.Nat.{ℕ}
 use lib.ListN.{length, replicate}
-use Rattle.ack.specs.Ack.{ackOf}
-use Rattle.ack.specs.declared.AckRead.{AckRead}
-use Rattle.ack.specs.declared.AckRead.the-variants.{TooShort, Info}
 use Rattle.config.specs.declared.Profile.{Profile}
 use Rattle.ledger.specs.Ledger as L
 use Rattle.table.specs.Table.{rowsFrom}
@@ -13,11 +10,9 @@ use Rattle.lookup.specs.Find.{findFrom}
 use Rattle.lookup.specs.declared.Found.{Found}
 use Rattle.record.specs.View.{view, store, storeArea}
 use Rattle.record.specs.declared.Sender.{Sender}
-use Rattle.answers.specs.Answers.{shortAcked, longAcked, turned, connectedTo}
 use Rattle.answers.specs.declared.Heard.{Heard}
-use Rattle.answers.specs.declared.LongAck as A
 use Rattle.refusals.specs.declared.Reply.{Reply}
-use Rattle.refusals.specs.declared.Reply.the-variants.{ConnAck, Ack, LongAck, Turn}
+use Rattle.answering.specs.Answering.{answered}
 use Rattle.sender.specs.declared.Queued.{Queued}
 use Rattle.sender.specs.declared.Received.{Received}
 use Rattle.sender.specs.declared.Finding.{Finding}
@@ -36,18 +31,6 @@ queueOf p s a bytes =
     cond (passed v) (record { verdict = v; next = store after s }, storeArea after a) (record { verdict = v; next = s }, a)
 
 -- ---- sender_rx: 1 2 3 4 5 6, a long ack also 7
-
--- a long ack, as AckInfo::from_bytes reads its payload. One that is too short is refused before
-abbrev pub longRead : Profile → Heard → A.LongAck → AckRead → Sender → List ℕ → Sender × List ℕ
-longRead p h r TooShort s a = (s, a)
-longRead p h r (Info i) s a = longAcked p h r i s a
-
--- a reply that is accepted
-abbrev pub answered : Profile → Heard → Reply → List ℕ → Sender → List ℕ → Sender × List ℕ
-answered p h (ConnAck r) payload s a = (connectedTo p h r s, a)
-answered p h (Ack r) payload s a = shortAcked p h r s a
-answered p h (LongAck r) payload s a = longRead p h r (ackOf payload) s a
-answered p h (Turn r) payload s a = turned p h r s a
 
 unfoldable pub receiveOf : Profile → Sender → List ℕ → Heard → Reply → List ℕ → Received × List ℕ
 receiveOf p s a h r payload =

@@ -1,12 +1,6 @@
 // The sender's calls (sender.rs), with document 01's refusals. No call requires anything.
-use ack::AckInfo;
-use ack::AckRead;
+use answering::answer;
 use answers::Heard;
-use answers::LongAck;
-use answers::hear_connect;
-use answers::hear_long;
-use answers::hear_short;
-use answers::hear_turn;
 use config::Profile;
 use lookup::Found;
 use moves::copy_in;
@@ -21,11 +15,8 @@ use verdicts::queue_verdict;
 use verdicts::receive_verdict;
 use verdicts::standing;
 ghost use mathlib.Core.Path.{_≡_};
-ghost use Rattle.ack.specs.Ack.{ackOf};
-ghost use Rattle.limits.specs.Ranged.{Ranged};
 ghost use Rattle.record.specs.Fresh.{fresh};
-ghost use Rattle.answers.specs.Answers.{Answerable};
-ghost use Rattle.sender.specs.Calls.{queueOf, longRead, answered, receiveOf, findOf, pieceOf, noBurst, burstCall};
+ghost use Rattle.sender.specs.Calls.{queueOf, receiveOf, findOf, pieceOf, noBurst, burstCall};
 
 pub struct Queued {
     pub verdict: Verdict,
@@ -73,31 +64,6 @@ pub fn queue(p: Profile, s: Sender, a: &mut [u8], bytes: &[u8]) -> Queued
     let mut next = s;
     next.counts.waiting = w;
     Queued { verdict: v, next }
-}
-
-// A long ack, by what AckInfo::from_bytes reads of its payload.
-fn hear_payload(p: Profile, s: Sender, a: &mut [u8], h: Heard, r: LongAck, payload: &[u8]) -> Sender
-    requires { ⌜ Ranged p ⌝ ∗ ⌜ Answerable p s (now a) ⌝ }
-    ensures { λ q. ⌜ (q, now (a .exit)) ≡ longRead p h r (ackOf (now (payload .entry))) s (now (a .entry)) ⌝ }
-{
-    let i = AckInfo::from_bytes(payload);
-    match i {
-        AckRead::TooShort => s,
-        AckRead::Info(i) => hear_long(p, s, a, h, r, i),
-    }
-}
-
-// A reply that is accepted.
-fn answer(p: Profile, s: Sender, a: &mut [u8], h: Heard, r: Reply, payload: &[u8]) -> Sender
-    requires { ⌜ Ranged p ⌝ ∗ ⌜ Answerable p s (now a) ⌝ }
-    ensures { λ q. ⌜ (q, now (a .exit)) ≡ answered p h r (now (payload .entry)) s (now (a .entry)) ⌝ }
-{
-    match r {
-        Reply::ConnAck(c) => hear_connect(p, s, h, c),
-        Reply::Ack(c) => hear_short(p, s, a, h, c),
-        Reply::LongAck(c) => hear_payload(p, s, a, h, c, payload),
-        Reply::Turn(c) => hear_turn(p, s, h, c),
-    }
 }
 
 // A reply, and a long ack's payload.

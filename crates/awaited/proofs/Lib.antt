@@ -1,0 +1,2 @@
+pub mod Acked
+pub mod Awaited
