@@ -1,4 +1,4 @@
--- `outgoing::frames_out` meets its contract.
+-- `spans::frames_out` meets its contract.
 use mathlib.Core.Path.{_≡_, refl, sym, _∙_}
 use mathlib.Core.List.{List, map}
 use Prim.Native.Nat.{ℕ, _-_, _≤_}
@@ -11,10 +11,11 @@ use Rattle.harq.specs.declared.Harq.{Harq}
 use Rattle.slots.specs.Slots.{slotsFrom}
 use Rattle.slots.specs.declared.Slot.{Slot}
 use Rattle.slots.specs.declared.Slots.{Slots}
 use Rattle.outgoing.specs.Outgoing.{framesIn}
-use Rattle.outgoing.proofs.Laws.{stored-turn, stored-end, slots-length}
-use Rattle.outgoing.proofs.frames_out.Statement.{statement}
-use Rattle.outgoing.proofs.frames_out.Tie as tie
+use Rattle.outgoing.proofs.Laws.{slots-length}
+use Rattle.spans.proofs.Laws.{stored-turn, stored-end}
+use Rattle.spans.proofs.frames_out.Statement.{statement}
+use Rattle.spans.proofs.frames_out.Tie as tie
 
 -- what is stored before place i, and from there on
 abbrev Same : (Slot → ℕ) → Slots → List ℕ → ℕ → List ℕ → Type 0

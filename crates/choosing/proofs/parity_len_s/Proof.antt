@@ -1,7 +1,7 @@
 use mathlib.Core.Path.{refl}
 use borrow.Author.Needs.{needs}
-use Rattle.outgoing.proofs.parity_len_s.Statement.{statement}
-use Rattle.outgoing.proofs.parity_len_s.Tie as tie
+use Rattle.choosing.proofs.parity_len_s.Statement.{statement}
+use Rattle.choosing.proofs.parity_len_s.Tie as tie
 
 max64-requires : tie.Need-max64-requires
 max64-requires c κs = search needs

@@ -1,7 +1,7 @@
 use mathlib.Core.Path.{refl}
 use lib.Ieee.{ofInt, ofBits}
-use Rattle.outgoing.proofs.cue_len_s.Statement.{statement}
-use Rattle.outgoing.proofs.cue_len_s.Tie as tie
+use Rattle.choosing.proofs.cue_len_s.Statement.{statement}
+use Rattle.choosing.proofs.cue_len_s.Tie as tie
 
 returns : tie.Need-returns
 returns c = rw (c .if1 .taken) refl

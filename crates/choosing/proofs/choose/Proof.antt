@@ -1,7 +1,7 @@
 use Rattle.outgoing.specs.Choosing.{chosen}
 use borrow.Author.Needs.{needs}
-use Rattle.outgoing.proofs.choose.Statement.{statement}
-use Rattle.outgoing.proofs.choose.Tie as tie
+use Rattle.choosing.proofs.choose.Statement.{statement}
+use Rattle.choosing.proofs.choose.Tie as tie
 
 cue-for-requires : tie.Need-cue-for-requires
 cue-for-requires c κs = search needs
