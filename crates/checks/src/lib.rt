@@ -1,17 +1,17 @@
 // The sound record of document 01, tested.
 use config::MaybeDb;
 use config::Profile;
+use flying::all_flying;
 use goodput::Gear;
 use ladder::Holds;
 use memory::Reports;
 use memory::Tries;
 use record::Link;
 use record::Sender;
-use sound::all_flying;
 use sound::held_bits_ok;
-use sound::none_listed;
 use sound::sent_bits_ok;
 use sound::table_ok;
+use unlisted::none_listed;
 ghost use mathlib.Core.Path.{_≡_};
 ghost use mathlib.Core.Bool.{true};
 ghost use Prim.Native.Nat.{_≤_, _<_};

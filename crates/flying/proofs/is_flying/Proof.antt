@@ -1,12 +1,12 @@
--- `sound::is_flying` meets its contract.
+-- `flying::is_flying` meets its contract.
 use denote.Ref.{now}
 use Prim.Native.Nat.{_/_, _+_, _-_, _≤_, _<_}
-use Rattle.sound.proofs.Laws.{many, found-here, none-below, none-above, not-there}
+use Rattle.flying.proofs.Laws.{many, found-here, none-below, none-above, not-there}
 use mathlib.Core.Path.{_≡_, refl, ap}
 use native.Mathlib.Omega.{arith}
 use borrow.Author.Needs.{needs}
-use Rattle.sound.proofs.is_flying.Statement.{statement}
-use Rattle.sound.proofs.is_flying.Tie as tie
+use Rattle.flying.proofs.is_flying.Statement.{statement}
+use Rattle.flying.proofs.is_flying.Tie as tie
 
 abbrev Inv-loop : tie.InvT-loop
 Inv-loop a n off long next low₀ high₀ low high = (low ≤ high) × (high ≤ n) × (many a n off 0 low ≡ 0) × (many a n off high (n - high) ≡ 0)

@@ -1,13 +1,13 @@
--- `sound::none_listed` meets its contract.
+-- `unlisted::none_listed` meets its contract.
 use lib.ListN.{drop, length}
 use Rattle.flight.proofs.Laws.{length-marks, marked-by}
 use Rattle.sound.specs.Sound.{noneListed}
-use Rattle.sound.proofs.Laws.{unlisted-turn, unlisted-end}
+use Rattle.unlisted.proofs.Laws.{unlisted-turn, unlisted-end}
 use Prim.Native.Nat.{_-_}
 use mathlib.Core.Path.{_≡_, refl, sym, ap, _∙_}
 use borrow.Author.Needs.{needs}
-use Rattle.sound.proofs.none_listed.Statement.{statement}
-use Rattle.sound.proofs.none_listed.Tie as tie
+use Rattle.unlisted.proofs.none_listed.Statement.{statement}
+use Rattle.unlisted.proofs.none_listed.Tie as tie
 
 abbrev Inv-loop : tie.InvT-loop
 Inv-loop xs ys marks i₀ i = noneListed xs ys ≡ noneListed (drop i xs) ys

@@ -1,4 +1,4 @@
--- `sound::all_flying` meets its contract.
+-- `flying::all_flying` meets its contract.
 use denote.Ref.{now}
 use mathlib.Core.Bool.{not, _&&_, true, false}
 use lib.ListN.{drop, take, length-drop, length, getD}
@@ -8,16 +8,16 @@ use Rattle.table.specs.Table.{rowsFrom}
 use Rattle.laws.specs.Lists.{listed}
 use Rattle.flight.specs.Flight.{Marked, markAll}
 use Rattle.flight.proofs.Laws.{marked-end, marked-more}
 use Rattle.sound.specs.Sound.{rowOffs, allFlying}
-use Rattle.sound.proofs.Laws.{drop-back, take-back, flying-back, flying-part, flying-end}
+use Rattle.flying.proofs.Laws.{drop-back, take-back, flying-back, flying-part, flying-end}
 use Prim.Native.Nat.{ℕ, _-_, _≤_}
 use mathlib.Core.Path.{_≡_, refl, sym, ap, _∙_, subst}
 use mathlib.Core.List.{List}
 use native.Mathlib.Nat.{le-refl}
 use native.Mathlib.Omega.{arith}
 use borrow.Author.Needs.{needs}
-use Rattle.sound.proofs.all_flying.Statement.{statement}
-use Rattle.sound.proofs.all_flying.Tie as tie
+use Rattle.flying.proofs.all_flying.Statement.{statement}
+use Rattle.flying.proofs.all_flying.Tie as tie
 
 abbrev Inv-loop : tie.InvT-loop
 Inv-loop a n xs long next marks₀ i₀ marks i = (i ≤ length xs) × Marked marks (drop i xs) × (allFlying (drop i xs) (rowOffs (rowsFrom a 0 n)) ≡ true)
