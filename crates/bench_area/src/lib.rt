@@ -2,7 +2,7 @@
 use flight::mark;
 use flight::remove_pieces;
 use flying::all_flying;
-use recut::merge_table;
+use merging::merge_table;
 use sound::held_bits_ok;
 use sound::sent_bits_ok;
 use sound::table_ok;

@@ -1,11 +1,11 @@
--- `recut::joins` meets its contract.
+-- `merging::joins` meets its contract.
 use mathlib.Core.Bool.{not}
 use borrow.Author.Tests.{eq-eqb, ne-eqb, le-leb, lt-leb}
 use Prim.Native.Nat.{_-_}
 use mathlib.Core.Path.{sym, ap, _∙_}
 use borrow.Author.Needs.{needs}
-use Rattle.recut.proofs.joins.Statement.{statement}
-use Rattle.recut.proofs.joins.Tie as tie
+use Rattle.merging.proofs.joins.Statement.{statement}
+use Rattle.merging.proofs.joins.Tie as tie
 
 cast-if1 : tie.Need-cast-if1
 cast-if1 c = search needs

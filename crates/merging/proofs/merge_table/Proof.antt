@@ -1,12 +1,12 @@
--- `recut::merge_table` meets its contract.
+-- `merging::merge_table` meets its contract.
 use denote.Ref.{now}
 use Rattle.laws.specs.Bytes.{overwrite}
 use Rattle.laws.proofs.Bytes.{over-nil}
 use Rattle.table.specs.Layout.{place}
 use Rattle.table.specs.Table.{rowsFrom, tableBytes}
 use Rattle.table.specs.declared.Row.{Row}
 use Rattle.recut.specs.Recut.{row, mergeRowsFrom, mergeRows, mergeTable}
-use Rattle.recut.proofs.Laws.{merge-join, merge-store, merge-less, joins-fits}
+use Rattle.merging.proofs.Laws.{merge-join, merge-store, merge-less, joins-fits}
 use native.Mathlib.Nat.{zero-add, add-assoc}
 use Prim.Native.Nat.{ℕ, suc, _+_, _-_, _≤_, _<_}
 use mathlib.Core.Path.{_≡_, refl, sym, ap, ap₂, _∙_}
@@ -14,8 +14,8 @@ use mathlib.Core.List.{List, [], _∷_}
 use native.Mathlib.Omega.{arith}
 use lib.ListN.{length}
 use borrow.Author.Needs.{needs}
-use Rattle.recut.proofs.merge_table.Statement.{statement}
-use Rattle.recut.proofs.merge_table.Tie as tie
+use Rattle.merging.proofs.merge_table.Statement.{statement}
+use Rattle.merging.proofs.merge_table.Tie as tie
 
 abbrev Inv-loop : tie.InvT-loop
 Inv-loop a₀ n max marks held off₀ len₀ w₀ i₀ a off len w i =
