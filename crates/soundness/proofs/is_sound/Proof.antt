@@ -13,11 +13,11 @@ use Rattle.table.specs.Layout.{areaBytes}
 use Rattle.table.specs.declared.Row.{Row}
 use Rattle.table.specs.Table.{rowsFrom}
 use Rattle.sound.specs.Sound.{tableOk, rowOffs}
 use Rattle.checks.specs.Checked.{countsOk, listsOk, soundOk}
 use Rattle.checks.proofs.Counts.{pieces-few}
 use borrow.Author.Needs.{needs}
-use Rattle.checks.proofs.is_sound.Statement.{statement}
-use Rattle.checks.proofs.is_sound.Tie as tie
+use Rattle.soundness.proofs.is_sound.Statement.{statement}
+use Rattle.soundness.proofs.is_sound.Tie as tie
 
 abbrev rows : tie.Start → List Row
 rows s = rowsFrom (now (s .args .a)) 0 (s .args .s .counts .pieces)

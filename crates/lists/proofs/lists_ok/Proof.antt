@@ -12,11 +12,11 @@ use Rattle.laws.specs.Tests.{all}
 use Rattle.table.specs.Table.{rowsFrom}
 use Rattle.sound.specs.Sound.{rowOffs, allFlying, heldBitsOk, noneListed}
 use Rattle.record.proofs.View.{Arrays}
 use Rattle.checks.specs.Checked.{listsOk}
 use Rattle.checks.proofs.Counts.{held-few, rest-few, sent-few, pieces-few}
 use borrow.Author.Needs.{needs, length-unmapped}
-use Rattle.checks.proofs.lists_ok.Statement.{statement}
-use Rattle.checks.proofs.lists_ok.Tie as tie
+use Rattle.lists.proofs.lists_ok.Statement.{statement}
+use Rattle.lists.proofs.lists_ok.Tie as tie
 
 arrays : (s : tie.Start) → Arrays (s .args .s)
 arrays s = record {

@@ -5,11 +5,11 @@ use lib.Dec.{leb}
 use borrow.Author.Tests.{not-true, not-false, leb-true}
 use Rattle.laws.specs.Tests.{all}
 use Rattle.laws.proofs.Picks.{and-first, and-second}
 use Rattle.checks.specs.Checked.{countsOk}
 use Rattle.checks.proofs.Counts.{too-many}
 use borrow.Author.Needs.{needs}
-use Rattle.checks.proofs.counts_ok.Statement.{statement}
-use Rattle.checks.proofs.counts_ok.Tie as tie
+use Rattle.lists.proofs.counts_ok.Statement.{statement}
+use Rattle.lists.proofs.counts_ok.Tie as tie
 
 abbrev first : tie.Start → Bool
 first e = let s = e .args .s in (leb (s .«at_peer» .n) 64 && leb (s .«at_peer» .rest) (s .«at_peer» .n)) && leb (s .«last_burst» .n) 64
