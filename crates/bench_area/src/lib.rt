@@ -1,8 +1,8 @@
 // What bench/area.c measures of the work area, as functions for C: a slice is a pointer and a length.
 use flight::mark;
 use flight::remove_pieces;
-use recut::merge_table;
-use sound::all_flying;
+use flying::all_flying;
+use merging::merge_table;
 use sound::held_bits_ok;
 use sound::sent_bits_ok;
 use sound::table_ok;

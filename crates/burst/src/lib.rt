@@ -2,6 +2,7 @@
 use flight::mark;
 use frames::put_frames;
 use harq::Harq;
+use merging::merge_table;
 use plan::Choice;
 use plan::Planned;
 use plan::plan;
@@ -9,7 +10,6 @@ use record::AtPeer;
 use record::Counts;
 use record::LastBurst;
 use record::Sender;
-use recut::merge_table;
 use recut::split_table;
 use slots::Added;
 use slots::Slots;

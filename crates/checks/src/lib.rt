@@ -1,27 +1,14 @@
-// The sound record of document 01, tested.
+// The sound record of document 01: its definition, and the tests of the gear and the link.
 use config::MaybeDb;
-use config::Profile;
 use goodput::Gear;
 use ladder::Holds;
 use memory::Reports;
 use memory::Tries;
 use record::Link;
-use record::Sender;
-use sound::all_flying;
-use sound::held_bits_ok;
-use sound::none_listed;
-use sound::sent_bits_ok;
-use sound::table_ok;
 ghost use mathlib.Core.Path.{_≡_};
-ghost use mathlib.Core.Bool.{true};
-ghost use Prim.Native.Nat.{_≤_, _<_};
-ghost use lib.ListN.{length};
+ghost use Prim.Native.Nat.{_<_};
 ghost use Rattle.laws.specs.Span.{every, upto};
-ghost use Rattle.limits.specs.Ranged.{Ranged};
-ghost use Rattle.table.specs.Layout.{areaBytes};
-ghost use Rattle.table.specs.Table.{rowsFrom};
-ghost use Rattle.sound.specs.Sound.{ascends, rowOffs};
-ghost use Rattle.checks.specs.Checked.{keptOk, keptIfOk, reportsOk, levelOk, gearOk, linkOk, countsOk, listsOk, soundOk};
+ghost use Rattle.checks.specs.Checked.{keptOk, keptIfOk, reportsOk, levelOk, gearOk, linkOk};
 
 // A kept dB.
 fn kept_ok(x: f32) -> bool
@@ -65,7 +52,7 @@ fn levels_ok(t: Tries, h: Holds) -> bool
     true
 }
 
-fn gear_ok(g: Gear) -> bool
+pub fn gear_ok(g: Gear) -> bool
     ensures { λ r. ⌜ r ≡ gearOk g ⌝ }
 {
     let s = g.burst_s;
@@ -77,7 +64,7 @@ fn gear_ok(g: Gear) -> bool
                         & (reports_ok(g.snr_reports) & levels_ok(g.tries, g.holds))))))
 }
 
-fn link_ok(k: Link) -> bool
+pub fn link_ok(k: Link) -> bool
     ensures { λ r. ⌜ r ≡ linkOk k ⌝ }
 {
     let t = k.last_time;
@@ -86,81 +73,4 @@ fn link_ok(k: Link) -> bool
         & ((k.burst_id <= 3)
             & ((k.peer_heard <= 3)
                 & ((k.peer_slot <= 2) & ((k.peer_wave <= 5) & (!(d < 0.0) & !(63.5 < d))))))
-}
-
-fn counts_ok(s: Sender) -> bool
-    ensures { λ r. ⌜ r ≡ countsOk s ⌝ }
-{
-    let h = s.at_peer;
-    let b = s.last_burst;
-    let c = s.counts;
-    if !((h.n <= 64) & (h.rest <= h.n) & (b.n <= 64)) {
-        return false;
-    }
-    (b.n + h.rest <= 64)
-        & ((c.waiting <= 16384)
-            & ((c.flying <= 16320)
-                & ((c.pieces <= 2048)
-                    & ((c.next_offset as u64 + c.waiting as u64 <= 4294967295)
-                        & (c.bytes_acked as u64 + c.flying as u64 == c.next_offset as u64)))))
-}
-
-// Held pieces and outstanding frames against the rows.
-fn lists_ok(s: Sender, a: &[u8], long: u32, top: u32) -> bool
-    requires { ⌜ (countsOk s ≡ true) × (areaBytes ≤ length (now a)) × (ascends long (s .counts .«next_offset») 0 (rowsFrom (now a) 0 (s .counts .pieces)) ≡ true) ⌝ }
-    ensures { λ r. ⌜ r ≡ listsOk top (s .«at_peer») (s .«last_burst») (rowOffs (rowsFrom (now (a .entry)) 0 (s .counts .pieces))) ⌝ }
-{
-    let h = s.at_peer;
-    let b = s.last_burst;
-    let c = s.counts;
-    let n = h.n;
-    let k = h.n - h.rest;
-    let m = b.n;
-    let rows = c.pieces;
-    let next = c.next_offset;
-    let held = h.off;
-    let bits = h.bits;
-    let offs = b.off;
-    let went = b.bits;
-    let then = b.held;
-    if !all_flying(a, rows, &held[..n], long, next) {
-        return false;
-    }
-    if !held_bits_ok(&bits[..n], top) {
-        return false;
-    }
-    if !all_flying(a, rows, &offs[..m], long, next) {
-        return false;
-    }
-    if !none_listed(&offs[..m], &held[k..n]) {
-        return false;
-    }
-    sent_bits_ok(&went[..m], &then[..m])
-}
-
-// Refusal 3: whether the work area is large enough and the record is sound.
-pub fn is_sound(p: Profile, s: Sender, a: &[u8]) -> bool
-    requires { ⌜ Ranged p ⌝ }
-    ensures { λ r. ⌜ r ≡ soundOk p s (now (a .entry)) ⌝ }
-{
-    let c = s.counts;
-    let rows = c.pieces;
-    let next = c.next_offset;
-    let flying = c.flying;
-    let short = frame::max_payload(p.short_bytes as usize) as u32;
-    let long = frame::max_payload(p.long_bytes as usize) as u32;
-    let top = p.codes.h_max();
-    if a.len() < 49152 {
-        return false;
-    }
-    if !counts_ok(s) {
-        return false;
-    }
-    if !table_ok(a, rows, short, long, next, flying) {
-        return false;
-    }
-    if !lists_ok(s, a, long, top) {
-        return false;
-    }
-    gear_ok(s.gear) & link_ok(s.link)
 }

@@ -3,7 +3,7 @@ use flight::mark;
 use io::print_decimal;
 use io::write_all;
 use libc::STDOUT_FILENO;
-use recut::merge_table;
+use merging::merge_table;
 use recut::split_table;
 use table::Row;
 use table::load_row;

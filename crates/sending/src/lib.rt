@@ -27,7 +27,7 @@ pub fn data_burst(p: Profile, s: Sender, a: &mut [u8], out: &mut [u8]) -> Burst
     let k = s.link;
     let q = p.codes;
     let l = g.level;
-    let c = outgoing::choose(p, g, k);
+    let c = choosing::choose(p, g, k);
     let size = p.frame_bytes(l) as usize;
     let payload = frame::max_payload(size) as u32;
     let number = header::next_burst_id(k.burst_id, k.heard, k.peer_heard);
@@ -35,7 +35,7 @@ pub fn data_burst(p: Profile, s: Sender, a: &mut [u8], out: &mut [u8]) -> Burst
     let b = burst::go(&t, q, c, payload, p.merge_pieces, number, size, s, a, out);
     let slots = b.slots;
     let pl = b.plan;
-    let frames = outgoing::frames_out(q, slots);
+    let frames = spans::frames_out(q, slots);
     let o = outgoing::answer(p, g, k, pl, number, frames);
     let bits = outgoing::burst_bits(pl, c.slot, slots.n);
     let ms = outgoing::airtime(p, l, s.counts.airtime_ms, slots.n, bits);

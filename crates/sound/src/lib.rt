@@ -1,16 +1,12 @@
-// The sound record's tests of the table and of lists of offsets and bits.
-use flight::contains_marked;
-use flight::mark;
+// The sound record's tests of the table and of lists of bits.
 use table::load_row;
 ghost use mathlib.Core.Path.{_≡_};
-ghost use mathlib.Core.Bool.{true};
 ghost use Prim.Native.Nat.{_≤_};
 ghost use lib.ListN.{length};
-ghost use Rattle.laws.specs.Lists.{listed};
 ghost use Rattle.ledger.specs.Limits.{maxPieces, maxPayload};
 ghost use Rattle.table.specs.Layout.{areaBytes};
 ghost use Rattle.table.specs.Table.{rowsFrom};
-ghost use Rattle.sound.specs.Sound.{ascends, rowOffs, tableOk, allFlying, heldBitsOk, sentBitsOk, noneListed};
+ghost use Rattle.sound.specs.Sound.{tableOk, heldBitsOk, sentBitsOk};
 
 // Pieces at most.
 const MAX_PIECES: u64 = 2048;
@@ -57,49 +53,6 @@ pub fn table_ok(a: &[u8], n: usize, short: u32, long: u32, next: u32, flying: u3
     shorts <= MAX_PIECES
 }
 
-// Whether a row has this offset.
-fn is_flying(a: &[u8], n: usize, off: u32, long: u32, next: u32) -> bool
-    requires { ⌜ (n ≤ maxPieces) × (areaBytes ≤ length (now a)) × (ascends long next 0 (rowsFrom (now a) 0 n) ≡ true) ⌝ }
-    ensures { λ r. ⌜ r ≡ listed off (rowOffs (rowsFrom (now (a .entry)) 0 n)) ⌝ }
-{
-    let mut low = 0;
-    let mut high = n;
-    while low < high {
-        let mid = low + (high - low) / 2;
-        let r = load_row(a, mid);
-        if r.off == off {
-            return true;
-        }
-        if r.off < off {
-            low = mid + 1;
-        } else {
-            high = mid;
-        }
-    }
-    false
-}
-
-// Whether xs are distinct, each the offset of a row. From the end, so that those behind are marked.
-pub fn all_flying(a: &[u8], n: usize, xs: &[u32], long: u32, next: u32) -> bool
-    requires { ⌜ (n ≤ maxPieces) × (areaBytes ≤ length (now a)) × (ascends long next 0 (rowsFrom (now a) 0 n) ≡ true) ⌝ }
-    ensures { λ r. ⌜ r ≡ allFlying (now (xs .entry)) (rowOffs (rowsFrom (now (a .entry)) 0 n)) ⌝ }
-{
-    let mut marks = [0u8; 2048];
-    let mut i = xs.len();
-    while 0 < i {
-        let x = xs[i - 1];
-        if !is_flying(a, n, x, long, next) {
-            return false;
-        }
-        if contains_marked(&marks, &xs[i..], x) {
-            return false;
-        }
-        mark(&mut marks, &xs[i - 1..i]);
-        i = i - 1;
-    }
-    true
-}
-
 // Whether each has 1 to below `top` bits.
 pub fn held_bits_ok(bits: &[u32], top: u32) -> bool
     ensures { λ r. ⌜ r ≡ heldBitsOk top (now (bits .entry)) ⌝ }
@@ -131,23 +84,6 @@ pub fn sent_bits_ok(bits: &[u32], held: &[u32]) -> bool
             return false;
         }
         if !((b <= h) & (h <= MAX_HELD)) {
-            return false;
-        }
-        i += 1;
-    }
-    true
-}
-
-// Whether none of xs is among ys.
-pub fn none_listed(xs: &[u32], ys: &[u32]) -> bool
-    ensures { λ r. ⌜ r ≡ noneListed (now (xs .entry)) (now (ys .entry)) ⌝ }
-{
-    let mut marks = [0u8; 2048];
-    mark(&mut marks, ys);
-    let mut i = 0;
-    while i < xs.len() {
-        let x = xs[i];
-        if contains_marked(&marks, ys, x) {
             return false;
         }
         i += 1;

@@ -1,6 +1,5 @@
 // What the sender turns down (document 01): the verdict of each call. No function requires anything.
 use answers::Heard;
-use checks::is_sound;
 use config::Profile;
 use limits::in_order;
 use limits::in_range;
@@ -13,6 +12,7 @@ use refusals::kind;
 use refusals::number;
 use refusals::reply_ok;
 use refusals::time_ok;
+use soundness::is_sound;
 ghost use mathlib.Core.Path.{_≡_};
 ghost use Rattle.verdicts.specs.Verdicts.{standing as standingOf, queueVerdict, receiveVerdict, burstVerdict};
 

@@ -1,0 +1,22 @@
+// The sound record's test that two lists of offsets share none.
+use flight::contains_marked;
+use flight::mark;
+ghost use mathlib.Core.Path.{_≡_};
+ghost use Rattle.sound.specs.Sound.{noneListed};
+
+// Whether none of xs is among ys.
+pub fn none_listed(xs: &[u32], ys: &[u32]) -> bool
+    ensures { λ r. ⌜ r ≡ noneListed (now (xs .entry)) (now (ys .entry)) ⌝ }
+{
+    let mut marks = [0u8; 2048];
+    mark(&mut marks, ys);
+    let mut i = 0;
+    while i < xs.len() {
+        let x = xs[i];
+        if contains_marked(&marks, ys, x) {
+            return false;
+        }
+        i += 1;
+    }
+    true
+}
