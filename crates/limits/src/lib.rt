@@ -8,8 +8,11 @@ use config::MaybeLevel;
 use config::Profile;
 use harq::Harq;
 ghost use mathlib.Core.Path.{_≡_};
-ghost use Prim.Native.Nat.{_<_};
+ghost use mathlib.Core.List.{[], _∷_};
+ghost use lib.Dec.{leb};
+ghost use Rattle.laws.specs.Tests.{all};
 ghost use Rattle.laws.specs.Span.{every, upto};
+ghost use Rattle.ieee.specs.Range.{w64};
 ghost use Rattle.limits.specs.Ranges.{inside, between, dbOk, maybeDbOk, levelOk, ackOk, airOk, endOk, harqOk, lengthsOk, holdsOk, thresholdOk, marksOk, pinOk, levelsOk, sizesOk, inRange as inRangeOf, inOrder};
 
 fn within(x: f64, lo: f64, hi: f64) -> bool
@@ -36,13 +39,12 @@ fn maybe_db_ok(m: MaybeDb) -> bool
     !m.set | db_ok(m.db)
 }
 
-fn level_ok(a: Air, l: usize) -> bool
-    requires { ⌜ l < 17 ⌝ }
-    ensures { λ r. ⌜ r ≡ levelOk a l ⌝ }
+// The numbers of a level.
+fn level_ok(slot: u32, pre_s: f64, rate: f64, most: u32) -> bool
+    ensures { λ r. ⌜ r ≡ all (between 1 16384 slot ∷ inside (w64 0) (w64 60) «pre_s» ∷ inside (w64 1) (w64 100000) rate ∷ leb 1 most ∷ []) ⌝ }
 {
-    let most = a.most_bits(l);
-    from_to(a.slot(l), 1, 16384)
-        & (within(a.pre_s[l], 0.0, 60.0) & (within(a.rate[l], 1.0, 100000.0) & (1 <= most)))
+    from_to(slot, 1, 16384)
+        & (within(pre_s, 0.0, 60.0) & (within(rate, 1.0, 100000.0) & (1 <= most)))
 }
 
 fn levels_of_air_ok(a: Air) -> bool
@@ -50,7 +52,7 @@ fn levels_of_air_ok(a: Air) -> bool
 {
     let mut l: usize = 0;
     while l < 17 {
-        if !level_ok(a, l) {
+        if !level_ok(a.slot_bits[l], a.pre_s[l], a.rate[l], a.max_bits[l]) {
             return false;
         }
         l += 1;
