@@ -6,8 +6,12 @@ use memory::Reports;
 use memory::Tries;
 use record::Link;
 ghost use mathlib.Core.Path.{_≡_};
-ghost use Prim.Native.Nat.{_<_};
+ghost use mathlib.Core.List.{[], _∷_};
+ghost use mathlib.Core.Bool.{_&&_};
+ghost use lib.Ieee.{le};
+ghost use Rattle.laws.specs.Tests.{all};
 ghost use Rattle.laws.specs.Span.{every, upto};
+ghost use Rattle.ieee.specs.Range.{w32, w64};
 ghost use Rattle.checks.specs.Checked.{keptOk, keptIfOk, reportsOk, levelOk, gearOk, linkOk};
 
 // A kept dB.
@@ -29,14 +33,11 @@ fn reports_ok(r: Reports) -> bool
     (r.count <= 3) & (kept_ok(r.a) & (kept_ok(r.b) & kept_ok(r.c)))
 }
 
-// What is remembered of level k.
-fn level_ok(t: Tries, h: Holds, k: usize) -> bool
-    requires { ⌜ k < 17 ⌝ }
-    ensures { λ r. ⌜ r ≡ levelOk t h k ⌝ }
+// What is remembered of a level: its share, the time of it, and the end of its hold.
+fn level_ok(share: f32, at: f64, until: f64) -> bool
+    ensures { λ r. ⌜ r ≡ all ((le (w32 0) share && le share (w32 1)) ∷ le at (w64 1000000000) ∷ le until (w64 1001000000) ∷ []) ⌝ }
 {
-    let share = t.success[k];
-    ((0.0 <= share) & (share <= 1.0))
-        & ((t.success_at[k] <= 1000000000.0) & (h.blocked_until[k] <= 1001000000.0))
+    ((0.0 <= share) & (share <= 1.0)) & ((at <= 1000000000.0) & (until <= 1001000000.0))
 }
 
 fn levels_ok(t: Tries, h: Holds) -> bool
@@ -44,7 +45,7 @@ fn levels_ok(t: Tries, h: Holds) -> bool
 {
     let mut k: usize = 0;
     while k < 17 {
-        if !level_ok(t, h, k) {
+        if !level_ok(t.success[k], t.success_at[k], h.blocked_until[k]) {
             return false;
         }
         k += 1;

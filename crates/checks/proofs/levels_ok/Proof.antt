@@ -19,11 +19,30 @@ abbrev μ-loop : tie.MeasureT-loop
 loop-holds : tie.Need-loop-holds Inv-loop μ-loop
 loop-holds c = (omega arith, refl)
 
+mul-level-ok : tie.Need-mul-level-ok Inv-loop μ-loop
+mul-level-ok c = search needs
+
+element-copy-out-level-ok : tie.Need-element-copy-out-level-ok Inv-loop μ-loop
+element-copy-out-level-ok c = search needs
+
+mul-level-ok-2 : tie.Need-mul-level-ok-2 Inv-loop μ-loop
+mul-level-ok-2 c = search needs
+
+element-copy-out-level-ok-2 : tie.Need-element-copy-out-level-ok-2 Inv-loop μ-loop
+element-copy-out-level-ok-2 c = search needs
+
+mul-level-ok-3 : tie.Need-mul-level-ok-3 Inv-loop μ-loop
+mul-level-ok-3 c = search needs
+
+element-copy-out-level-ok-3 : tie.Need-element-copy-out-level-ok-3 Inv-loop μ-loop
+element-copy-out-level-ok-3 c = search needs
+
 level-ok-requires : tie.Need-level-ok-requires Inv-loop μ-loop
 level-ok-requires c κs = search needs
 
 returns : tie.Need-returns Inv-loop μ-loop
-returns c = sym (c .before .before .before .loop .inv .1 ∙ every-fail _ _ _ (omega arith) (told-no _ _ (c .before .level-ok .ensures) (not-true _ (c .if1 .taken))))
+unfolding levelOk
+returns c = sym (c .before .before .before .before .before .before .loop .inv .1 ∙ every-fail _ _ _ (omega arith) (told-no _ _ (c .before .level-ok .ensures) (not-true _ (c .if1 .taken))))
 
 add-k : tie.Need-add-k Inv-loop μ-loop
 add-k c = search needs
@@ -32,7 +51,8 @@ loop-less : tie.Need-loop-less Inv-loop μ-loop
 loop-less c = search needs
 
 loop-again : tie.Need-loop-again Inv-loop μ-loop
-loop-again c = (omega arith, c .before .before .before .loop .inv .1 ∙ every-pass _ _ _ (omega arith) (told-yes _ _ (c .before .level-ok .ensures) (not-false _ (c .if1 .left))))
+unfolding levelOk
+loop-again c = (omega arith, c .before .before .before .before .before .before .loop .inv .1 ∙ every-pass _ _ _ (omega arith) (told-yes _ _ (c .before .level-ok .ensures) (not-false _ (c .if1 .left))))
 
 returns-2 : tie.Need-returns-2 Inv-loop μ-loop
 returns-2 c = sym (c .before .loop .inv .1 ∙ every-end _ _ _ (omega arith))
@@ -44,6 +64,12 @@ levels-ok-spec =
     Inv-loop
     μ-loop
     loop-holds
+    mul-level-ok
+    element-copy-out-level-ok
+    mul-level-ok-2
+    element-copy-out-level-ok-2
+    mul-level-ok-3
+    element-copy-out-level-ok-3
     level-ok-requires
     returns
     add-k
