@@ -1,6 +1,6 @@
 #!/bin/sh
 # The sender's part of bench/run: its calls through the C interface beside the original's, in one process, and its memory.
-# VANITYCROW_LIB names a folder with libstation_c.a, where it is not to be built.
+# VANITYCROW_LIB names a folder with libstation.a, where it is not to be built.
 set -eu
 cd "$(dirname "$0")/.."
 if ! command -v cargo > /dev/null 2>&1 || [ ! -d "${ION_HF_SRC:-../shared/docs/src}/crates/ion/src" ]; then
@@ -8,14 +8,14 @@ if ! command -v cargo > /dev/null 2>&1 || [ ! -d "${ION_HF_SRC:-../shared/docs/s
     exit 0
 fi
 if [ -z "${VANITYCROW_LIB:-}" ]; then
-    rt staticlib station_c > /dev/null
+    rt staticlib station > /dev/null
     VANITYCROW_LIB=target/staticlib
 fi
 VANITYCROW_LIB=$(cd "$VANITYCROW_LIB" && pwd)
 export VANITYCROW_LIB
 oracle/run speed
 # What the library asks for and doesn't have itself: with no function that allocates, it has no heap.
-outside=$(nm "$VANITYCROW_LIB/libstation_c.a" | awk '$1 == "U" { asked[$2] } NF == 3 { had[$3] } END { for (s in asked) if (!(s in had)) print s }' | sort)
+outside=$(nm "$VANITYCROW_LIB/libstation.a" | awk '$1 == "U" { asked[$2] } NF == 3 { had[$3] } END { for (s in asked) if (!(s in had)) print s }' | sort)
 # shellcheck disable=SC2086
 echo "the library's symbols from outside:" ${outside:-none}
 if echo "$outside" | grep -q -E 'alloc|free|map|brk|_Zn'; then

@@ -2,9 +2,9 @@
  *
  * A far station loses every third frame or so and answers with short and long acks until the whole mail is there; it puts the mail together
  * from the frames and compares it. What was called goes to CALLS and what was answered to TRANSCRIPT, for a comparison with `replay`
- * (docs/CALLS.md); a station leaves the list_ lines out. Build, after `rt staticlib station_c`:
+ * (docs/CALLS.md); a station leaves the list_ lines out. Build, after `rt staticlib station`:
  *
- *     cc -Iinclude examples/link.c target/staticlib/libstation_c.a -o link
+ *     cc -Iinclude examples/link.c target/staticlib/libstation.a -o link
  */
 #include "call_list.h"
 #include "usual.h"
