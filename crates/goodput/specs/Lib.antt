@@ -1,2 +1,3 @@
 pub mod Setters
 pub mod Goodput
+pub mod Levels

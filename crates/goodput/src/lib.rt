@@ -9,14 +9,16 @@ use ladder::heeded;
 use level::FLOOR;
 use memory::Reports;
 use memory::Tries;
-use rates::level_rate;
+use rates::Pace;
 use report::ChanClass;
 ghost use mathlib.Core.Path.{_≡_};
 ghost use mathlib.Core.Bool.{false};
 ghost use Prim.Native.Nat.{_<_};
 ghost use lib.Ieee.{inf};
 ghost use Rattle.limits.specs.Ranged.{Ranged};
-ghost use Rattle.goodput.specs.Goodput.{priorOf, memoryS, remembered, chanceOf, marksOf, cueFor, roomOf, scoreOf, barOf, worthOf, inReach, candidate, over, weighed, pickByGoodput};
+ghost use Rattle.rates.specs.Paces.{Paced};
+ghost use Rattle.goodput.specs.Goodput.{priorOf, memoryS, remembered, marksOf, cueFor, barOf, over, noBest, bestOf, pickByGoodput};
+ghost use Rattle.goodput.specs.Levels.{seenChance, sightRoom, sightReach, viewOf, viewCandidate, viewWorth, viewWeighed};
 
 // The gear record.
 #[repr(C)]
@@ -72,16 +74,25 @@ fn remembered(now: f64, at: f64, fails: u8) -> f32
     exp::narrow::narrowed(exp::exp64(-(now - at) / memory_s(fails)))
 }
 
-// A level's chance: what was observed, blended with the prior.
-fn chance(tries: Tries, l: usize, prior: f32, now: f64) -> f32
-    requires { ⌜ l < 17 ⌝ }
-    ensures { λ r. ⌜ r ≡ chanceOf tries l prior now ⌝ }
-{
-    if tries.tried[l] {
-        let w = remembered(now, tries.success_at[l], tries.fails[l]);
-        return w * tries.success[l] + (1.0 - w) * prior;
+// What is remembered of a level.
+struct Seen {
+    tried: bool,
+    success: f32,
+    at: f64,
+    fails: u8,
+}
+
+impl Seen {
+    // The level's chance: what was observed, blended with the prior.
+    fn chance(self, prior: f32, now: f64) -> f32
+        ensures { λ r. ⌜ r ≡ seenChance self prior now ⌝ }
+    {
+        if self.tried {
+            let w = remembered(now, self.at, self.fails);
+            return w * self.success + (1.0 - w) * prior;
+        }
+        prior
     }
-    prior
 }
 
 // The thresholds and the margin that the reports are held against.
@@ -91,20 +102,27 @@ pub fn marks(cfg: Profile) -> Marks
     if cfg.eff_snr { cfg.eff } else { cfg.plain }
 }
 
-// How far what level l would see is above what it wants.
-fn room(marks: Marks, power: u8, l: usize, aim: f32) -> f32
-    requires { ⌜ l < 17 ⌝ }
-    ensures { λ r. ⌜ r ≡ roomOf marks power l aim ⌝ }
-{
-    aim + air_db(power, l) - marks.thresholds_db[l] - marks.margin_db
+// What a level would see, and what it wants.
+struct Sight {
+    db: f32,
+    threshold_db: f32,
+    margin_db: f32,
 }
 
-// A level more than 2 dB short of its threshold is not tried.
-fn in_reach(marks: Marks, power: u8, l: usize, aim: f32) -> bool
-    requires { ⌜ l < 17 ⌝ }
-    ensures { λ r. ⌜ r ≡ inReach marks power l aim ⌝ }
-{
-    aim + air_db(power, l) >= marks.entry(l) - 2.0
+impl Sight {
+    // How far the one is above the other.
+    fn room(self) -> f32
+        ensures { λ r. ⌜ r ≡ sightRoom self ⌝ }
+    {
+        self.db - self.threshold_db - self.margin_db
+    }
+
+    // A level more than 2 dB short of its threshold is not tried.
+    fn in_reach(self) -> bool
+        ensures { λ r. ⌜ r ≡ sightReach self ⌝ }
+    {
+        self.db >= self.threshold_db + self.margin_db - 2.0
+    }
 }
 
 // What a change from level `at` to l must promise: more across frame sizes, which re-cut what is in flight.
@@ -128,6 +146,17 @@ pub struct Best {
     pub worth: f64,
 }
 
+// None yet.
+fn no_best() -> Best
+    ensures { λ r. ⌜ r ≡ noBest ⌝ }
+{
+    Best {
+        found: false,
+        level: FLOOR,
+        worth: 0.0,
+    }
+}
+
 impl Best {
     // max_by: the later one where it is not less.
     fn over(self, l: usize, worth: f64) -> Best
@@ -144,6 +173,47 @@ impl Best {
     }
 }
 
+// What every level is held against: the present level, the class that the gear goes by, whether both ends agreed to cues, whether
+// the SNR aimed by is not known or calls for them, and the time.
+struct View {
+    level: usize,
+    class: ChanClass,
+    cue: bool,
+    low: bool,
+    now: f64,
+}
+
+impl View {
+    // The present level, or one that the class allows and that is in reach.
+    fn candidate(self, l: usize, sight: Sight) -> bool
+        requires { ⌜ l < 17 ⌝ }
+        ensures { λ r. ⌜ r ≡ viewCandidate self l sight ⌝ }
+    {
+        (l == self.level) | (family_ok(self.class, l) & sight.in_reach())
+    }
+
+    fn worth(self, l: usize, sight: Sight, seen: Seen, pace: Pace) -> f64
+        requires { ⌜ l < 17 ⌝ ∗ ⌜ self .level < 17 ⌝ ∗ ⌜ Paced pace ⌝ }
+        ensures { λ r. ⌜ r ≡ viewWorth self l sight seen pace ⌝ }
+    {
+        let chance = seen.chance(prior(sight.room()), self.now);
+        let w = level::wave_rank(l);
+        let rate = pace.payload_rate(l, self.cue & (w >= 4) & self.low);
+        std::num::f32_to_f64_with_nan(chance) * rate / bar(l, self.level)
+    }
+
+    // One level held against the best so far.
+    fn weigh(self, best: Best, l: usize, sight: Sight, seen: Seen, pace: Pace) -> Best
+        requires { ⌜ l < 17 ⌝ ∗ ⌜ self .level < 17 ⌝ ∗ ⌜ Paced pace ⌝ }
+        ensures { λ r. ⌜ r ≡ viewWeighed self best l sight seen pace ⌝ }
+    {
+        if self.candidate(l, sight) {
+            return best.over(l, self.worth(l, sight, seen, pace));
+        }
+        best
+    }
+}
+
 impl Gear {
     // Whether a data burst at level l goes behind a cue.
     pub fn cue_for(self, cfg: Profile, l: usize) -> bool
@@ -154,42 +224,51 @@ impl Gear {
         self.cue & (w >= 4) & (!self.aim_db.set | (self.aim_db.db < cfg.cue_below_db))
     }
 
-    fn score(self, cfg: Profile, aim: f32, now: f64, l: usize) -> f64
-        requires { ⌜ l < 17 ⌝ ∗ ⌜ Ranged cfg ⌝ }
-        ensures { λ r. ⌜ r ≡ scoreOf cfg self aim now l ⌝ }
-    {
-        let chance = chance(
-            self.tries,
-            l,
-            prior(room(marks(cfg), cfg.power, l, aim)),
-            now,
-        );
-        std::num::f32_to_f64_with_nan(chance) * level_rate(cfg, l, self.cue_for(cfg, l))
-    }
-
-    fn worth(self, cfg: Profile, aim: f32, now: f64, l: usize) -> f64
-        requires { ⌜ l < 17 ⌝ ∗ ⌜ self .level < 17 ⌝ ∗ ⌜ Ranged cfg ⌝ }
-        ensures { λ r. ⌜ r ≡ worthOf cfg self aim now l ⌝ }
-    {
-        self.score(cfg, aim, now, l) / bar(l, self.level)
-    }
-
-    // The present level, or one that the class allows and that is in reach.
-    fn candidate(self, cfg: Profile, aim: f32, l: usize) -> bool
-        requires { ⌜ l < 17 ⌝ }
-        ensures { λ r. ⌜ r ≡ candidate cfg self aim l ⌝ }
+    fn view(self, cfg: Profile, now: f64) -> View
+        ensures { λ r. ⌜ r ≡ viewOf cfg self now ⌝ }
     {
         let class = heeded(self.peer_class, cfg.pick_family);
-        (l == self.level) | (family_ok(class, l) & in_reach(marks(cfg), cfg.power, l, aim))
+        View {
+            level: self.level,
+            class: class,
+            cue: self.cue,
+            low: !self.aim_db.set | (self.aim_db.db < cfg.cue_below_db),
+            now: now,
+        }
     }
 
-    // One level held against the best so far.
-    fn weigh(self, cfg: Profile, aim: f32, now: f64, best: Best, l: usize) -> Best
-        requires { ⌜ l < 17 ⌝ ∗ ⌜ self .level < 17 ⌝ ∗ ⌜ Ranged cfg ⌝ }
-        ensures { λ r. ⌜ r ≡ weighed cfg self aim now best l ⌝ }
+    // The best of the levels. What the turns share, and the arrays that they read, are taken out before the loop.
+    fn best(self, cfg: Profile, aim: f32, now: f64) -> Best
+        requires { ⌜ self .level < 17 ⌝ ∗ ⌜ Ranged cfg ⌝ }
+        ensures { λ r. ⌜ r ≡ bestOf cfg self aim now ⌝ }
     {
-        if self.candidate(cfg, aim, l) {
-            return best.over(l, self.worth(cfg, aim, now, l));
+        let view = self.view(cfg, now);
+        let marks = marks(cfg);
+        let air = cfg.air;
+        let tries = self.tries;
+        let mut best = no_best();
+        for l in 0..cfg.max_level + 1 {
+            let sight = Sight {
+                db: aim + air_db(cfg.power, l),
+                threshold_db: marks.thresholds_db[l],
+                margin_db: marks.margin_db,
+            };
+            let seen = Seen {
+                tried: tries.tried[l],
+                success: tries.success[l],
+                at: tries.success_at[l],
+                fails: tries.fails[l],
+            };
+            let pace = Pace {
+                usual: cfg.lengths.max_burst_s,
+                pre_s: air.pre_s[l],
+                rate: air.rate[l],
+                cue_s: air.cue_s,
+                slot: air.slot_bits[l],
+                short_bytes: cfg.short_bytes,
+                long_bytes: cfg.long_bytes,
+            };
+            best = view.weigh(best, l, sight, seen, pace);
         }
         best
     }
@@ -199,14 +278,7 @@ impl Gear {
         requires { ⌜ self .level < 17 ⌝ ∗ ⌜ Ranged cfg ⌝ }
         ensures { λ r. ⌜ r ≡ pickByGoodput cfg self aim now ⌝ }
     {
-        let mut best = Best {
-            found: false,
-            level: FLOOR,
-            worth: 0.0,
-        };
-        for l in 0..cfg.max_level + 1 {
-            best = self.weigh(cfg, aim, now, best, l);
-        }
+        let best = self.best(cfg, aim, now);
         if best.found {
             return self.holds.usable_below(
                 heeded(self.peer_class, cfg.pick_family),

@@ -1,77 +1,45 @@
-use Rattle.rates.specs.Rates.{levelRate}
-use lib.Ieee.{ofInt, ofBits}
-use native.Mathlib.Omega.{arith}
-use Rattle.rates.proofs.RateLaws.{frames-le, bits-fit}
+use mathlib.Core.Path.{_∙_}
+use Rattle.rates.proofs.RateLaws.{paced, rate-is}
 use borrow.Author.Needs.{needs}
 use Rattle.rates.proofs.level_rate.Statement.{statement}
 use Rattle.rates.proofs.level_rate.Tie as tie
 
-slot-requires : tie.Need-slot-requires
-slot-requires c κs = search needs
+mul-t6 : tie.Need-mul-t6
+mul-t6 c = search needs
 
-cast-slot : tie.Need-cast-slot
-cast-slot c = omega (arith, c .before .pre .1 .air .level (c .before .args .l) (c .before .pre .0) .slot .1, c .slot .ensures)
+element-copy-out-t9 : tie.Need-element-copy-out-t9
+element-copy-out-t9 c = search needs
 
-data-s-requires : tie.Need-data-s-requires
-data-s-requires c κs = search needs
+mul-t10 : tie.Need-mul-t10
+mul-t10 c = search needs
 
-mul-data-s : tie.Need-mul-data-s
-mul-data-s c = let s = c .before .before in omega (arith, s .pre .1 .air .level (s .args .l) (s .pre .0) .slot .1, c .before .slot .ensures)
+element-copy-out-t13 : tie.Need-element-copy-out-t13
+element-copy-out-t13 c = search needs
 
-data-s-requires-2 : tie.Need-data-s-requires-2
-data-s-requires-2 c κs = search needs
+mul-t15 : tie.Need-mul-t15
+mul-t15 c = search needs
 
-frames-of-requires : tie.Need-frames-of-requires
-frames-of-requires c κs = search needs
+element-copy-out-t18 : tie.Need-element-copy-out-t18
+element-copy-out-t18 c = search needs
 
-count-of-requires : tie.Need-count-of-requires
-count-of-requires c κs = search needs
-
-mul-data-s-2 : tie.Need-mul-data-s-2
-mul-data-s-2 c =
-    let s = c .before .before .before .before .before in
-    record {
-      fits =
-          rw (c .count-of .ensures, c .before .frames-of .ensures, c .before .before .data-s2 .ensures, c .before .before .before .data-s .ensures, c .before .before .before .before .slot .ensures)
-          (bits-fit _ _ (frames-le (s .args .cfg) (s .pre .1) (s .args .l) (s .pre .0) (s .args .cue)) (s .pre .1 .air .level (s .args .l) (s .pre .0) .slot .1));
-    }
-
-data-s-requires-3 : tie.Need-data-s-requires-3
-data-s-requires-3 c κs = search needs
-
-payload-bits-requires : tie.Need-payload-bits-requires
-payload-bits-requires c κs = search needs
-
-nearest-u64-to-f64-requires : tie.Need-nearest-u64-to-f64-requires
-nearest-u64-to-f64-requires c κs = search needs
-
-floor64-requires : tie.Need-floor64-requires
-floor64-requires c κs = search needs
-
-max64-requires : tie.Need-max64-requires
-max64-requires c κs = search needs
-
-max64-requires-2 : tie.Need-max64-requires-2
-max64-requires-2 c κs = search needs
+payload-rate-requires : tie.Need-payload-rate-requires
+payload-rate-requires c κs =
+    let s = c .before .before .before .before in
+    let k = paced (s .args .cfg) (s .pre .1) (s .args .l) (s .pre .0) in
+    (s .pre .0, record { usual = k .usual; pre = k .pre; rate = k .rate; cue = k .cue; slot = k .slot })
 
 returns : tie.Need-returns
-unfolding levelRate ofInt ofBits
-returns c =
-    let a = c .before .before .before .before .before in
-    let b = a .before .before .before .before .before in
-    simp (
-      c .max642 .ensures,
-      c .before .max64 .ensures,
-      c .before .before .floor64 .ensures,
-      c .before .before .before .nearest-u64-to-f64 .ensures,
-      c .before .before .before .before .payload-bits .ensures,
-      a .data-s3 .ensures,
-      a .before .count-of .ensures,
-      a .before .before .frames-of .ensures,
-      a .before .before .before .data-s2 .ensures,
-      a .before .before .before .before .data-s .ensures,
-      b .slot .ensures,
-    )
+returns c = let a = c .before .before .before .before .before .args in c .payload-rate .ensures ∙ rate-is (a .cfg) (a .l) (a .cue)
 
 pub level-rate-spec : {M : Type 1} → statement M
-level-rate-spec = tie.close (tie.spec slot-requires cast-slot data-s-requires mul-data-s data-s-requires-2 frames-of-requires count-of-requires mul-data-s-2 data-s-requires-3 payload-bits-requires nearest-u64-to-f64-requires floor64-requires max64-requires max64-requires-2 returns)
+level-rate-spec =
+    tie.close
+    (tie.spec
+    mul-t6
+    element-copy-out-t9
+    mul-t10
+    element-copy-out-t13
+    mul-t15
+    element-copy-out-t18
+    payload-rate-requires
+    returns)

@@ -1,8 +1,8 @@
-use Rattle.rates.specs.Rates.{payloadBits}
+use Rattle.rates.specs.Paces.{paceBits}
 use Rattle.laws.proofs.Picks.{calls}
 use borrow.Author.Needs.{needs}
-use Rattle.rates.proofs.payload_bits.Statement.{statement}
-use Rattle.rates.proofs.payload_bits.Tie as tie
+use Rattle.rates.proofs.Pace.payload_bits.Statement.{statement}
+use Rattle.rates.proofs.Pace.payload_bits.Tie as tie
 
 long-frame-requires : tie.Need-long-frame-requires
 long-frame-requires c κs = search needs
@@ -20,12 +20,21 @@ mul-result-2 : tie.Need-mul-result-2
 mul-result-2 c = search needs
 
 returns : tie.Need-returns
-unfolding payloadBits
+unfolding paceBits
 returns c = search calls
 
 returns-2 : tie.Need-returns-2
-unfolding payloadBits
+unfolding paceBits
 returns-2 c = search calls
 
 pub payload-bits-spec : {M : Type 1} → statement M
-payload-bits-spec = tie.close (tie.spec long-frame-requires cast-result mul-result cast-result-2 mul-result-2 returns returns-2)
+payload-bits-spec =
+    tie.close
+    (tie.spec
+    long-frame-requires
+    cast-result
+    mul-result
+    cast-result-2
+    mul-result-2
+    returns
+    returns-2)

@@ -1,9 +1,9 @@
 use mathlib.Core.Path.{refl}
-use Rattle.goodput.specs.Goodput.{weighed}
+use Rattle.goodput.specs.Levels.{viewWeighed}
 use Rattle.laws.proofs.Picks.{cond-yes, cond-no, told-yes, told-no}
 use borrow.Author.Needs.{needs}
-use Rattle.goodput.proofs.Gear.weigh.Statement.{statement}
-use Rattle.goodput.proofs.Gear.weigh.Tie as tie
+use Rattle.goodput.proofs.View.weigh.Statement.{statement}
+use Rattle.goodput.proofs.View.weigh.Tie as tie
 
 candidate-requires : tie.Need-candidate-requires
 candidate-requires c κs = search needs
@@ -15,11 +15,11 @@ over-requires : tie.Need-over-requires
 over-requires c κs = search needs
 
 returns : tie.Need-returns
-unfolding weighed
+unfolding viewWeighed
 returns c = cond-yes _ _ _ _ (told-yes _ _ (c .before .before .before .candidate .ensures) (c .before .before .if1 .taken)) (rw (c .before .worth .ensures) at (c .over .ensures))
 
 returns-2 : tie.Need-returns-2
-unfolding weighed
+unfolding viewWeighed
 returns-2 c = cond-no _ _ _ _ (told-no _ _ (c .before .candidate .ensures) (c .if1 .left)) refl
 
 pub weigh-spec : {M : Type 1} → statement M
