@@ -990,7 +990,8 @@ class Compiler:
         for n in by_sign(kit):                  # what is of the logic, through one module
             if len(cur) + len(n) > 230: lines.append(cur); cur = ''
             cur += (', ' if cur else '') + n
-        head += [f'use Rattle.{self.laws}.proofs.Kit.{{{l}}}' for l in lines + [cur]]
+        spaced = lambda l: l + ' ' if l.endswith('!') else l
+        head += [f'use Rattle.{self.laws}.proofs.Kit.{{{spaced(l)}}}' for l in lines + [cur]]
         if 'LL.' in body: head.append('use denote.Struct.Laws as LL')
         if 'EL.' in body: head.append('use denote.Enum.Laws as EL')
         head += [f'use {mod}.{{{", ".join(by_sign(own[mod]))}}}' for mod in sorted(own)]
