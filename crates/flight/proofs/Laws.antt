@@ -12,11 +12,13 @@ use lib.Seq.{drop-cons, getD-set-same, getD-set-other, take-take, drop-at}
 use lib.Dec.{eqb}
 use borrow.Author.Tests.{ne-eqb, eqb-true, eqb-false}
 use Rattle.laws.specs.Bytes.{overwrite, part}
-use Rattle.laws.proofs.Bytes.{length-over, over-nil, over-cat, over-comm, part-before, part-after, part-add, length-part}
+use Rattle.laws.proofs.Bytes.{length-over, over-nil, over-cat, over-comm, part-before, part-after, part-add, over-part, length-part}
+use Rattle.laws.proofs.Little.{Bytes}
+use Rattle.ledger.specs.Limits.{maxPieces}
 use Rattle.table.specs.Layout.{place, streamBytes, areaBytes}
 use Rattle.table.specs.Table.{rowAt, rowsFrom, tableBytes, withRows, total}
 use Rattle.table.specs.declared.Row.{Row}
-use Rattle.table.proofs.Laws.{rows-turn, rows-none, rows-after}
+use Rattle.table.proofs.Laws.{rows-turn, rows-none, rows-after, table-kept}
 use Rattle.laws.specs.Lists.{listed}
 use Rattle.laws.proofs.Picks.{test}
 use Rattle.flight.specs.Flight.{markCount, markPlace, markAll, Marked, keptRows, keptBytes, removedPieces}
@@ -129,6 +131,7 @@ pub record Removing (a₀ : List ℕ) (n used : ℕ) (gone a : List ℕ) (from t
   pub low : w ≤ i
   pub high : i ≤ n
   pub back : to ≤ from
+  pub none : w ≡ i → to ≡ from
   pub fits : from + total (rowsFrom a i (n - i)) ≤ used
   pub long : length a ≡ length a₀
   pub rows : length (keptRows gone (rowsFrom a₀ 0 n)) ≡ w + length (keptRows gone (rowsFrom a i (n - i)))
@@ -140,6 +143,7 @@ removing-start a n used gone h = record {
   low = le-refl 0;
   high = omega arith;
   back = le-refl 0;
+  none = λ e. refl;
   fits = rw (sub-zero, zero-add) h;
   long = refl;
   rows = simp (sub-zero, zero-add);
@@ -191,6 +195,7 @@ module _ (a₀ : List ℕ) (n used : ℕ) (gone a : List ℕ) (from to w i : ℕ
     low = omega (arith, s .low);
     high = omega arith;
     back = omega (arith, s .back);
+    none = λ e. absurd (omega (arith, s .low));
     fits = omega (arith, turn-total, s .fits);
     long = s .long;
     rows = s .rows ∙ ap (λ (x : List Row). w + length x) (kept-turn true t);
@@ -247,6 +252,7 @@ module _ (a₀ : List ℕ) (n used : ℕ) (gone a : List ℕ) (from to w i : ℕ
     low = omega (arith, s .low);
     high = omega arith;
     back = omega (arith, s .back);
+    none = λ e. omega (arith, s .none (omega arith));
     fits = omega (arith, turn-total, s .fits, ap total rows-moved);
     long = length-over (overwrite a to (part a from (r .len))) (place w) (tableBytes (r ∷ [])) ∙ length-over a to (part a from (r .len)) ∙ s .long;
     rows = omega (arith, s .rows, ap length (kept-turn false t), ap (λ (x : List Row). length (keptRows gone x)) rows-moved);
@@ -265,6 +271,24 @@ removing-end a₀ n used gone a from to w i s h =
     let bytes : to ≡ total (keptRows gone (rowsFrom a₀ 0 n)) = omega (arith, s .bytes, ap total zr) in
     ap₂ (λ (k : Kept) (b : List ℕ). (k, b)) (ap₂ (λ (x y : ℕ). record { rows = x; bytes = y }) rows bytes)
     (sym (s .same ∙ ap (λ (x : List Row). overwrite (overwrite a to (keptBytes gone x (part a from (used - from)))) (place w) (tableBytes (keptRows gone x))) z ∙ over-nil _ _) ∙ simp sub-zero)
+
+-- the same where every piece stays
+pub removing-none : (a₀ : List ℕ) (n used : ℕ) (gone a : List ℕ) (from to w i : ℕ) → Removing a₀ n used gone a from to w i → n ≤ i → w ≡ n
+    → (record { rows = n; bytes = from }, a) ≡ removedPieces gone n used a₀
+removing-none a₀ n used gone a from to w i s h e =
+    let f : to ≡ from = s .none (omega (arith, s .high)) in
+    ap₂ (λ (x y : ℕ). (record { rows = x; bytes = y }, a)) (sym e) (sym f)
+    ∙ ap (λ (b : List ℕ). (record { rows = w; bytes = to }, b)) (sym (ap (λ (k : ℕ). overwrite a k (part a from (used - from))) f ∙ over-part a from (used - from)))
+    ∙ removing-end a₀ n used gone a from to w i s h
+
+-- a piece that lies where it goes
+pub move-none : (a : List ℕ) → Bytes a → (i w from to : ℕ) (r : Row) → i < maxPieces → areaBytes ≤ length a → r ≡ rowAt a i → to ≡ from → w ≡ i
+    → a ≡ overwrite (overwrite a to (part a from (r .len))) (place w) (tableBytes (r ∷ []))
+move-none a b i w from to r h l e f g =
+    sym
+    (ap₂ (λ (j k : ℕ). overwrite (overwrite a j (part a from (r .len))) (place k) (tableBytes (r ∷ []))) f g
+    ∙ ap₂ (λ (x : List ℕ) (y : Row). overwrite x (place i) (tableBytes (y ∷ []))) (over-part a from (r .len)) e
+    ∙ table-kept a b i 1 (omega arith))
 
 -- what `remove_pieces` leaves, fact by fact
 pub removed-facts : (gone : List ℕ) (n used : ℕ) (a : List ℕ) (k : Kept) (b : List ℕ) → (k, b) ≡ removedPieces gone n used a

@@ -1,14 +1,17 @@
 // Offsets looked for by marks, and pieces that leave the work area in one pass.
 use moves::shift_left;
+use table::Row;
 use table::load_row;
 use table::store_row;
 ghost use mathlib.Core.Path.{_≡_};
-ghost use Prim.Native.Nat.{_≤_, _<_};
+ghost use mathlib.Core.List.{_∷_, []};
+ghost use Prim.Native.Nat.{_+_, _≤_, _<_};
 ghost use lib.ListN.{length};
+ghost use Rattle.laws.specs.Bytes.{overwrite, part};
 ghost use Rattle.laws.specs.Lists.{listed};
 ghost use Rattle.ledger.specs.Limits.{maxPieces};
-ghost use Rattle.table.specs.Layout.{areaBytes, streamBytes};
-ghost use Rattle.table.specs.Table.{rowsFrom, total};
+ghost use Rattle.table.specs.Layout.{place, areaBytes, streamBytes};
+ghost use Rattle.table.specs.Table.{rowAt, rowsFrom, tableBytes, total};
 ghost use Rattle.flight.specs.Flight.{markCount, markPlace, markAll, Marked, removedPieces};
 
 // Marks of a list of offsets.
@@ -58,6 +61,19 @@ pub fn contains_marked(marks: &[u8], offs: &[u32], off: u32) -> bool
     contains(offs, off)
 }
 
+// Moves piece i down: its row r to row w, and its bytes from `from` to `to`. Where none before it was taken out, it lies there already.
+fn move_piece(a: &mut [u8], i: usize, w: usize, from: usize, to: usize, r: Row)
+    requires { ⌜ (i < maxPieces) × (areaBytes ≤ length (now a)) × (w ≤ i) × (to ≤ from) × (from + r .len ≤ streamBytes) × (r ≡ rowAt (now a) i) × (w ≡ i → to ≡ from) ⌝ }
+    ensures { λ _. ⌜ now (a .exit) ≡ overwrite (overwrite (now (a .entry)) to (part (now (a .entry)) from (r .len))) (place w) (tableBytes (r ∷ [])) ⌝ }
+{
+    if w == i {
+        return;
+    }
+    let len = r.len as usize;
+    shift_left(a, from, to, len);
+    store_row(a, w, r);
+}
+
 // How many rows stay, and how many bytes they have.
 pub struct Kept {
     pub rows: usize,
@@ -81,13 +97,18 @@ pub fn remove_pieces(a: &mut [u8], n: usize, used: usize, marks: &[u8], gone: &[
             from = from + len;
             i += 1;
         } else {
-            shift_left(a, from, to, len);
-            store_row(a, w, r);
+            move_piece(a, i, w, from, to, r);
             from = from + len;
             to = to + len;
             w += 1;
             i += 1;
         }
+    }
+    if w == n {
+        return Kept {
+            rows: n,
+            bytes: from,
+        };
     }
     shift_left(a, from, to, used - from);
     Kept { rows: w, bytes: to }

@@ -189,10 +189,6 @@ module _ (q : Harq) (slot : ℕ) (rs : List Row) (os hs : List ℕ) (i : ℕ) (s
   unfolding incrementSlots pushAll
   increments-end h = ap (λ (x : List ℕ). pushAll s (incrementSlots q slot rs x (drop i hs))) (drop-of-length-le os h)
 
-pub pushed-count : (s : Slots) (x : Slot) → pushed s x .n ≡ s .n + 1
-unfolding pushed
-pushed-count s x = refl
-
 -- ---- how many there are
 
 pub push-all-count : (s : Slots) (xs : List Slot) → pushAll s xs .n ≡ s .n + length xs

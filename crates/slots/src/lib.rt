@@ -14,7 +14,7 @@ ghost use Rattle.ledger.specs.Limits.{maxPieces, maxSlots, maxHeld, maxTaken};
 ghost use Rattle.table.specs.Layout.{areaBytes, streamBytes};
 ghost use Rattle.table.specs.Table.{rowsFrom, total};
 ghost use Rattle.flight.specs.Flight.{Marked};
-ghost use Rattle.slots.specs.Slots.{pushed, pushAll, incrementSlots, unheldSlots, newPieces};
+ghost use Rattle.slots.specs.Slots.{pushAll, incrementSlots, unheldSlots, newPieces};
 
 // A frame: the piece's offset, the bits that go, the bits that the peer then holds, and where the bytes lie in the stream.
 pub struct Slot {
@@ -33,20 +33,6 @@ pub struct Slots {
     pub start: [u32; MAX_SLOTS],
     pub len: [u32; MAX_SLOTS],
     pub n: usize,
-}
-
-fn push(mut s: Slots, x: Slot) -> Slots
-    requires { ⌜ s .n < maxSlots ⌝ }
-    ensures { λ r. ⌜ r ≡ pushed s x ⌝ }
-{
-    let n = s.n;
-    s.off[n] = x.off;
-    s.bits[n] = x.bits;
-    s.held[n] = x.held;
-    s.start[n] = x.start;
-    s.len[n] = x.len;
-    s.n = n + 1;
-    s
 }
 
 // The increments of the pieces at `offs`, of which the peer holds `bits`.
@@ -69,18 +55,13 @@ pub fn increments(
         let h = bits[i];
         let more = q.increment(h, slot);
         let p = find(a, n, off);
-        let start = p.start as u32;
-        let len = p.len as u32;
-        s = push(
-            s,
-            Slot {
-                off,
-                bits: more,
-                held: h + more,
-                start,
-                len,
-            },
-        );
+        let k = s.n;
+        s.off[k] = off;
+        s.bits[k] = more;
+        s.held[k] = h + more;
+        s.start[k] = p.start as u32;
+        s.len[k] = p.len as u32;
+        s.n = k + 1;
         i += 1;
     }
     s
@@ -103,27 +84,20 @@ pub fn old_pieces(
     let mut left = room;
     let mut start: u32 = 0;
     let mut i = 0;
-    while i < n {
-        if left == 0 {
-            return s;
-        }
+    while (i < n) & (0 < left) {
         let r = load_row(a, i);
-        let off = r.off;
         let len = r.len;
-        if contains_marked(marks, held, off) {
+        if contains_marked(marks, held, r.off) {
             start = start + len;
             i += 1;
         } else {
-            s = push(
-                s,
-                Slot {
-                    off,
-                    bits,
-                    held: bits,
-                    start,
-                    len,
-                },
-            );
+            let k = s.n;
+            s.off[k] = r.off;
+            s.bits[k] = bits;
+            s.held[k] = bits;
+            s.start[k] = start;
+            s.len[k] = len;
+            s.n = k + 1;
             left = left - 1;
             start = start + len;
             i += 1;
@@ -168,21 +142,16 @@ pub fn new_pieces(
     let mut done: u32 = 0;
     let mut i = n;
     while (0 < left) & (done < w) {
-        let rest = w - done;
-        let len = smaller(max, rest);
+        let len = smaller(max, w - done);
         let off = next + done;
-        let start = at + done;
         store_row(a, i, Row { off, len });
-        s = push(
-            s,
-            Slot {
-                off,
-                bits,
-                held: bits,
-                start,
-                len,
-            },
-        );
+        let k = s.n;
+        s.off[k] = off;
+        s.bits[k] = bits;
+        s.held[k] = bits;
+        s.start[k] = at + done;
+        s.len[k] = len;
+        s.n = k + 1;
         done = done + len;
         left = left - 1;
         i += 1;

@@ -3,8 +3,8 @@
 use mathlib.Core.Path.{_≡_, sym, ap, ap₂, _∙_}
 use mathlib.Core.List.{List, [], _∷_}
 use mathlib.Core.Bool.{true, _&&_}
-use Prim.Native.Nat.{ℕ, zero, suc, _+_, _-_, _/_, _≤_, _<_}
-use native.Mathlib.Nat.{not-suc-le-zero}
+use Prim.Native.Nat.{ℕ, zero, suc, _+_, _-_, _*_, _/_, _≤_, _<_}
+use native.Mathlib.Nat.{not-suc-le-zero, lt-div-mul-add, div-lt-iff-lt-mul}
 use native.Mathlib.Omega.{arith}
 use native.Mathlib.Numerals.{add-one}
 use lib.ListN.{length, drop, getD, drop-of-length-le}
@@ -16,6 +16,7 @@ use Rattle.table.specs.declared.Row.{Row}
 use Rattle.table.proofs.Laws.{rows-turn}
 use Rattle.laws.proofs.Picks.{and-first, and-second}
 use Rattle.ledger.specs.Limits.{maxBits, maxHeld}
+use Rattle.ledger.specs.Cover.{ceil}
 use Rattle.sound.specs.Sound.{ascends, shortFramesOf, heldBitsOk, sentBitsOk}
 
 -- ---- a turn of the loop over the rows
@@ -35,6 +36,17 @@ module _ (a : List ℕ) (i n : ℕ) (r : Row) (h : i < n) (e : r ≡ rowAt a i) 
   pub short-turn : (s : ℕ) → shortFramesOf s (rowsFrom a i (n - i)) ≡ (r .len + (s - 1)) / s + shortFramesOf s (rowsFrom a (i + 1) (n - (i + 1)))
   unfolding shortFramesOf
   short-turn s = ap (shortFramesOf s) at-row
+
+-- a piece that one short frame carries
+pub one-short : (l s : ℕ) → 1 ≤ l → l ≤ s → 1 ≡ ceil l s
+one-short l s h k =
+    let p : 1 ≤ s = omega arith in
+    let m : (l + (s - 1)) / s < 2 = div-lt-iff-lt-mul p .1 (omega arith) in
+    go (ceil l s) m (lt-div-mul-add {a = l + (s - 1)} {b = s} p)
+  where
+    go : (c : ℕ) → c < 2 → l + (s - 1) < c * s + s → 1 ≡ c
+    go zero m e = absurd (omega arith)
+    go (suc c) m e = omega arith
 
 -- ---- lists
 

@@ -4,6 +4,7 @@ ghost use mathlib.Core.Path.{_≡_};
 ghost use Prim.Native.Nat.{_≤_};
 ghost use lib.ListN.{length};
 ghost use Rattle.ledger.specs.Limits.{maxPieces, maxPayload};
+ghost use Rattle.ledger.specs.Cover.{ceil};
 ghost use Rattle.table.specs.Layout.{areaBytes};
 ghost use Rattle.table.specs.Table.{rowsFrom};
 ghost use Rattle.sound.specs.Sound.{tableOk, heldBitsOk, sentBitsOk};
@@ -16,6 +17,17 @@ const MAX_BITS: u32 = 16384;
 
 // Held bits of an outstanding frame at most.
 const MAX_HELD: u32 = 49151;
+
+// Short frames for a piece of len bytes. It divides only where one doesn't do.
+fn shorts_of(len: u64, short: u32) -> u64
+    requires { ⌜ (1 ≤ len) × (len ≤ 4294967295) × (1 ≤ short) ⌝ }
+    ensures { λ r. ⌜ r ≡ ceil len short ⌝ }
+{
+    if len <= short as u64 {
+        return 1;
+    }
+    (len + (short as u64 - 1)) / short as u64
+}
 
 // The rows ascend, do not overlap, have 1 to long bytes, end by next, have flying bytes together, and can be cut to short in 2,048 pieces.
 pub fn table_ok(a: &[u8], n: usize, short: u32, long: u32, next: u32, flying: u32) -> bool
@@ -41,7 +53,7 @@ pub fn table_ok(a: &[u8], n: usize, short: u32, long: u32, next: u32, flying: u3
         }
         from = off + len;
         sum = sum + len;
-        shorts = shorts + (len + (short as u64 - 1)) / short as u64;
+        shorts = shorts + shorts_of(len, short);
         i += 1;
     }
     if (next as u64) < from {

@@ -1,11 +1,8 @@
 -- `flight::remove_pieces` meets its contract.
-use Rattle.laws.specs.Bytes.{overwrite}
-use Rattle.table.specs.Layout.{place}
-use Rattle.table.specs.Table.{tableBytes}
-use Rattle.flight.proofs.Laws.{Removing, row-fits, removing-start, removing-gone, removing-kept, removing-end}
+use Rattle.flight.proofs.Laws.{Removing, row-fits, removing-start, removing-gone, removing-kept, removing-end, removing-none}
 use Prim.Native.Nat.{ℕ, _+_, _-_, _≤_}
 use mathlib.Core.Path.{sym, ap, _∙_}
-use mathlib.Core.List.{List, [], _∷_}
+use mathlib.Core.List.{List}
 use native.Mathlib.Omega.{arith}
 use borrow.Author.Needs.{needs}
 use Rattle.flight.proofs.remove_pieces.Statement.{statement}
@@ -58,17 +55,21 @@ loop-again c =
     let s = S p in
     removing-gone _ _ _ _ _ _ _ _ _ _ (p .loop .inv) (d .before .before .loop-test .taken) (d .load-row .ensures) (s .pre .2) (s .pre .1) (sym (c .before .contains-marked .ensures) ∙ c .if1 .taken)
 
-shift-left-requires : tie.Need-shift-left-requires Inv-loop μ-loop
-shift-left-requires c κs = let d = c .before .before .before .before in omega (arith, fits d, P d .loop .inv .back, P d .loop .inv .long)
+-- in a turn, once the piece has moved
+abbrev R : tie.After-slice-known2 Inv-loop μ-loop → tie.After-load-row Inv-loop μ-loop
+R c = c .before .before .before .before .before .before .before
 
-store-row-requires : tie.Need-store-row-requires Inv-loop μ-loop
-store-row-requires c κs = let d = c .before .before .before .before .before .before .before .before in omega (arith, fits d, P d .loop .inv .low, P d .loop .inv .long)
+move-piece-requires : tie.Need-move-piece-requires Inv-loop μ-loop
+move-piece-requires c κs =
+    let d = c .before .before .before .before in
+    let v = P d .loop .inv in
+    (omega (arith, v .high), omega (arith, v .long), v .low, v .back, omega (arith, fits d), d .load-row .ensures, v .none)
 
 add-from-2 : tie.Need-add-from-2 Inv-loop μ-loop
-add-from-2 c = omega (arith, fits (c .before .before .before .before .before .before .before .before .before .before .before))
+add-from-2 c = omega (arith, fits (R c))
 
 add-to : tie.Need-add-to Inv-loop μ-loop
-add-to c = let d = c .before .before .before .before .before .before .before .before .before .before .before in omega (arith, fits d, P d .loop .inv .back)
+add-to c = omega (arith, fits (R c), P (R c) .loop .inv .back)
 
 add-w : tie.Need-add-w Inv-loop μ-loop
 add-w c = search needs
@@ -81,29 +82,34 @@ loop-less-2 c = search needs
 
 loop-again-2 : tie.Need-loop-again-2 Inv-loop μ-loop
 loop-again-2 c =
-    let st = c .before .before in
-    let sh = st .before .before .before .before in
-    let e = sh .before .before in
-    let d = e .before .before .before in
+    let mp = c .before .before in
+    let e = mp .before .before in
+    let d = R c in
     let p = P d in
     let s = S p in
-    removing-kept _ _ _ _ _ _ _ _ _ _ (p .loop .inv) (d .before .before .loop-test .taken) (d .load-row .ensures) (s .pre .2) (s .pre .1) _ (sym (e .before .contains-marked .ensures) ∙ e .if1 .left)
-    (st .store-row .ensures ∙ ap (λ (x : List ℕ). overwrite x (place (p .loop .w)) (tableBytes (d .load-row .result ∷ []))) (sh .shift-left .ensures))
-
-sub-shift-left : tie.Need-sub-shift-left Inv-loop μ-loop
-sub-shift-left c = let p = c .before .before in omega (arith, p .loop .inv .fits)
-
-shift-left-requires-2 : tie.Need-shift-left-requires-2 Inv-loop μ-loop
-shift-left-requires-2 c κs = let p = c .before .before in omega (arith, p .loop .inv .fits, p .loop .inv .back, p .loop .inv .long)
+    removing-kept _ _ _ _ _ _ _ _ _ _ (p .loop .inv) (d .before .before .loop-test .taken) (d .load-row .ensures) (s .pre .2) (s .pre .1) _ (sym (e .before .contains-marked .ensures) ∙ e .if1 .left) (mp .move-piece .ensures)
 
 same-length : tie.Need-same-length Inv-loop μ-loop
-same-length c = let sh = c .before .before in sh .shift-left2 .kept .0 ∙ sh .before .before .before .loop .inv .long
+same-length c = c .before .before .loop .inv .long
 
 returns : tie.Need-returns Inv-loop μ-loop
-returns c =
+returns c = removing-none _ _ _ _ _ _ _ _ _ (c .before .before .loop .inv) (c .before .loop-test .left) (c .if2 .taken)
+
+sub-shift-left : tie.Need-sub-shift-left Inv-loop μ-loop
+sub-shift-left c = let p = c .before .before .before in omega (arith, p .loop .inv .fits)
+
+shift-left-requires : tie.Need-shift-left-requires Inv-loop μ-loop
+shift-left-requires c κs = let p = c .before .before .before in omega (arith, p .loop .inv .fits, p .loop .inv .back, p .loop .inv .long)
+
+same-length-2 : tie.Need-same-length-2 Inv-loop μ-loop
+same-length-2 c = let sh = c .before .before in sh .shift-left .kept .0 ∙ sh .before .before .before .before .loop .inv .long
+
+returns-2 : tie.Need-returns-2 Inv-loop μ-loop
+returns-2 c =
     let sh = c .before .before in
-    let p = sh .before .before .before in
-    ap (λ (b : List ℕ). (record { rows = p .loop .w; bytes = p .loop .to }, b)) (sh .shift-left2 .ensures) ∙ removing-end _ _ _ _ _ _ _ _ _ (p .loop .inv) (sh .before .before .loop-test .left)
+    let l = sh .before .before .before in
+    let p = l .before in
+    ap (λ (b : List ℕ). (record { rows = p .loop .w; bytes = p .loop .to }, b)) (sh .shift-left .ensures) ∙ removing-end _ _ _ _ _ _ _ _ _ (p .loop .inv) (l .loop-test .left)
 
 pub remove-pieces-spec : {M : Type 1} → statement M
 remove-pieces-spec =
@@ -119,15 +125,16 @@ remove-pieces-spec =
     add-i
     loop-less
     loop-again
-    shift-left-requires
-    store-row-requires
+    move-piece-requires
     add-from-2
     add-to
     add-w
     add-i-2
     loop-less-2
     loop-again-2
-    sub-shift-left
-    shift-left-requires-2
     same-length
-    returns)
+    returns
+    sub-shift-left
+    shift-left-requires
+    same-length-2
+    returns-2)

@@ -1,16 +1,15 @@
 -- `slots::increments` meets its contract.
 use denote.Ref.{now}
-use mathlib.Core.Path.{ap₂, _≡_, refl, sym, ap, _∙_}
+use mathlib.Core.Path.{_≡_, refl, sym, ap₂, _∙_}
 use lib.ListN.{drop, length, getD}
 use Rattle.ledger.specs.Limits.{maxSlots, maxHeld}
 use Rattle.table.specs.Layout.{streamBytes}
 use Rattle.table.specs.Table.{rowsFrom}
 use Rattle.lookup.specs.declared.Found.{Found}
 use Rattle.lookup.proofs.Laws.{find-within}
-use Rattle.slots.specs.declared.Slots.{Slots}
 use Rattle.slots.specs.Slots.{pushAll, pushed, incrementSlots}
-use Rattle.slots.proofs.Laws.{increments-turn, increments-end, pushed-count}
-use Prim.Native.Nat.{ℕ, _+_, _-_, _≤_}
+use Rattle.slots.proofs.Laws.{increments-turn, increments-end}
+use Prim.Native.Nat.{ℕ, _+_, _-_, _≤_, _<_}
 use native.Mathlib.Omega.{arith}
 use borrow.Author.Needs.{needs}
 use Rattle.slots.proofs.increments.Statement.{statement}
@@ -43,6 +42,9 @@ fits d =
     let p = L d .before in
     omega (arith, d .before .increment .ensures, s .pre .5 (p .loop .i) (omega (arith, L d .loop-test .taken, s .pre .4)))
 
+space : (d : tie.After-find Inv-loop μ-loop) → L d .before .loop .s .n < maxSlots
+space d = omega (arith, L d .loop-test .taken, L d .before .loop .inv .1)
+
 loop-holds : tie.Need-loop-holds Inv-loop μ-loop
 loop-holds c = let s = c .before .before .before in (omega arith, omega (arith, s .pre .3), refl)
 
@@ -64,37 +66,65 @@ increment-requires c κs = search needs
 find-requires : tie.Need-find-requires Inv-loop μ-loop
 find-requires c κs = search needs
 
-cast-start : tie.Need-cast-start Inv-loop μ-loop
-cast-start c = omega (arith, within (c .before))
+mul-s : tie.Need-mul-s Inv-loop μ-loop
+mul-s c = omega (arith, space c)
 
-cast-len : tie.Need-cast-len Inv-loop μ-loop
-cast-len c = omega (arith, within (c .before .before))
+element-write-s : tie.Need-element-write-s Inv-loop μ-loop
+element-write-s c = omega (arith, space c)
 
-add-t19 : tie.Need-add-t19 Inv-loop μ-loop
-add-t19 c = omega (arith, fits (c .before .before))
+mul-s-2 : tie.Need-mul-s-2 Inv-loop μ-loop
+mul-s-2 c = omega (arith, space c)
 
-push-requires : tie.Need-push-requires Inv-loop μ-loop
-push-requires c κs = let d = L (c .before .before) in omega (arith, d .loop-test .taken, d .before .loop .inv .1)
+element-write-s-2 : tie.Need-element-write-s-2 Inv-loop μ-loop
+element-write-s-2 c = omega (arith, space c)
+
+add-s : tie.Need-add-s Inv-loop μ-loop
+add-s c = omega (arith, fits c)
+
+mul-s-3 : tie.Need-mul-s-3 Inv-loop μ-loop
+mul-s-3 c = omega (arith, space c)
+
+element-write-s-3 : tie.Need-element-write-s-3 Inv-loop μ-loop
+element-write-s-3 c = omega (arith, space c)
+
+cast-s : tie.Need-cast-s Inv-loop μ-loop
+cast-s c = omega (arith, within (c .before))
+
+mul-s-4 : tie.Need-mul-s-4 Inv-loop μ-loop
+mul-s-4 c = omega (arith, space (c .before))
+
+element-write-s-4 : tie.Need-element-write-s-4 Inv-loop μ-loop
+element-write-s-4 c = omega (arith, space (c .before))
+
+cast-s-2 : tie.Need-cast-s-2 Inv-loop μ-loop
+cast-s-2 c = omega (arith, within (c .before .before))
+
+mul-s-5 : tie.Need-mul-s-5 Inv-loop μ-loop
+mul-s-5 c = omega (arith, space (c .before .before))
+
+element-write-s-5 : tie.Need-element-write-s-5 Inv-loop μ-loop
+element-write-s-5 c = omega (arith, space (c .before .before))
+
+add-s-2 : tie.Need-add-s-2 Inv-loop μ-loop
+add-s-2 c = omega (arith, space (c .before .before))
 
 add-i : tie.Need-add-i Inv-loop μ-loop
 add-i c = search needs
 
 loop-less : tie.Need-loop-less Inv-loop μ-loop
-loop-less c = omega (arith, L (c .before .before .before) .loop-test .taken)
+loop-less c = omega (arith, L (c .before .before) .loop-test .taken)
 
 loop-again : tie.Need-loop-again Inv-loop μ-loop
+unfolding pushed
 loop-again c =
-    let k = c .before .before .before in
+    let k = c .before .before in
     let d = L k in
     let p = d .before in
     let s = S k in
     let o = getD (now (s .args .offs)) (p .loop .i) 0 in
     let h = getD (now (s .args .bits)) (p .loop .i) 0 in
-    let q = c .push .ensures ∙ ap₂ (λ (m : ℕ) (z : Found). pushed (p .loop .s) (record { off = o; bits = m; held = h + m; start = z .start; len = z .len })) (k .before .increment .ensures) (k .find .ensures) in (
-      omega arith,
-      omega (arith, p .loop .inv .1, ap (λ (x : Slots). x .n) (c .push .ensures), pushed-count (p .loop .s) (record { off = o; bits = k .before .increment .result; held = h + k .before .increment .result; start = k .find .result .start; len = k .find .result .len })),
-      p .loop .inv .2 ∙ increments-turn _ _ _ _ _ _ _ _ (d .loop-test .taken) (omega (arith, s .pre .4)) q,
-    )
+    let q = ap₂ (λ (m : ℕ) (z : Found). pushed (p .loop .s) (record { off = o; bits = m; held = h + m; start = z .start; len = z .len })) (k .before .increment .ensures) (k .find .ensures) in
+    (omega arith, omega (arith, p .loop .inv .1), p .loop .inv .2 ∙ increments-turn _ _ _ _ _ _ _ _ (d .loop-test .taken) (omega (arith, s .pre .4)) q)
 
 returns : tie.Need-returns Inv-loop μ-loop
 returns c = sym (c .before .loop .inv .2 ∙ increments-end _ _ _ _ _ _ _ (c .loop-test .left))
@@ -112,10 +142,20 @@ increments-spec =
     shared-slice-read-h
     increment-requires
     find-requires
-    cast-start
-    cast-len
-    add-t19
-    push-requires
+    mul-s
+    element-write-s
+    mul-s-2
+    element-write-s-2
+    add-s
+    mul-s-3
+    element-write-s-3
+    cast-s
+    mul-s-4
+    element-write-s-4
+    cast-s-2
+    mul-s-5
+    element-write-s-5
+    add-s-2
     add-i
     loop-less
     loop-again

@@ -4,9 +4,11 @@ use mathlib.Core.Bool.{_&&_, false}
 use lib.Dec.{ltb}
 use mathlib.Core.Logic.{_⊎_, inl, inr, ⊎-elim}
 use borrow.Author.Tests.{ltb-true, ltb-false}
+use Rattle.ledger.specs.Limits.{maxSlots}
+use Rattle.slots.specs.Slots.{pushed}
 use Rattle.slots.proofs.Laws.{and-either, Adding, adding-start, adding-turn, adding-end}
 use Prim.Native.Nat.{ℕ, _-_, _≤_, _<_}
-use mathlib.Core.Path.{_≡_}
+use mathlib.Core.Path.{_≡_, refl}
 use native.Mathlib.Omega.{arith}
 use borrow.Author.Needs.{needs}
 use Rattle.slots.proofs.new_pieces.Statement.{statement}
@@ -24,11 +26,24 @@ test d = (ltb-true _ _ (and-first _ _ (d .loop-test .taken)), ltb-true _ _ (and-
 stopped : (l d w : ℕ) → (ltb 0 l && ltb d w) ≡ false → (l ≡ 0) ⊎ (w ≤ d)
 stopped l d w h = ⊎-elim (λ e. inl (omega (arith, ltb-false 0 l e))) (λ e. inr (ltb-false d w e)) (and-either (ltb 0 l) (ltb d w) h)
 
+space : (d : tie.In-loop Inv-loop μ-loop) → d .before .loop .s .n < maxSlots
+space d = omega (arith, test d, d .before .loop .inv .space)
+
+-- in a turn, once the row is stored
+abbrev M : tie.After-slice-known2 Inv-loop μ-loop → tie.After-smaller Inv-loop μ-loop
+M d = d .before .before .before .before
+
+abbrev I : tie.After-slice-known2 Inv-loop μ-loop → tie.In-loop Inv-loop μ-loop
+I d = M d .before
+
+abbrev S : tie.After-slice-known2 Inv-loop μ-loop → tie.Start Inv-loop μ-loop
+S d = I d .before .before .before
+
 loop-holds : tie.Need-loop-holds Inv-loop μ-loop
 loop-holds c = let s = c .before in adding-start _ _ _ _ _ _ _ _ _ (s .pre .2) (s .pre .0)
 
-sub-rest : tie.Need-sub-rest Inv-loop μ-loop
-sub-rest c = omega (arith, test c)
+sub-smaller : tie.Need-sub-smaller Inv-loop μ-loop
+sub-smaller c = omega (arith, test c)
 
 smaller-requires : tie.Need-smaller-requires Inv-loop μ-loop
 smaller-requires c κs = search needs
@@ -36,37 +51,63 @@ smaller-requires c κs = search needs
 add-off : tie.Need-add-off Inv-loop μ-loop
 add-off c = omega (arith, test (c .before), c .before .before .before .before .pre)
 
-add-start : tie.Need-add-start Inv-loop μ-loop
-add-start c = omega (arith, test (c .before), c .before .before .before .before .pre)
-
 store-row-requires : tie.Need-store-row-requires Inv-loop μ-loop
 store-row-requires c κs = let t = c .before .before in omega (arith, test t, t .before .loop .inv .rows, t .before .loop .inv .long)
 
-push-requires : tie.Need-push-requires Inv-loop μ-loop
-push-requires c κs = let t = c .before .before .before .before .before in omega (arith, test t, t .before .loop .inv .space)
+mul-s : tie.Need-mul-s Inv-loop μ-loop
+mul-s c = omega (arith, space (I c))
+
+element-write-s : tie.Need-element-write-s Inv-loop μ-loop
+element-write-s c = omega (arith, space (I c))
+
+mul-s-2 : tie.Need-mul-s-2 Inv-loop μ-loop
+mul-s-2 c = omega (arith, space (I c))
+
+element-write-s-2 : tie.Need-element-write-s-2 Inv-loop μ-loop
+element-write-s-2 c = omega (arith, space (I c))
+
+mul-s-3 : tie.Need-mul-s-3 Inv-loop μ-loop
+mul-s-3 c = omega (arith, space (I c))
+
+element-write-s-3 : tie.Need-element-write-s-3 Inv-loop μ-loop
+element-write-s-3 c = omega (arith, space (I c))
+
+add-s : tie.Need-add-s Inv-loop μ-loop
+add-s c = omega (arith, test (I c), S c .pre)
+
+mul-s-4 : tie.Need-mul-s-4 Inv-loop μ-loop
+mul-s-4 c = omega (arith, space (I c))
+
+element-write-s-4 : tie.Need-element-write-s-4 Inv-loop μ-loop
+element-write-s-4 c = omega (arith, space (I c))
+
+mul-s-5 : tie.Need-mul-s-5 Inv-loop μ-loop
+mul-s-5 c = omega (arith, space (I c))
+
+element-write-s-5 : tie.Need-element-write-s-5 Inv-loop μ-loop
+element-write-s-5 c = omega (arith, space (I c))
+
+add-s-2 : tie.Need-add-s-2 Inv-loop μ-loop
+add-s-2 c = omega (arith, space (I c))
 
 add-done : tie.Need-add-done Inv-loop μ-loop
-add-done c = let l = c .before .before .before .before .before in omega (arith, test (l .before), l .smaller .ensures)
+add-done c = omega (arith, test (I c), M c .smaller .ensures)
 
 sub-left : tie.Need-sub-left Inv-loop μ-loop
-sub-left c = omega (arith, test (c .before .before .before .before .before .before))
+sub-left c = omega (arith, test (I c))
 
 add-i : tie.Need-add-i Inv-loop μ-loop
-add-i c = let t = c .before .before .before .before .before .before in omega (arith, t .before .loop .inv .rows)
+add-i c = omega (arith, I c .before .loop .inv .rows)
 
 loop-less : tie.Need-loop-less Inv-loop μ-loop
-loop-less c = omega (arith, test (c .before .before .before .before .before .before))
+loop-less c = omega (arith, test (I c))
 
 loop-again : tie.Need-loop-again Inv-loop μ-loop
-loop-again c =
-    let st = c .before .before .before in
-    let l = st .before .before in
-    let p = l .before .before in
-    let s = p .before .before in
-    adding-turn _ _ _ _ _ _ _ _ _ _ _ _ _ _ (p .loop .inv) _ (l .smaller .ensures) (test (l .before) .0) (test (l .before) .1) (s .pre .3) _ _ (st .store-row .ensures) (c .push .ensures)
+unfolding pushed
+loop-again c = let t = test (I c) in adding-turn _ _ _ _ _ _ _ _ _ _ _ _ _ _ (I c .before .loop .inv) _ (M c .smaller .ensures) (t .0) (t .1) (S c .pre .3) _ _ (c .before .before .store-row .ensures) refl
 
-cast-t26 : tie.Need-cast-t26 Inv-loop μ-loop
-cast-t26 c = search needs
+cast-t37 : tie.Need-cast-t37 Inv-loop μ-loop
+cast-t37 c = search needs
 
 same-length : tie.Need-same-length Inv-loop μ-loop
 same-length c = c .before .loop .inv .long
@@ -83,17 +124,27 @@ new-pieces-spec =
     Inv-loop
     μ-loop
     loop-holds
-    sub-rest
+    sub-smaller
     smaller-requires
     add-off
-    add-start
     store-row-requires
-    push-requires
+    mul-s
+    element-write-s
+    mul-s-2
+    element-write-s-2
+    mul-s-3
+    element-write-s-3
+    add-s
+    mul-s-4
+    element-write-s-4
+    mul-s-5
+    element-write-s-5
+    add-s-2
     add-done
     sub-left
     add-i
     loop-less
     loop-again
-    cast-t26
+    cast-t37
     same-length
     returns)

@@ -32,6 +32,10 @@ R = tie.After-load-row Inv-loop μ-loop
 abbrev S : R → tie.Start Inv-loop μ-loop
 S d = d .before .before .before .before
 
+-- once it is counted
+abbrev R-of : tie.After-shorts-of Inv-loop μ-loop → R
+R-of d = d .before .before .before .before .before .before .before
+
 ascends-turned : (d : R)
     → ascends (S d .args .long) (S d .args .next) 0 (rowsFrom (now (S d .args .a)) 0 (S d .args .n))
     ≡ (leb (d .before .before .loop .from) (d .load-row .result .off)
@@ -77,17 +81,15 @@ add-from c = search needs
 add-sum : tie.Need-add-sum Inv-loop μ-loop
 add-sum c = search needs
 
-sub-shorts : tie.Need-sub-shorts Inv-loop μ-loop
-sub-shorts c = search needs
+shorts-of-requires : tie.Need-shorts-of-requires Inv-loop μ-loop
+shorts-of-requires c κs = search needs
+
+-- of a row's length and the short frame's payload
+low : (d : tie.After-shorts-of Inv-loop μ-loop) → d .shorts-of .result ≤ R-of d .load-row .result .len + (S (R-of d) .args .short - 1)
+low d = omega (arith, d .shorts-of .ensures, div-le-self (R-of d .load-row .result .len + (S (R-of d) .args .short - 1)) (S (R-of d) .args .short))
 
 add-shorts : tie.Need-add-shorts Inv-loop μ-loop
-add-shorts c = search needs
-
-div-shorts : tie.Need-div-shorts Inv-loop μ-loop
-div-shorts c = search needs
-
-add-shorts-2 : tie.Need-add-shorts-2 Inv-loop μ-loop
-add-shorts-2 c = let d = c .before .before .before .before .before .before in omega (arith, div-le-self (d .load-row .result .len + (S d .args .short - 1)) (S d .args .short))
+add-shorts c = omega (arith, low c)
 
 add-i : tie.Need-add-i Inv-loop μ-loop
 add-i c = search needs
@@ -97,16 +99,17 @@ loop-less c = search needs
 
 loop-again : tie.Need-loop-again Inv-loop μ-loop
 loop-again c =
-    let d = c .before .before .before .before .before .before in
+    let e = c .before in
+    let d = R-of c in
     let z : 0 < d .load-row .result .len = omega arith in
-    let k = div-le-self (d .load-row .result .len + (S d .args .short - 1)) (S d .args .short) in (
+    let k = low c in (
       omega arith,
       omega arith,
       omega arith,
       omega arith,
-      ascends-turned d ∙ simp (le-leb _ _ (c .before .before .before .if1 .left), lt-ltb _ _ z, le-leb _ _ (c .if3 .left)),
+      ascends-turned d ∙ simp (le-leb _ _ (e .before .before .before .if1 .left), lt-ltb _ _ z, le-leb _ _ (e .if3 .left)),
       omega (arith, total-turn _ _ _ _ (d .before .loop-test .taken) (d .load-row .ensures)),
-      omega (arith, short-turn _ _ _ _ (d .before .loop-test .taken) (d .load-row .ensures) (S d .args .short)),
+      omega (arith, c .shorts-of .ensures, short-turn _ _ _ _ (d .before .loop-test .taken) (d .load-row .ensures) (S d .args .short)),
     )
 
 returns-4 : tie.Need-returns-4 Inv-loop μ-loop
@@ -144,10 +147,8 @@ table-ok-spec =
     returns-3
     add-from
     add-sum
-    sub-shorts
+    shorts-of-requires
     add-shorts
-    div-shorts
-    add-shorts-2
     add-i
     loop-less
     loop-again
