@@ -1,4 +1,4 @@
-/* Every limit of document 01 through the C interface, field by field: in range on the limit, refused by its number just outside; and after each refused
+/* Every limit of document 01 through the C interface, field by field: accepted on the limit and just inside, refused by its number just outside; and after each refused
  * call every byte of profile, record, work area and output is as before. The last line counts the checks; the status is 1 where one failed. */
 #include <math.h>
 #include <stdio.h>
@@ -48,7 +48,7 @@ static void check_value(const struct field *f, size_t i, double x, uint8_t numbe
     check(what, number);
 }
 
-/* Each element: the limits are accepted; outside them, and where it is not a number, `number`. */
+/* Each element: the limits are accepted, and what lies just inside; outside them, and where it is not a number, `number`. */
 static void check_field(const struct field *f, uint8_t number, check_fn *check) {
     int is_float = f->kind == F32 || f->kind == F64;
     for (size_t i = 0; i < f->count; i++) {
@@ -56,9 +56,11 @@ static void check_field(const struct field *f, uint8_t number, check_fn *check) 
         char old[sizeof(double)];
         memcpy(old, at, size_of(f->kind));
         check_value(f, i, f->high, 0, check);
+        check_value(f, i, step(f->kind, f->high, 0), 0, check);
         if (f->high < largest(f->kind)) check_value(f, i, step(f->kind, f->high, 1), number, check);
         if (f->high < largest(f->kind)) check_value(f, i, largest(f->kind), number, check);
         check_value(f, i, f->sides == HIGH_ONLY ? -INFINITY : f->low, 0, check);
+        if (f->sides != HIGH_ONLY) check_value(f, i, step(f->kind, f->low, 1), 0, check);
         if (f->sides != HIGH_ONLY && (is_float || f->low > 0)) check_value(f, i, step(f->kind, f->low, 0), number, check);
         if (f->sides != HIGH_ONLY && is_float) check_value(f, i, -INFINITY, number, check);
         if (is_float) check_value(f, i, NAN, f->sides == OR_NAN ? 0 : number, check);
@@ -327,15 +329,18 @@ static void area_most(void) {
     }
 }
 
+static void area_length(size_t length) {
+    given.area_len = length;
+    memcpy(&subject, &flown_one, sizeof subject);
+    record_check("the work area's length", length < 49152 ? 3 : 0);
+    memcpy(&subject, &fresh_one, sizeof subject);
+    record_check("the work area's length", length < 49152 ? 3 : 0);
+}
+
 static void area_lengths(void) {
-    static const size_t lengths[] = {0, 1, 49151, 49152, 49153, VANITYCROW_AREA_BYTES + PAST};
-    for (size_t i = 0; i < COUNT(lengths); i++) {
-        given.area_len = lengths[i];
-        memcpy(&subject, &flown_one, sizeof subject);
-        record_check("the work area's length", lengths[i] < 49152 ? 3 : 0);
-        memcpy(&subject, &fresh_one, sizeof subject);
-        record_check("the work area's length", lengths[i] < 49152 ? 3 : 0);
-    }
+    area_length(0);
+    area_length(1);
+    for (size_t n = 49152 - 32; n <= 49152 + PAST; n++) area_length(n);
     given = usual_arguments();
 }
 
