@@ -73,4 +73,4 @@ module _ (p : Profile) (k : Ranged p) where
   pub adapted-in : (at : ℕ) (loss snr : Float) (g : Gear) → In (w64 1) (w64 1000) (g .«burst_s») → In (w64 1) (w64 1000) (adapted p at loss snr g .«burst_s»)
   unfolding adapted
   adapted-in at loss snr g i =
-      either (In (w64 1) (w64 1000)) (eq loss (w32 0) && eqb (g .level) at && steady p g snr && far p at snr) _ _ (doubled-in _ _ _ i (k .lengths .long) (k .lengths .usual)) (k .lengths .usual)
+      either (In (w64 1) (w64 1000)) (eq loss (w32 0) && eqb (g .level) at && steady (g .«last_report_db») (p .lengths .«burst_steady_db») snr && far (p .plain) (p .lengths .«burst_climb_db») at (p .«max_level») snr) _ _ (doubled-in _ _ _ i (k .lengths .long) (k .lengths .usual)) (k .lengths .usual)

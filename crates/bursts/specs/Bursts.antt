@@ -9,6 +9,7 @@ use Rattle.laws.specs.Span.{upto, fold}
 use Rattle.level.specs.Ladder.{waveRank}
 use Rattle.config.specs.Entries.{entryAt}
 use Rattle.config.specs.declared.Marks.{Marks}
+use Rattle.config.specs.declared.MaybeDb.{MaybeDb}
 use Rattle.config.specs.declared.Profile.{Profile}
 use Rattle.config.specs.Durations.{ackAt, dataS}
 use Rattle.goodput.specs.declared.Gear.{Gear}
@@ -33,17 +34,17 @@ unfoldable pub nextEntry : Marks → ℕ → ℕ → Float
 nextEntry m at top = fold (λ x k. minF x (entryAt m k)) (inf false) (upto (at + 1) (top + 1))
 
 -- `adapt_burst`: a clean burst at a level that stays, on a steady channel, not close to a faster level's entry
-unfoldable pub steady : Profile → Gear → Float → Bool
-steady p g snr = g .«last_report_db» .set && le (absF (sub binary32 snr (g .«last_report_db» .db))) (p .lengths .«burst_steady_db»)
+unfoldable pub steady : MaybeDb → Float → Float → Bool
+steady last most snr = last .set && le (absF (sub binary32 snr (last .db))) most
 
-unfoldable pub far : Profile → ℕ → Float → Bool
-far p at snr = not (p .lengths .«burst_climb_db» .set) || lt snr (sub binary32 (nextEntry (p .plain) at (p .«max_level»)) (p .lengths .«burst_climb_db» .db))
+unfoldable pub far : Marks → MaybeDb → ℕ → ℕ → Float → Bool
+far m climb at top snr = not (climb .set) || lt snr (sub binary32 (nextEntry m at top) (climb .db))
 
 unfoldable pub adapted : Profile → ℕ → Float → Float → Gear → Gear
 adapted p at loss snr g =
     withReport
     (withBurst g
-    (cond (eq loss (w32 0) && eqb (g .level) at && steady p g snr && far p at snr)
+    (cond (eq loss (w32 0) && eqb (g .level) at && steady (g .«last_report_db») (p .lengths .«burst_steady_db») snr && far (p .plain) (p .lengths .«burst_climb_db») at (p .«max_level») snr)
     (minF (mul binary64 (g .«burst_s») (w64 2)) (maxF (p .lengths .«max_burst_long_s») (p .lengths .«max_burst_s»)))
     (p .lengths .«max_burst_s»)))
     (some snr)

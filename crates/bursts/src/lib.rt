@@ -45,13 +45,13 @@ fn next_entry(marks: Marks, at: usize, top: usize) -> f32
     least
 }
 
-// Not close to what a faster level wants.
-fn far(cfg: Profile, at: usize, snr_db: f32) -> bool
-    requires { ⌜ at < 17 ⌝ ∗ ⌜ Ranged cfg ⌝ }
-    ensures { λ r. ⌜ r ≡ far cfg at «snr_db» ⌝ }
+// Not close to what a faster level wants, up to level `top`.
+fn far(plain: Marks, climb: MaybeDb, at: usize, top: usize, snr_db: f32) -> bool
+    requires { ⌜ at < 17 ⌝ ∗ ⌜ top < 17 ⌝ }
+    ensures { λ r. ⌜ r ≡ far plain climb at top «snr_db» ⌝ }
 {
-    let entry = next_entry(cfg.plain, at, cfg.max_level);
-    !cfg.lengths.burst_climb_db.set | (snr_db < entry - cfg.lengths.burst_climb_db.db)
+    let entry = next_entry(plain, at, top);
+    !climb.set | (snr_db < entry - climb.db)
 }
 
 // Longest data burst at level l now.
@@ -66,11 +66,11 @@ pub fn burst_len_s(g: Gear, cfg: Profile, l: usize) -> f64
 }
 
 // The report is close to the one before.
-fn steady(g: Gear, cfg: Profile, snr_db: f32) -> bool
-    ensures { λ r. ⌜ r ≡ steady cfg g «snr_db» ⌝ }
+fn steady(last: MaybeDb, most: f32, snr_db: f32) -> bool
+    ensures { λ r. ⌜ r ≡ steady last most «snr_db» ⌝ }
 {
-    let moved = float::pick::abs32(snr_db - g.last_report_db.db);
-    g.last_report_db.set & (moved <= cfg.lengths.burst_steady_db)
+    let moved = float::pick::abs32(snr_db - last.db);
+    last.set & (moved <= most)
 }
 
 // The next burst's budget, after a burst at level `at` that lost `loss`.
@@ -78,14 +78,15 @@ pub fn adapt_burst(mut g: Gear, cfg: Profile, at: usize, loss: f32, snr_db: f32)
     requires { ⌜ at < 17 ⌝ ∗ ⌜ Ranged cfg ⌝ }
     ensures { λ r. ⌜ r ≡ adapted cfg at loss «snr_db» g ⌝ }
 {
-    let steady = steady(g, cfg, snr_db);
+    let steady = steady(g.last_report_db, cfg.lengths.burst_steady_db, snr_db);
+    let far = far(cfg.plain, cfg.lengths.burst_climb_db, at, cfg.max_level, snr_db);
     let usual = cfg.lengths.max_burst_s;
     let report = MaybeDb {
         set: true,
         db: snr_db,
     };
     g.last_report_db = report;
-    if (loss == 0.0) & (g.level == at) & steady & far(cfg, at, snr_db) {
+    if (loss == 0.0) & (g.level == at) & steady & far {
         let most = float::pick::max64(cfg.lengths.max_burst_long_s, usual);
         let longer = float::pick::min64(g.burst_s * 2.0, most);
         g.burst_s = longer;

@@ -222,7 +222,7 @@ module _ (p : Profile) (rg : Ranged p) (io : inOrder p ≡ true) (six : length (
           allowed = tt;
           steps = ap shown (hear-yes p c h (ConnAck r) b e) ∙ connect-view r;
           tells = hear-told p c h (ConnAck r) b true e;
-          keeps = subst Ok (sym (hear-yes p c h (ConnAck r) b e)) (connected-well p rg io h r s a (connect-in s h (v .0) r (v .2)) w);
+          keeps = subst Ok (sym (hear-yes p c h (ConnAck r) b e)) (connected-well p rg io h r s a (connect-in (s .link .«last_time») h (v .0) r (v .2)) w);
         }
 
     does-short : (r : A.Ack) (b : List ℕ) → ok-at (Ack r) b → Does (hears h (Ack r) b) c (C.hears (shortAck (r .burst) (r .bitmap)) (keeps p (s .gear) (r .stored)))
@@ -233,7 +233,7 @@ module _ (p : Profile) (rg : Ranged p) (io : inOrder p ≡ true) (six : length (
           allowed = tt;
           steps = ap shown (hear-yes p c h (Ack r) b e) ∙ short-view r;
           tells = hear-told p c h (Ack r) b true e;
-          keeps = subst Ok (sym (hear-yes p c h (Ack r) b e)) (short-well p rg io h r s a (ack-in s h (v .0) r (v .2)) w);
+          keeps = subst Ok (sym (hear-yes p c h (Ack r) b e)) (short-well p rg io h r s a (ack-in (s .link .«last_time») h (v .0) r (v .2)) w);
         }
 
     does-turn : (r : D.Turn) (b : List ℕ) → ok-at (Turn r) b → Does (hears h (Turn r) b) c turns
@@ -244,7 +244,7 @@ module _ (p : Profile) (rg : Ranged p) (io : inOrder p ≡ true) (six : length (
           allowed = tt;
           steps = ap shown (hear-yes p c h (Turn r) b e) ∙ turn-view r;
           tells = hear-told p c h (Turn r) b true e;
-          keeps = subst Ok (sym (hear-yes p c h (Turn r) b e)) (turned-well p rg io h r s a (turn-in s h (v .0) (v .1) r (v .2)) w);
+          keeps = subst Ok (sym (hear-yes p c h (Turn r) b e)) (turned-well p rg io h r s a (turn-in (s .link .«last_time») h (v .0) (v .1) r (v .2)) w);
         }
 
     -- a long ack, as it is read
@@ -275,7 +275,7 @@ module _ (p : Profile) (rg : Ranged p) (io : inOrder p ≡ true) (six : length (
           allowed = long-allowed r (ackOf b);
           steps = ap shown (hear-yes p c h (LongAck r) b e) ∙ long-steps r b (ackOf b);
           tells = hear-told p c h (LongAck r) b true e ∙ long-tells r (ackOf b);
-          keeps = subst Ok (sym (hear-yes p c h (LongAck r) b e)) (long-keeps r b by (time-in s (h .time) (v .0)));
+          keeps = subst Ok (sym (hear-yes p c h (LongAck r) b e)) (long-keeps r b by (time-in (s .link .«last_time») (h .time) (v .0)));
         }
 
     pub does-hear : (r : Reply) (b : List ℕ) → Bytes b → passed (receiveVerdict p s a h r (length b)) ≡ true → Does (hears h r b) c (callOf s r b)

@@ -10,7 +10,7 @@ use native.Mathlib.Numerals.{add-one}
 use lib.ListN.{length, take, drop, getD, set, length-append, length-take, length-drop, length-set, drop-of-length-le}
 use lib.Seq.{drop-cons, getD-set-same, getD-set-other, take-take, drop-at}
 use lib.Dec.{eqb}
-use borrow.Author.Tests.{ne-eqb, eqb-true, eqb-false}
+use borrow.Author.Tests.{eq-eqb, ne-eqb, eqb-true, eqb-false}
 use Rattle.laws.specs.Bytes.{overwrite, part}
 use Rattle.laws.proofs.Bytes.{length-over, over-nil, over-cat, over-comm, part-before, part-after, part-add, over-part, length-part}
 use Rattle.laws.proofs.Little.{Bytes}
@@ -20,7 +20,7 @@ use Rattle.table.specs.Table.{rowAt, rowsFrom, tableBytes, withRows, total}
 use Rattle.table.specs.declared.Row.{Row}
 use Rattle.table.proofs.Laws.{rows-turn, rows-none, rows-after, table-kept}
 use Rattle.laws.specs.Lists.{listed}
-use Rattle.laws.proofs.Picks.{test}
+use Rattle.laws.proofs.Picks.{test, or-left, or-right}
 use Rattle.flight.specs.Flight.{markCount, markPlace, markAll, Marked, keptRows, keptBytes, removedPieces}
 use Rattle.flight.specs.declared.Kept.{Kept}
 
@@ -33,6 +33,11 @@ pub listed-none : (o : ℕ) (xs : List ℕ) → ((j : ℕ) → j < length xs →
 listed-none o [] f = refl
 listed-none o (x ∷ xs) f =
     rw (ne-eqb o x (λ e. f 0 (omega arith) (sym e)), listed-none o xs (λ j h e. f (suc j) (suc-le-suc h) e))
+
+pub listed-at : (o : ℕ) (xs : List ℕ) (g : ℕ) → g < length xs → getD xs g 0 ≡ o → listed o xs ≡ true
+listed-at o [] g h e = absurd (not-suc-le-zero h)
+listed-at o (x ∷ xs) zero h e = or-left (eqb o x) (listed o xs) (eq-eqb o x (sym e))
+listed-at o (x ∷ xs) (suc g) h e = or-right (eqb o x) (listed o xs) (listed-at o xs g (omega (arith, h)) e)
 
 pub unmarked : (marks xs : List ℕ) (o k : ℕ) → k ≡ markPlace o → Marked marks xs → getD marks k 0 ≡ 0 → listed o xs ≡ false
 unmarked marks xs o k p m z = listed-none o xs (λ j h e. let q : _≡_ {A = ℕ} 0 1 = sym z ∙ ap (λ (i : ℕ). getD marks i 0) (p ∙ ap markPlace (sym e)) ∙ m .set j h in omega arith)

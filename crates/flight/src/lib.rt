@@ -61,6 +61,19 @@ pub fn contains_marked(marks: &[u8], offs: &[u32], off: u32) -> bool
     contains(offs, off)
 }
 
+// The same; it looks at place g first.
+fn contains_near(marks: &[u8], offs: &[u32], g: usize, off: u32) -> bool
+    requires { ⌜ Marked (now marks) (now offs) ⌝ }
+    ensures { λ r. ⌜ r ≡ listed off (now (offs .entry)) ⌝ }
+{
+    if g < offs.len() {
+        if offs[g] == off {
+            return true;
+        }
+    }
+    contains_marked(marks, offs, off)
+}
+
 // Moves piece i down: its row r to row w, and its bytes from `from` to `to`. Where none before it was taken out, it lies there already.
 fn move_piece(a: &mut [u8], i: usize, w: usize, from: usize, to: usize, r: Row)
     requires { ⌜ (i < maxPieces) × (areaBytes ≤ length (now a)) × (w ≤ i) × (to ≤ from) × (from + r .len ≤ streamBytes) × (r ≡ rowAt (now a) i) × (w ≡ i → to ≡ from) ⌝ }
@@ -80,7 +93,7 @@ pub struct Kept {
     pub bytes: usize,
 }
 
-// Takes out each of n pieces whose offset is listed; the first `used` bytes of the stream are in use.
+// Takes out each of n pieces whose offset is listed, mostly in the rows' order; the first `used` bytes of the stream are in use.
 pub fn remove_pieces(a: &mut [u8], n: usize, used: usize, marks: &[u8], gone: &[u32]) -> Kept
     requires { ⌜ (n ≤ maxPieces) × (areaBytes ≤ length (now a)) × (used ≤ streamBytes) × (total (rowsFrom (now a) 0 n) ≤ used) × Marked (now marks) (now gone) ⌝ }
     ensures { λ r. ⌜ (r, now (a .exit)) ≡ removedPieces (now (gone .entry)) n used (now (a .entry)) ⌝ }
@@ -93,7 +106,7 @@ pub fn remove_pieces(a: &mut [u8], n: usize, used: usize, marks: &[u8], gone: &[
         let r = load_row(a, i);
         let off = r.off;
         let len = r.len as usize;
-        if contains_marked(marks, gone, off) {
+        if contains_near(marks, gone, i - w, off) {
             from = from + len;
             i += 1;
         } else {

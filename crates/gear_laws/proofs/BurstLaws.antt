@@ -91,7 +91,7 @@ module _ (p : Profile) (k : Ranged p) where
 
   adapted-earned : (at : ℕ) (loss snr : Float) (g : Gear) → Earned g → Earned (adapted p at loss snr g)
   unfolding adapted
-  adapted-earned at loss snr g i = either (In usual longest) (eq loss (w32 0) && eqb (g .level) at && steady p g snr && far p at snr) _ _ (doubled (g .«burst_s») i) usual-earned
+  adapted-earned at loss snr g i = either (In usual longest) (eq loss (w32 0) && eqb (g .level) at && steady (g .«last_report_db») (p .lengths .«burst_steady_db») snr && far (p .plain) (p .lengths .«burst_climb_db») at (p .«max_level») snr) _ _ (doubled (g .«burst_s») i) usual-earned
 
   increments-earned : (g : Gear) (now : Float) → Earned g → Earned (incrementsOnly p g now)
   unfolding incrementsOnly

@@ -33,11 +33,14 @@ unfoldable pub levelFor : Marks → ℕ → ChanClass → ℕ → Float → ℕ
 levelFor m power c top db = highest (λ l. enough m power c l db) (top + 1) 0
 
 -- `usable`: of each level k up to l, its hold is over, or k is another that the channel failed and l has the longer guard
-unfoldable pub passes : Holds → ℕ → Float → ℕ → Bool
-passes h l now k = le (getD (h .«blocked_until») k nan) now || (not (eqb k l) && not (getD (h .«hold_all») k false) && ltb (guardMs (waveRank k)) (guardMs (waveRank l)))
+unfoldable pub passes : Float → Bool → ℕ → Float → ℕ → Bool
+passes until all l now k = le until now || (not (eqb k l) && not all && ltb (guardMs (waveRank k)) (guardMs (waveRank l)))
+
+abbrev pub passesAt : Holds → ℕ → Float → ℕ → Bool
+passesAt h l now k = passes (getD (h .«blocked_until») k nan) (getD (h .«hold_all») k false) l now k
 
 unfoldable pub usable : Holds → ChanClass → Float → ℕ → Bool
-usable h c now l = familyOk c l && every (passes h l now) (upto 0 (l + 1))
+usable h c now l = familyOk c l && every (passesAt h l now) (upto 0 (l + 1))
 
 -- `usable_below`
 unfoldable pub usableBelow : Holds → ChanClass → MaybeLevel → ℕ → Float → ℕ

@@ -56,16 +56,19 @@ pub fn family_ok(class: ChanClass, l: usize) -> bool
     }
 }
 
-impl Holds {
-    // Level k does not keep level l from being used: its hold is over, or it failed by the channel and l's guard is longer.
-    fn passes(self, k: usize, l: usize, now: f64) -> bool
-        requires { ⌜ k < 17 ⌝ ∗ ⌜ l < 17 ⌝ }
-        ensures { λ r. ⌜ r ≡ passes self l now k ⌝ }
-    {
-        let longer = level::guard_ms(level::wave_rank(l)) > level::guard_ms(level::wave_rank(k));
-        (now >= self.blocked_until[k]) | ((k != l) & !self.hold_all[k] & longer)
+// Level k does not keep level l from being used: its hold, until `until`, is over, or k failed by the channel and l's guard is longer.
+fn passes(until: f64, all: bool, k: usize, l: usize, now: f64) -> bool
+    requires { ⌜ k < 17 ⌝ ∗ ⌜ l < 17 ⌝ }
+    ensures { λ r. ⌜ r ≡ passes until all l now k ⌝ }
+{
+    if now >= until {
+        return true;
     }
+    let longer = level::guard_ms(level::wave_rank(l)) > level::guard_ms(level::wave_rank(k));
+    (k != l) & !all & longer
+}
 
+impl Holds {
     // Whether level l may be used at `now`.
     fn usable(self, class: ChanClass, l: usize, now: f64) -> bool
         requires { ⌜ l < 17 ⌝ }
@@ -75,7 +78,7 @@ impl Holds {
             return false;
         }
         for k in 0..l + 1 {
-            if !self.passes(k, l, now) {
+            if !passes(self.blocked_until[k], self.hold_all[k], k, l, now) {
                 return false;
             }
         }

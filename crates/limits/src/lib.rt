@@ -13,7 +13,7 @@ ghost use lib.Dec.{leb};
 ghost use Rattle.laws.specs.Tests.{all};
 ghost use Rattle.laws.specs.Span.{every, upto};
 ghost use Rattle.ieee.specs.Range.{w64};
-ghost use Rattle.limits.specs.Ranges.{inside, between, dbOk, maybeDbOk, levelOk, ackOk, airOk, endOk, harqOk, lengthsOk, holdsOk, thresholdOk, marksOk, pinOk, levelsOk, sizesOk, inRange as inRangeOf, inOrder};
+ghost use Rattle.limits.specs.Ranges.{inside, between, dbOk, maybeDbOk, levelOk, ackOk, airOk, endOk, harqOk, lengthsOk, holdsOk, thresholdOk, marksOk, pinOk, levelsOk, sizesOk, inRange as inRangeOf};
 
 fn within(x: f64, lo: f64, hi: f64) -> bool
     ensures { λ r. ⌜ r ≡ inside lo hi x ⌝ }
@@ -162,8 +162,8 @@ pub fn in_range(p: Profile) -> bool
 }
 
 // Refusal 2 where false: the short frame is no larger than the long.
-pub fn in_order(p: Profile) -> bool
-    ensures { λ r. ⌜ r ≡ inOrder p ⌝ }
+pub fn in_order(short: u32, long: u32) -> bool
+    ensures { λ r. ⌜ r ≡ leb short long ⌝ }
 {
-    p.short_bytes <= p.long_bytes
+    short <= long
 }

@@ -30,8 +30,8 @@ numberOf AllTaken = 9
 numberOf ShortOutput = 10
 
 -- 5: "The time isn't within 0 to 10^9 or is earlier than the last accepted one (equal is fine)"
-unfoldable pub timeOk : Sender → Float → Bool
-timeOk s t = inside (w64 0) (w64 1000000000) t && le (s .link .«last_time») t
+unfoldable pub timeOk : Float → Float → Bool
+timeOk last t = inside (w64 0) (w64 1000000000) t && le last t
 
 -- 6: "dB -100 to 300, short burst number 0 to 3, bitmap 0 to 63, slot 0 to 2, wave 0 to 5"
 unfoldable pub reportOk : Float → Bool

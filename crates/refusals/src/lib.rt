@@ -4,7 +4,6 @@ use answers::ConnAck;
 use answers::Heard;
 use answers::LongAck;
 use answers::Turn;
-use record::Sender;
 ghost use mathlib.Core.Path.{_≡_};
 ghost use Rattle.refusals.specs.Refusals.{numberOf, kindOf, timeOk, reportOk, heardOk, replyOk};
 
@@ -50,11 +49,11 @@ pub fn number(v: Verdict) -> u8
     }
 }
 
-// Refusal 5.
-pub fn time_ok(s: Sender, t: f64) -> bool
-    ensures { λ r. ⌜ r ≡ timeOk s t ⌝ }
+// Refusal 5, of a call at `t` after one at `last`.
+pub fn time_ok(last: f64, t: f64) -> bool
+    ensures { λ r. ⌜ r ≡ timeOk last t ⌝ }
 {
-    ((0.0 <= t) & (t <= 1000000000.0)) & (s.link.last_time <= t)
+    ((0.0 <= t) & (t <= 1000000000.0)) & (last <= t)
 }
 
 // A dB value of a reply.

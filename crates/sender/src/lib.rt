@@ -9,6 +9,7 @@ use outgoing::Outgoing;
 use record::Sender;
 use refusals::Reply;
 use refusals::Verdict;
+use refusals::kind;
 use refusals::number;
 use verdicts::burst_verdict;
 use verdicts::queue_verdict;
@@ -50,14 +51,14 @@ pub fn queue(p: Profile, s: Sender, a: &mut [u8], bytes: &[u8]) -> Queued
     ensures { λ r. ⌜ (r, now (a .exit)) ≡ queueOf p s (now (a .entry)) (now (bytes .entry)) ⌝ }
 {
     let n = bytes.len();
-    let v = queue_verdict(p, s, a, n);
+    let c = s.counts;
+    let v = queue_verdict(standing(p, s, a, false), c, n);
     if number(v) != 0 {
         return Queued {
             verdict: v,
             next: s,
         };
     }
-    let c = s.counts;
     let at = c.flying as usize + c.waiting as usize;
     copy_in(a, at, bytes);
     let w = c.waiting + n as u32;
@@ -78,7 +79,8 @@ pub fn sender_rx(
     ensures { λ q. ⌜ (q, now (a .exit)) ≡ receiveOf p s (now (a .entry)) h r (now (payload .entry)) ⌝ }
 {
     let n = payload.len();
-    let v = receive_verdict(p, s, a, h, r, n);
+    let last = s.link.last_time;
+    let v = receive_verdict(standing(p, s, a, kind(r) == 0), last, h, r, n);
     if number(v) != 0 {
         return Received {
             verdict: v,
@@ -148,7 +150,7 @@ pub fn data_burst(p: Profile, s: Sender, a: &mut [u8], out: &mut [u8]) -> Burste
     ensures { λ r. ⌜ (r, (now (a .exit), now (out .exit))) ≡ burstCall p s (now (a .entry)) (now (out .entry)) ⌝ }
 {
     let n = out.len();
-    let v = burst_verdict(p, s, a, n);
+    let v = burst_verdict(standing(p, s, a, false), p.long_bytes, n);
     if number(v) != 0 {
         let outgoing = no_burst();
         return Bursted {

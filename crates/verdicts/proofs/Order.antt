@@ -17,7 +17,7 @@ use Rattle.answers.specs.declared.Heard.{Heard}
 use Rattle.refusals.specs.declared.Verdict.the-variants.{ProfileOutOfRange, ShortOverLong, Unsound, OutOfTurn, BadTime, BadValue, ShortPayload, QueueFull, AllTaken, ShortOutput}
 use Rattle.refusals.specs.declared.Reply.{Reply}
 use Rattle.refusals.specs.Refusals.{kindOf, timeOk, heardOk, replyOk}
-use Rattle.verdicts.specs.Verdicts.{passed, standing, replyVerdict, roomVerdict, queueVerdict, receiveVerdict, burstVerdict}
+use Rattle.verdicts.specs.Verdicts.{passed, standing, replyVerdict, roomVerdict, outputVerdict, queueVerdict, receiveVerdict, burstVerdict}
 
 -- a connect that comes again, or another call before connect
 wrong-turn : (x : Bool) → ((x && x) || (not x && not x)) ≡ true
@@ -55,15 +55,15 @@ module _ (p : Profile) (s : Sender) (a : List ℕ) where
     reply-stands e = cond-no _ _ _ _ e refl
 
     module _ (ok : passed (standing p s a (eqb (kindOf r) 0)) ≡ true) where
-      pub five : timeOk s (h .time) ≡ false → BadTime ≡ receiveVerdict p s a h r n
+      pub five : timeOk (s .link .«last_time») (h .time) ≡ false → BadTime ≡ receiveVerdict p s a h r n
       unfolding replyVerdict receiveVerdict
       five e = cond-yes _ _ _ _ ok (cond-yes _ _ _ _ (ap not e) refl)
 
-      pub six : timeOk s (h .time) ≡ true → (heardOk h && replyOk r) ≡ false → BadValue ≡ receiveVerdict p s a h r n
+      pub six : timeOk (s .link .«last_time») (h .time) ≡ true → (heardOk h && replyOk r) ≡ false → BadValue ≡ receiveVerdict p s a h r n
       unfolding replyVerdict receiveVerdict
       six e₁ e = cond-yes _ _ _ _ ok (cond-no _ _ _ _ (ap not e₁) (cond-yes _ _ _ _ (ap not e) refl))
 
-      pub seven : timeOk s (h .time) ≡ true → (heardOk h && replyOk r) ≡ true → kindOf r ≡ 2 → n < 13 → ShortPayload ≡ receiveVerdict p s a h r n
+      pub seven : timeOk (s .link .«last_time») (h .time) ≡ true → (heardOk h && replyOk r) ≡ true → kindOf r ≡ 2 → n < 13 → ShortPayload ≡ receiveVerdict p s a h r n
       unfolding replyVerdict receiveVerdict
       seven e₁ e₂ k l =
           cond-yes _ _ _ _ ok
@@ -94,5 +94,5 @@ module _ (p : Profile) (s : Sender) (a : List ℕ) where
           cond-yes _ _ _ _ ok (cond-no _ _ _ _ (ap (λ (q : ℕ). eqb q 8) e) (cond-yes _ _ _ _ (eq-eqb _ _ e) refl))
 
       pub ten : n < maxSlots * p .«long_bytes» → ShortOutput ≡ burstVerdict p s a n
-      unfolding burstVerdict
+      unfolding burstVerdict outputVerdict
       ten l = cond-yes _ _ _ _ ok (cond-yes _ _ _ _ (lt-ltb _ _ l) refl)

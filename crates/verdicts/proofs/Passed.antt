@@ -26,7 +26,7 @@ use Rattle.refusals.specs.declared.Verdict.{Verdict}
 use Rattle.refusals.specs.declared.Verdict.the-variants.{Accepted, AllTaken, BadTime, BadValue, OutOfTurn, ProfileOutOfRange, QueueFull, ShortOutput, ShortOverLong, ShortPayload, Unsound}
 use Rattle.refusals.specs.declared.Reply.{Reply}
 use Rattle.refusals.specs.Refusals.{numberOf, kindOf, timeOk, heardOk, replyOk}
-use Rattle.verdicts.specs.Verdicts.{passed, firstOf, standing, roomVerdict, replyVerdict, queueVerdict, receiveVerdict, burstVerdict}
+use Rattle.verdicts.specs.Verdicts.{passed, firstOf, standing, roomVerdict, replyVerdict, outputVerdict, queueVerdict, receiveVerdict, burstVerdict}
 
 -- the number that a call reads says whether it is refused
 pub not-passed : (v u : Verdict) (n : ℕ) → v ≡ u → n ≡ numberOf v → (n ≡ 0 → ⊥) → passed u ≡ false
@@ -99,7 +99,7 @@ module _ (p : Profile) (s : Sender) (a : List ℕ) where
       (not-false _ (h₁ .0), not-false _ (h₃ .0))
 
   -- nor do 8 and 9
-  room-passed : (n : ℕ) → passed (roomVerdict s n) ≡ true → queueRefusal (s .counts .waiting) (s .counts .«next_offset» + s .counts .waiting) n ≡ 0
+  room-passed : (n : ℕ) → passed (roomVerdict (s .counts) n) ≡ true → queueRefusal (s .counts .waiting) (s .counts .«next_offset» + s .counts .waiting) n ≡ 0
   unfolding roomVerdict
   room-passed n h =
       let w = s .counts .waiting in
@@ -115,7 +115,7 @@ module _ (p : Profile) (s : Sender) (a : List ℕ) where
   pub queue-passed : (n : ℕ) → passed (queueVerdict p s a n) ≡ true → (inRange p ≡ true) × (soundOk p s a ≡ true) × (queueRefusal (s .counts .waiting) (s .counts .«next_offset» + s .counts .waiting) n ≡ 0)
   unfolding queueVerdict
   queue-passed n h =
-      let q = first-passed (standing p s a false) (roomVerdict s n) h in
+      let q = first-passed (standing p s a false) (roomVerdict (s .counts) n) h in
       let g = standing-passed false (q .0) in
       (g .0, g .1, room-passed n (q .1))
 
@@ -128,7 +128,7 @@ module _ (p : Profile) (s : Sender) (a : List ℕ) where
 
   pub receive-passed : (h : Heard) (r : Reply) (n : ℕ) → passed (receiveVerdict p s a h r n) ≡ true → (inRange p ≡ true) × (soundOk p s a ≡ true)
   unfolding receiveVerdict
-  receive-passed h r n e = standing-passed (eqb (kindOf r) 0) (first-passed (standing p s a (eqb (kindOf r) 0)) (replyVerdict s h r n) e .0)
+  receive-passed h r n e = standing-passed (eqb (kindOf r) 0) (first-passed (standing p s a (eqb (kindOf r) 0)) (replyVerdict (s .link .«last_time») h r n) e .0)
 
   -- 1, 2 and 3 do not turn it down
   pub standing-three : (connect : Bool) → passed (standing p s a connect) ≡ true → (inRange p ≡ true) × (inOrder p ≡ true) × (soundOk p s a ≡ true)
@@ -141,19 +141,19 @@ module _ (p : Profile) (s : Sender) (a : List ℕ) where
 
   -- nor does 10
   pub burst-passed : (n : ℕ) → passed (burstVerdict p s a n) ≡ true → (inRange p ≡ true) × (inOrder p ≡ true) × (soundOk p s a ≡ true) × (maxSlots * p .«long_bytes» ≤ n)
-  unfolding burstVerdict
+  unfolding burstVerdict outputVerdict
   burst-passed n h =
-      let q = first-passed (standing p s a false) (cond (ltb n (maxSlots * p .«long_bytes»)) ShortOutput Accepted) h in
+      let q = first-passed (standing p s a false) (outputVerdict (p .«long_bytes») n) h in
       let g = standing-three false (q .0) in
       let o = over-first (ltb n (maxSlots * p .«long_bytes»)) ShortOutput Accepted refl (q .1) in
       (g .0, g .1, g .2, ltb-false n (maxSlots * p .«long_bytes») (o .0))
 
   -- nor do 5, 6 and 7
-  pub reply-passed : (h : Heard) (r : Reply) (n : ℕ) → passed (receiveVerdict p s a h r n) ≡ true → (timeOk s (h .time) ≡ true) × (heardOk h ≡ true) × (replyOk r ≡ true)
+  pub reply-passed : (h : Heard) (r : Reply) (n : ℕ) → passed (receiveVerdict p s a h r n) ≡ true → (timeOk (s .link .«last_time») (h .time) ≡ true) × (heardOk h ≡ true) × (replyOk r ≡ true)
   unfolding receiveVerdict replyVerdict
   reply-passed h r n e =
-      let q = first-passed (standing p s a (eqb (kindOf r) 0)) (replyVerdict s h r n) e in
-      let h₁ = over-first (not (timeOk s (h .time))) BadTime _ refl (q .1) in
+      let q = first-passed (standing p s a (eqb (kindOf r) 0)) (replyVerdict (s .link .«last_time») h r n) e in
+      let h₁ = over-first (not (timeOk (s .link .«last_time») (h .time))) BadTime _ refl (q .1) in
       let h₂ = over-first (not (heardOk h && replyOk r)) BadValue _ refl (h₁ .1) in
       let b = not-false _ (h₂ .0) in
       (not-false _ (h₁ .0), and-first (heardOk h) (replyOk r) b, and-second (heardOk h) (replyOk r) b)

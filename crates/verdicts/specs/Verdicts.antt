@@ -7,6 +7,8 @@ use Rattle.limits.specs.Ranges.{inRange, inOrder}
 use Rattle.config.specs.declared.Profile.{Profile}
 use Rattle.ledger.specs.Limits.{maxSlots}
 use Rattle.queued.specs.Queued.{queueRefusal}
+use lib.Ieee.{Float}
+use Rattle.record.specs.declared.Counts.{Counts}
 use Rattle.record.specs.declared.Sender.{Sender}
 use Rattle.checks.specs.Checked.{soundOk}
 use Rattle.answers.specs.declared.Heard.{Heard}
@@ -26,18 +28,22 @@ standing p s a connect =
     (cond (not (soundOk p s a)) Unsound
     (cond ((s .link .connected && connect) || (not (s .link .connected) && not connect)) OutOfTurn Accepted)))
 
--- 5 to 7. 7: "A long ack's payload is under 13 bytes"; n bytes come with the reply
-unfoldable pub replyVerdict : Sender → Heard → Reply → ℕ → Verdict
-replyVerdict s h r n =
-    cond (not (timeOk s (h .time))) BadTime
+-- 5 to 7, after a call at `last`. 7: "A long ack's payload is under 13 bytes"; n bytes come with the reply
+unfoldable pub replyVerdict : Float → Heard → Reply → ℕ → Verdict
+replyVerdict last h r n =
+    cond (not (timeOk last (h .time))) BadTime
     (cond (not (heardOk h && replyOk r)) BadValue
     (cond (eqb (kindOf r) 2 && ltb n 13) ShortPayload Accepted))
 
 -- 8 and 9, of n bytes more
-unfoldable pub roomVerdict : Sender → ℕ → Verdict
-roomVerdict s n =
-    let q = queueRefusal (s .counts .waiting) (s .counts .«next_offset» + s .counts .waiting) n in
+unfoldable pub roomVerdict : Counts → ℕ → Verdict
+roomVerdict c n =
+    let q = queueRefusal (c .waiting) (c .«next_offset» + c .waiting) n in
     cond (eqb q 8) QueueFull (cond (eqb q 9) AllTaken Accepted)
+
+-- 10: "The output is shorter than 64 times the long frame"
+unfoldable pub outputVerdict : ℕ → ℕ → Verdict
+outputVerdict long n = cond (ltb n (maxSlots * long)) ShortOutput Accepted
 
 -- the first that turns the call down
 abbrev pub firstOf : Verdict → Verdict → Verdict
@@ -45,12 +51,12 @@ firstOf v w = cond (passed v) w v
 
 -- a queuing of n bytes: 1 2 3 4 8 9
 unfoldable pub queueVerdict : Profile → Sender → List ℕ → ℕ → Verdict
-queueVerdict p s a n = firstOf (standing p s a false) (roomVerdict s n)
+queueVerdict p s a n = firstOf (standing p s a false) (roomVerdict (s .counts) n)
 
 -- a reply with a payload of n bytes: 1 2 3 4 5 6 7
 unfoldable pub receiveVerdict : Profile → Sender → List ℕ → Heard → Reply → ℕ → Verdict
-receiveVerdict p s a h r n = firstOf (standing p s a (eqb (kindOf r) 0)) (replyVerdict s h r n)
+receiveVerdict p s a h r n = firstOf (standing p s a (eqb (kindOf r) 0)) (replyVerdict (s .link .«last_time») h r n)
 
--- a burst into n bytes of output: 1 2 3 4 10. 10: "The output is shorter than 64 times the long frame"
+-- a burst into n bytes of output: 1 2 3 4 10
 unfoldable pub burstVerdict : Profile → Sender → List ℕ → ℕ → Verdict
-burstVerdict p s a n = firstOf (standing p s a false) (cond (ltb n (maxSlots * p .«long_bytes»)) ShortOutput Accepted)
+burstVerdict p s a n = firstOf (standing p s a false) (outputVerdict (p .«long_bytes») n)

@@ -1,9 +1,10 @@
-// What the sender turns down (document 01): the verdict of each call. No function requires anything.
+// What the sender turns down (document 01): the verdict of each call.
 use answers::Heard;
 use config::Profile;
 use limits::in_order;
 use limits::in_range;
 use queued::queue_refusal;
+use record::Counts;
 use record::Sender;
 use refusals::Reply;
 use refusals::Verdict;
@@ -14,7 +15,10 @@ use refusals::reply_ok;
 use refusals::time_ok;
 use soundness::is_sound;
 ghost use mathlib.Core.Path.{_≡_};
-ghost use Rattle.verdicts.specs.Verdicts.{standing as standingOf, queueVerdict, receiveVerdict, burstVerdict};
+ghost use mathlib.Core.Bool.{true};
+ghost use Prim.Native.Nat.{_+_, _≤_};
+ghost use Rattle.ledger.specs.Limits.{maxTaken};
+ghost use Rattle.verdicts.specs.Verdicts.{passed, firstOf, standing as standingOf, replyVerdict, roomVerdict, outputVerdict};
 
 // Refusals 1 to 4. `connect`: the call is a connect.
 pub fn standing(p: Profile, s: Sender, a: &[u8], connect: bool) -> Verdict
@@ -24,7 +28,7 @@ pub fn standing(p: Profile, s: Sender, a: &[u8], connect: bool) -> Verdict
     if !in_range(p) {
         return Verdict::ProfileOutOfRange;
     }
-    if !in_order(p) {
+    if !in_order(p.short_bytes, p.long_bytes) {
         return Verdict::ShortOverLong;
     }
     if !is_sound(p, s, a) {
@@ -36,15 +40,14 @@ pub fn standing(p: Profile, s: Sender, a: &[u8], connect: bool) -> Verdict
     Verdict::Accepted
 }
 
-// 1 2 3 4 8 9, of n bytes more.
-pub fn queue_verdict(p: Profile, s: Sender, a: &[u8], n: usize) -> Verdict
-    ensures { λ r. ⌜ r ≡ queueVerdict p s (now (a .entry)) n ⌝ }
+// 8 and 9, of n bytes more, where 1 to 4 gave v.
+pub fn queue_verdict(v: Verdict, c: Counts, n: usize) -> Verdict
+    requires { ⌜ (passed v ≡ true → c .«next_offset» + c .waiting ≤ maxTaken) ⌝ }
+    ensures { λ r. ⌜ r ≡ firstOf v (roomVerdict c n) ⌝ }
 {
-    let v = standing(p, s, a, false);
     if number(v) != 0 {
         return v;
     }
-    let c = s.counts;
     let q = queue_refusal(c.waiting, c.next_offset + c.waiting, n);
     if q == 8 {
         return Verdict::QueueFull;
@@ -55,36 +58,33 @@ pub fn queue_verdict(p: Profile, s: Sender, a: &[u8], n: usize) -> Verdict
     Verdict::Accepted
 }
 
-// 1 to 7, of a reply with a payload of n bytes.
-pub fn receive_verdict(p: Profile, s: Sender, a: &[u8], h: Heard, r: Reply, n: usize) -> Verdict
-    ensures { λ q. ⌜ q ≡ receiveVerdict p s (now (a .entry)) h r n ⌝ }
+// 5 to 7, of a reply with a payload of n bytes after a call at `last`, where 1 to 4 gave v.
+pub fn receive_verdict(v: Verdict, last: f64, h: Heard, r: Reply, n: usize) -> Verdict
+    ensures { λ q. ⌜ q ≡ firstOf v (replyVerdict last h r n) ⌝ }
 {
-    let k = kind(r);
-    let v = standing(p, s, a, k == 0);
     if number(v) != 0 {
         return v;
     }
-    if !time_ok(s, h.time) {
+    if !time_ok(last, h.time) {
         return Verdict::BadTime;
     }
     if !(heard_ok(h) & reply_ok(r)) {
         return Verdict::BadValue;
     }
-    if (k == 2) & (n < 13) {
+    if (kind(r) == 2) & (n < 13) {
         return Verdict::ShortPayload;
     }
     Verdict::Accepted
 }
 
-// Refusals of a burst into n bytes: 1 2 3 4 10.
-pub fn burst_verdict(p: Profile, s: Sender, a: &[u8], n: usize) -> Verdict
-    ensures { λ r. ⌜ r ≡ burstVerdict p s (now (a .entry)) n ⌝ }
+// 10, of a burst into n bytes with long frames of `long` bytes, where 1 to 4 gave v.
+pub fn burst_verdict(v: Verdict, long: u32, n: usize) -> Verdict
+    ensures { λ r. ⌜ r ≡ firstOf v (outputVerdict long n) ⌝ }
 {
-    let v = standing(p, s, a, false);
     if number(v) != 0 {
         return v;
     }
-    if n < 64 * (p.long_bytes as usize) {
+    if n < 64 * (long as usize) {
         return Verdict::ShortOutput;
     }
     Verdict::Accepted

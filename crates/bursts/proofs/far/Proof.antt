@@ -1,10 +1,10 @@
-use native.Mathlib.Omega.{arith}
+use borrow.Author.Needs.{needs}
 use Rattle.bursts.specs.Bursts.{far}
 use Rattle.bursts.proofs.far.Statement.{statement}
 use Rattle.bursts.proofs.far.Tie as tie
 
 next-entry-requires : tie.Need-next-entry-requires
-next-entry-requires c κs = (c .pre .0, omega (arith, c .pre .1 .top))
+next-entry-requires c κs = search needs
 
 returns : tie.Need-returns
 unfolding far

@@ -8,7 +8,7 @@ abs32-requires c κs = search needs
 
 returns : tie.Need-returns
 unfolding steady
-returns c = simp (c .before .before .abs32 .ensures)
+returns c = simp (c .before .abs32 .ensures)
 
 pub steady-spec : {M : Type 1} → statement M
 steady-spec = tie.close (tie.spec abs32-requires returns)

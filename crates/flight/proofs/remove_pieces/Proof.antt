@@ -36,8 +36,11 @@ load-row-requires c κs = omega (arith, c .before .before .loop .inv .long)
 cast-len : tie.Need-cast-len Inv-loop μ-loop
 cast-len c = search needs
 
-contains-marked-requires : tie.Need-contains-marked-requires Inv-loop μ-loop
-contains-marked-requires c κs = search needs
+sub-contains-near : tie.Need-sub-contains-near Inv-loop μ-loop
+sub-contains-near c = P (c .before) .loop .inv .low
+
+contains-near-requires : tie.Need-contains-near-requires Inv-loop μ-loop
+contains-near-requires c κs = search needs
 
 add-from : tie.Need-add-from Inv-loop μ-loop
 add-from c = omega (arith, fits (c .before .before .before))
@@ -53,7 +56,7 @@ loop-again c =
     let d = c .before .before .before in
     let p = P d in
     let s = S p in
-    removing-gone _ _ _ _ _ _ _ _ _ _ (p .loop .inv) (d .before .before .loop-test .taken) (d .load-row .ensures) (s .pre .2) (s .pre .1) (sym (c .before .contains-marked .ensures) ∙ c .if1 .taken)
+    removing-gone _ _ _ _ _ _ _ _ _ _ (p .loop .inv) (d .before .before .loop-test .taken) (d .load-row .ensures) (s .pre .2) (s .pre .1) (sym (c .before .contains-near .ensures) ∙ c .if1 .taken)
 
 -- in a turn, once the piece has moved
 abbrev R : tie.After-slice-known2 Inv-loop μ-loop → tie.After-load-row Inv-loop μ-loop
@@ -87,7 +90,7 @@ loop-again-2 c =
     let d = R c in
     let p = P d in
     let s = S p in
-    removing-kept _ _ _ _ _ _ _ _ _ _ (p .loop .inv) (d .before .before .loop-test .taken) (d .load-row .ensures) (s .pre .2) (s .pre .1) _ (sym (e .before .contains-marked .ensures) ∙ e .if1 .left) (mp .move-piece .ensures)
+    removing-kept _ _ _ _ _ _ _ _ _ _ (p .loop .inv) (d .before .before .loop-test .taken) (d .load-row .ensures) (s .pre .2) (s .pre .1) _ (sym (e .before .contains-near .ensures) ∙ e .if1 .left) (mp .move-piece .ensures)
 
 same-length : tie.Need-same-length Inv-loop μ-loop
 same-length c = c .before .before .loop .inv .long
@@ -120,7 +123,8 @@ remove-pieces-spec =
     loop-holds
     load-row-requires
     cast-len
-    contains-marked-requires
+    sub-contains-near
+    contains-near-requires
     add-from
     add-i
     loop-less

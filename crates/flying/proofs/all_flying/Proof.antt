@@ -28,12 +28,15 @@ abbrev μ-loop : tie.MeasureT-loop
 whole : (l : List ℕ) (i : ℕ) → take (length l - i) (drop i l) ≡ drop i l
 whole l i = take-all (length l - i) (drop i l) (omega (arith, length-drop i l))
 
-turned : (d : tie.In-loop Inv-loop μ-loop) → let p = d .before in let a = p .before .before .before .args in let os = rowOffs (rowsFrom (now (a .a)) 0 (a .n)) in
+turned : (d : tie.In-loop Inv-loop μ-loop) → let p = d .before in let a = p .before .before .before .before .args in let os = rowOffs (rowsFrom (now (a .a)) 0 (a .n)) in
     allFlying (drop (p .loop .i - 1) (now (a .xs))) os ≡ ((listed (getD (now (a .xs)) (p .loop .i - 1) 0) os && not (listed (getD (now (a .xs)) (p .loop .i - 1) 0) (drop (p .loop .i) (now (a .xs))))) && allFlying (drop (p .loop .i) (now (a .xs))) os)
-turned d = let p = d .before in let a = p .before .before .before .args in flying-back (now (a .xs)) (p .loop .i) (d .loop-test .taken) (p .loop .inv .0) (rowOffs (rowsFrom (now (a .a)) 0 (a .n)))
+turned d = let p = d .before in let a = p .before .before .before .before .args in flying-back (now (a .xs)) (p .loop .i) (d .loop-test .taken) (p .loop .inv .0) (rowOffs (rowsFrom (now (a .a)) 0 (a .n)))
+
+returns : tie.Need-returns Inv-loop μ-loop
+returns c = sym (flying-end _ _ 0 (omega (arith, c .if1 .taken)))
 
 loop-holds : tie.Need-loop-holds Inv-loop μ-loop
-loop-holds c = let xs = now (c .before .before .args .xs) in (le-refl _, marked-end _ xs (length xs) (le-refl _) refl, flying-end xs _ (length xs) (le-refl _))
+loop-holds c = let xs = now (c .before .before .before .args .xs) in (le-refl _, marked-end _ xs (length xs) (le-refl _) refl, flying-end xs _ (length xs) (le-refl _))
 
 sub-x : tie.Need-sub-x Inv-loop μ-loop
 sub-x c = search needs
@@ -44,14 +47,17 @@ mul-x c = search needs
 shared-slice-read-x : tie.Need-shared-slice-read-x Inv-loop μ-loop
 shared-slice-read-x c = search needs
 
-is-flying-requires : tie.Need-is-flying-requires Inv-loop μ-loop
-is-flying-requires c κs = search needs
+sub-flies-near : tie.Need-sub-flies-near Inv-loop μ-loop
+sub-flies-near c = c .before .before .loop .inv .0
 
-returns : tie.Need-returns Inv-loop μ-loop
-returns c =
+flies-near-requires : tie.Need-flies-near-requires Inv-loop μ-loop
+flies-near-requires c κs = search needs
+
+returns-2 : tie.Need-returns-2 Inv-loop μ-loop
+returns-2 c =
     let e = c .before in
     let d = e .before .before in
-    sym (flying-part _ _ (d .before .loop .i - 1) (turned d ∙ simp (sym (e .is-flying .ensures) ∙ not-true (e .is-flying .result) (c .if1 .taken))))
+    sym (flying-part _ _ (d .before .loop .i - 1) (turned d ∙ simp (sym (e .flies-near .ensures) ∙ not-true (e .flies-near .result) (c .if2 .taken))))
 
 slice-aggregate-contains-marked : tie.Need-slice-aggregate-contains-marked Inv-loop μ-loop
 slice-aggregate-contains-marked c = search needs
@@ -71,18 +77,18 @@ part-contains-marked-end c = search needs
 contains-marked-requires : tie.Need-contains-marked-requires Inv-loop μ-loop
 contains-marked-requires c κs =
     let p = c .before .before .before .before .before .before in
-    subst (Marked (p .loop .marks)) (sym (whole (now (p .before .before .before .args .xs)) (p .loop .i))) (p .loop .inv .1)
+    subst (Marked (p .loop .marks)) (sym (whole (now (p .before .before .before .before .args .xs)) (p .loop .i))) (p .loop .inv .1)
 
-returns-2 : tie.Need-returns-2 Inv-loop μ-loop
-returns-2 c =
+returns-3 : tie.Need-returns-3 Inv-loop μ-loop
+returns-3 c =
     let sr = c .before in
     let e = sr .before .before .before in
     let d = e .before .before .before in
     let p = d .before in
-    let a = p .before .before .before .args in
+    let a = p .before .before .before .before .args in
     let x = getD (now (a .xs)) (p .loop .i - 1) 0 in
-    let f : listed x (rowOffs (rowsFrom (now (a .a)) 0 (a .n))) ≡ true = sym (e .before .is-flying .ensures) ∙ not-false (e .before .is-flying .result) (e .if1 .left) in
-    let l : listed x (drop (p .loop .i) (now (a .xs))) ≡ true = ap (listed x) (sym (whole (now (a .xs)) (p .loop .i))) ∙ sym (sr .contains-marked .ensures) ∙ c .if2 .taken in
+    let f : listed x (rowOffs (rowsFrom (now (a .a)) 0 (a .n))) ≡ true = sym (e .before .flies-near .ensures) ∙ not-false (e .before .flies-near .result) (e .if2 .left) in
+    let l : listed x (drop (p .loop .i) (now (a .xs))) ≡ true = ap (listed x) (sym (whole (now (a .xs)) (p .loop .i))) ∙ sym (sr .contains-marked .ensures) ∙ c .if3 .taken in
     sym (flying-part _ _ (p .loop .i - 1) (turned d ∙ simp (f, l)))
 
 slice-aggregate-mark : tie.Need-slice-aggregate-mark Inv-loop μ-loop
@@ -120,10 +126,10 @@ loop-again c =
     let e = sr .before .before .before in
     let d = e .before .before .before in
     let p = d .before in
-    let a = p .before .before .before .args in
+    let a = p .before .before .before .before .args in
     let x = getD (now (a .xs)) (p .loop .i - 1) 0 in
-    let f : listed x (rowOffs (rowsFrom (now (a .a)) 0 (a .n))) ≡ true = sym (e .before .is-flying .ensures) ∙ not-false (e .before .is-flying .result) (e .if1 .left) in
-    let l : listed x (drop (p .loop .i) (now (a .xs))) ≡ false = ap (listed x) (sym (whole (now (a .xs)) (p .loop .i))) ∙ sym (sr .contains-marked .ensures) ∙ o .if2 .left in
+    let f : listed x (rowOffs (rowsFrom (now (a .a)) 0 (a .n))) ≡ true = sym (e .before .flies-near .ensures) ∙ not-false (e .before .flies-near .result) (e .if2 .left) in
+    let l : listed x (drop (p .loop .i) (now (a .xs))) ≡ false = ap (listed x) (sym (whole (now (a .xs)) (p .loop .i))) ∙ sym (sr .contains-marked .ensures) ∙ o .if3 .left in
     let t = d .loop-test .taken in
     let b = p .loop .inv .0 in (
       omega (arith, b),
@@ -132,10 +138,10 @@ loop-again c =
       turned d ∙ simp (f, l, p .loop .inv .2),
     )
 
-returns-3 : tie.Need-returns-3 Inv-loop μ-loop
-returns-3 c =
+returns-4 : tie.Need-returns-4 Inv-loop μ-loop
+returns-4 c =
     let p = c .before in
-    let a = p .before .before .before .args in
+    let a = p .before .before .before .before .args in
     let z : p .loop .i ≡ 0 = omega (arith, c .loop-test .left) in
     sym (ap (λ (i : ℕ). allFlying (drop i (now (a .xs))) (rowOffs (rowsFrom (now (a .a)) 0 (a .n)))) (sym z) ∙ p .loop .inv .2)
 
@@ -145,19 +151,21 @@ all-flying-spec =
     (tie.spec
     Inv-loop
     μ-loop
+    returns
     loop-holds
     sub-x
     mul-x
     shared-slice-read-x
-    is-flying-requires
-    returns
+    sub-flies-near
+    flies-near-requires
+    returns-2
     slice-aggregate-contains-marked
     mul-contains-marked
     sub-contains-marked
     part-contains-marked-start
     part-contains-marked-end
     contains-marked-requires
-    returns-2
+    returns-3
     slice-aggregate-mark
     sub-mark
     mul-mark
@@ -168,4 +176,4 @@ all-flying-spec =
     sub-i
     loop-less
     loop-again
-    returns-3)
+    returns-4)

@@ -15,15 +15,15 @@ aim-requires c κs = search needs
 marks-requires : tie.Need-marks-requires
 marks-requires c κs = search needs
 
-class-of-requires : tie.Need-class-of-requires
-class-of-requires c κs = search needs
+heeded-requires : tie.Need-heeded-requires
+heeded-requires c κs = search needs
 
 level-for-requires : tie.Need-level-for-requires
 level-for-requires c κs = search needs
 
 returns : tie.Need-returns
 unfolding aimed
-returns c = simp (c .level-for .ensures, c .before .class-of .ensures, c .before .before .marks .ensures, c .before .before .before .aim .ensures, c .before .before .before .before .push .ensures, c .before .before .before .before .before .air-db .ensures)
+returns c = simp (c .level-for .ensures, c .before .heeded .ensures, c .before .before .marks .ensures, c .before .before .before .aim .ensures, c .before .before .before .before .push .ensures, c .before .before .before .before .before .air-db .ensures)
 
 pub aim-spec : {M : Type 1} → statement M
-aim-spec = tie.close (tie.spec air-db-requires push-requires aim-requires marks-requires class-of-requires level-for-requires returns)
+aim-spec = tie.close (tie.spec air-db-requires push-requires aim-requires marks-requires heeded-requires level-for-requires returns)

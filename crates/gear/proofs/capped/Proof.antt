@@ -4,8 +4,8 @@ use borrow.Author.Needs.{needs}
 use Rattle.gear.proofs.capped.Statement.{statement}
 use Rattle.gear.proofs.capped.Tie as tie
 
-class-of-requires : tie.Need-class-of-requires
-class-of-requires c κs = search needs
+heeded-requires : tie.Need-heeded-requires
+heeded-requires c κs = search needs
 
 smaller-requires : tie.Need-smaller-requires
 smaller-requires c κs = search needs
@@ -18,7 +18,7 @@ usable-below-requires c κs = omega (arith, c .smaller2 .ensures, c .before .bef
 
 returns : tie.Need-returns
 unfolding capped
-returns c = simp (c .usable-below .ensures, c .before .smaller2 .ensures, c .before .before .smaller .ensures, c .before .before .before .class-of .ensures)
+returns c = simp (c .usable-below .ensures, c .before .smaller2 .ensures, c .before .before .smaller .ensures, c .before .before .before .heeded .ensures)
 
 pub capped-spec : {M : Type 1} → statement M
-capped-spec = tie.close (tie.spec class-of-requires smaller-requires smaller-requires-2 usable-below-requires returns)
+capped-spec = tie.close (tie.spec heeded-requires smaller-requires smaller-requires-2 usable-below-requires returns)

@@ -4,8 +4,8 @@ use borrow.Author.Needs.{needs}
 use Rattle.gear.proofs.climb.Statement.{statement}
 use Rattle.gear.proofs.climb.Tie as tie
 
-class-of-requires : tie.Need-class-of-requires
-class-of-requires c κs = search needs
+heeded-requires : tie.Need-heeded-requires
+heeded-requires c κs = search needs
 
 sub-gap : tie.Need-sub-gap
 sub-gap c = search needs
@@ -30,11 +30,11 @@ spotless-requires c κs = rw (c .climb-above2 .ensures) (climb-lt _ _ _ _ _ _ (c
 
 returns : tie.Need-returns
 unfolding climbed
-returns c = simp (rw (c .before .spotless .ensures, c .before .before .climb-above2 .ensures, c .before .before .before .larger .ensures, c .before .before .before .before .climb-above .ensures, c .before .before .before .before .before .is-step .ensures, c .before .before .before .before .before .before .before .before .before .class-of .ensures) at (c .if1 .taken), c .before .before .climb-above2 .ensures, c .before .before .before .larger .ensures, c .before .before .before .before .before .is-step .ensures, c .before .before .before .before .before .before .before .before .before .class-of .ensures)
+returns c = simp (rw (c .before .spotless .ensures, c .before .before .climb-above2 .ensures, c .before .before .before .larger .ensures, c .before .before .before .before .climb-above .ensures, c .before .before .before .before .before .is-step .ensures, c .before .before .before .before .before .before .before .before .before .heeded .ensures) at (c .if1 .taken), c .before .before .climb-above2 .ensures, c .before .before .before .larger .ensures, c .before .before .before .before .before .is-step .ensures, c .before .before .before .before .before .before .before .before .before .heeded .ensures)
 
 returns-2 : tie.Need-returns-2
 unfolding climbed
-returns-2 c = simp (rw (c .before .spotless .ensures, c .before .before .climb-above2 .ensures, c .before .before .before .larger .ensures, c .before .before .before .before .climb-above .ensures, c .before .before .before .before .before .is-step .ensures, c .before .before .before .before .before .before .before .before .before .class-of .ensures) at (c .if1 .left), c .before .before .before .before .climb-above .ensures, c .before .before .before .before .before .is-step .ensures, c .before .before .before .before .before .before .before .before .before .class-of .ensures)
+returns-2 c = simp (rw (c .before .spotless .ensures, c .before .before .climb-above2 .ensures, c .before .before .before .larger .ensures, c .before .before .before .before .climb-above .ensures, c .before .before .before .before .before .is-step .ensures, c .before .before .before .before .before .before .before .before .before .heeded .ensures) at (c .if1 .left), c .before .before .before .before .climb-above .ensures, c .before .before .before .before .before .is-step .ensures, c .before .before .before .before .before .before .before .before .before .heeded .ensures)
 
 pub climb-spec : {M : Type 1} → statement M
-climb-spec = tie.close (tie.spec class-of-requires sub-gap is-step-requires climb-above-requires add-larger larger-requires climb-above-requires-2 spotless-requires returns returns-2)
+climb-spec = tie.close (tie.spec heeded-requires sub-gap is-step-requires climb-above-requires add-larger larger-requires climb-above-requires-2 spotless-requires returns returns-2)

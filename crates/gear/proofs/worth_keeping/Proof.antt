@@ -4,8 +4,8 @@ use borrow.Author.Needs.{needs}
 use Rattle.gear.proofs.worth_keeping.Statement.{statement}
 use Rattle.gear.proofs.worth_keeping.Tie as tie
 
-class-of-requires : tie.Need-class-of-requires
-class-of-requires c κs = search needs
+heeded-requires : tie.Need-heeded-requires
+heeded-requires c κs = search needs
 
 step-down-requires : tie.Need-step-down-requires
 step-down-requires c κs = search needs
@@ -33,7 +33,7 @@ level-rate-requires-2 c κs = let s = c .before .before .before .before .before 
 
 returns : tie.Need-returns
 unfolding worthKeeping
-returns c = simp (c .before .before .level-rate2 .ensures, c .before .before .before .cue-for2 .ensures, c .before .before .before .before .level-rate .ensures, c .before .before .before .before .before .cue-for .ensures, c .before .before .before .before .before .before .f32-to-f64-with-nan .ensures, c .before .before .before .before .before .before .before .share .ensures, c .before .before .before .before .before .before .before .before .usable-below .ensures, c .before .before .before .before .before .before .before .before .before .step-down .ensures, c .before .before .before .before .before .before .before .before .before .before .class-of .ensures)
+returns c = simp (c .before .before .level-rate2 .ensures, c .before .before .before .cue-for2 .ensures, c .before .before .before .before .level-rate .ensures, c .before .before .before .before .before .cue-for .ensures, c .before .before .before .before .before .before .f32-to-f64-with-nan .ensures, c .before .before .before .before .before .before .before .share .ensures, c .before .before .before .before .before .before .before .before .usable-below .ensures, c .before .before .before .before .before .before .before .before .before .step-down .ensures, c .before .before .before .before .before .before .before .before .before .before .heeded .ensures)
 
 pub worth-keeping-spec : {M : Type 1} → statement M
-worth-keeping-spec = tie.close (tie.spec class-of-requires step-down-requires usable-below-requires share-requires f32-to-f64-with-nan-requires cue-for-requires level-rate-requires cue-for-requires-2 level-rate-requires-2 returns)
+worth-keeping-spec = tie.close (tie.spec heeded-requires step-down-requires usable-below-requires share-requires f32-to-f64-with-nan-requires cue-for-requires level-rate-requires cue-for-requires-2 level-rate-requires-2 returns)

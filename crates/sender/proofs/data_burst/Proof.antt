@@ -1,7 +1,7 @@
 -- `sender::data_burst` meets its contract.
 use denote.Ref.{now}
 use mathlib.Core.Bool.{true}
-use mathlib.Core.Path.{_≡_}
+use mathlib.Core.Path.{_≡_, ap, _∙_}
 use Prim.Native.Nat.{ℕ}
 use lib.ListN.{length}
 use borrow.Author.Needs.{needs, length-unmapped}
@@ -9,7 +9,8 @@ use Rattle.limits.proofs.Ranged.{ranged}
 use Rattle.ledger.specs.Limits.{maxSlots}
 use Rattle.record.proofs.View.{Arrays}
 use Rattle.checks.proofs.Sound.{test-sound}
-use Rattle.verdicts.specs.Verdicts.{passed, burstVerdict}
+use Rattle.refusals.specs.declared.Verdict.{Verdict}
+use Rattle.verdicts.specs.Verdicts.{passed, firstOf, outputVerdict, burstVerdict}
 use Rattle.verdicts.proofs.Passed.{is-passed, not-passed, burst-passed}
 use Rattle.sender.proofs.Bursting.{burst-refused, burst-accepted}
 use Rattle.sender.proofs.data_burst.Statement.{statement}
@@ -25,8 +26,15 @@ arrays s =
       sentHeld = length-unmapped ℕ (s .args .s .«last_burst» .held) maxSlots (s .good .1 .0 .1 .1 .1 .1 .1 .1 .0 .1 .1 .1 .1 .0 .1 .0 .1);
     }
 
-accepted : (c : tie.Else1) → let s = c .before .before .before .before .before .before in passed (burstVerdict (s .args .p) (s .args .s) (now (s .args .a)) (length (now (s .args .out)))) ≡ true
-accepted c = is-passed _ _ _ (c .before .before .burst-verdict .ensures) (c .before .number .ensures) (c .if1 .left)
+asked : (c : tie.After-burst-verdict) → let s = c .before .before .before .before .before in c .burst-verdict .result ≡ burstVerdict (s .args .p) (s .args .s) (now (s .args .a)) (length (now (s .args .out)))
+unfolding burstVerdict
+asked c = let s = c .before .before .before .before .before in c .burst-verdict .ensures ∙ ap (λ (u : Verdict). firstOf u (outputVerdict (s .args .p .«long_bytes») (length (now (s .args .out))))) (c .before .standing .ensures)
+
+accepted : (c : tie.Else1) → let s = c .before .before .before .before .before .before .before in passed (burstVerdict (s .args .p) (s .args .s) (now (s .args .a)) (length (now (s .args .out)))) ≡ true
+accepted c = is-passed _ _ _ (asked (c .before .before)) (c .before .number .ensures) (c .if1 .left)
+
+standing-requires : tie.Need-standing-requires
+standing-requires c κs = search needs
 
 burst-verdict-requires : tie.Need-burst-verdict-requires
 burst-verdict-requires c κs = search needs
@@ -42,12 +50,12 @@ same-length c = search needs
 
 returns : tie.Need-returns
 returns c =
-    burst-refused _ _ _ _ _ _ (c .before .before .before .burst-verdict .ensures) (c .no-burst .ensures)
-    (not-passed _ _ _ (c .before .before .before .burst-verdict .ensures) (c .before .before .number .ensures) (c .before .if1 .taken))
+    let v = c .before .before .before in
+    burst-refused _ _ _ _ _ _ (asked v) (c .no-burst .ensures) (not-passed _ _ _ (asked v) (c .before .before .number .ensures) (c .before .if1 .taken))
 
 data-burst-requires : tie.Need-data-burst-requires
 data-burst-requires c κs =
-    let s = c .before .before .before .before .before .before .before .before in
+    let s = c .before .before .before .before .before .before .before .before .before in
     let q = burst-passed (s .args .p) (s .args .s) (now (s .args .a)) (length (now (s .args .out))) (accepted (c .before .before)) in
     (ranged (s .args .p) (q .0), (q .1, test-sound (s .args .p) (s .args .s) (now (s .args .a)) (arrays s) (q .2), q .3))
 
@@ -58,12 +66,13 @@ same-length-3 : tie.Need-same-length-3
 same-length-3 c = search needs
 
 returns-2 : tie.Need-returns-2
-returns-2 c = burst-accepted _ _ _ _ _ _ (c .before .before .before .before .before .before .before .before .before .before .before .burst-verdict .ensures) (c .before .before .before .before .before .before .data-burst .ensures) (accepted (c .before .before .before .before .before .before .before .before .before))
+returns-2 c = burst-accepted _ _ _ _ _ _ (asked (c .before .before .before .before .before .before .before .before .before .before .before)) (c .before .before .before .before .before .before .data-burst .ensures) (accepted (c .before .before .before .before .before .before .before .before .before))
 
 pub data-burst-spec : {M : Type 1} → statement M
 data-burst-spec =
     tie.close
     (tie.spec
+    standing-requires
     burst-verdict-requires
     number-requires
     no-burst-requires

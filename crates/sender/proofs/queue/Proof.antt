@@ -1,7 +1,7 @@
 -- `sender::queue` meets its contract.
 use denote.Ref.{now}
-use mathlib.Core.Bool.{true}
-use mathlib.Core.Path.{_≡_}
+use mathlib.Core.Bool.{true, false}
+use mathlib.Core.Path.{_≡_, sym, ap, _∙_}
 use Prim.Native.Nat.{ℕ, _+_, _≤_}
 use native.Mathlib.Omega.{arith}
 use lib.ListN.{length}
@@ -9,8 +9,9 @@ use borrow.Author.Needs.{length-unmapped}
 use Rattle.ledger.specs.Limits.{maxSlots, maxWaiting}
 use Rattle.table.specs.Layout.{areaBytes, streamBytes}
 use Rattle.record.proofs.View.{Arrays}
-use Rattle.verdicts.specs.Verdicts.{passed, queueVerdict}
-use Rattle.verdicts.proofs.Passed.{is-passed, not-passed, queue-room}
+use Rattle.refusals.specs.declared.Verdict.{Verdict}
+use Rattle.verdicts.specs.Verdicts.{passed, firstOf, roomVerdict, queueVerdict}
+use Rattle.verdicts.proofs.Passed.{is-passed, not-passed, standing-passed, sound-taken, queue-room}
 use Rattle.sender.proofs.Answered.{queue-refused, queue-accepted}
 use borrow.Author.Needs.{needs}
 use Rattle.sender.proofs.queue.Statement.{statement}
@@ -26,14 +27,23 @@ arrays s =
       sentHeld = length-unmapped ℕ (s .args .s .«last_burst» .held) maxSlots (s .good .1 .0 .1 .1 .1 .1 .1 .1 .0 .1 .1 .1 .1 .0 .1 .0 .1);
     }
 
-accepted : (c : tie.Else1) → let s = c .before .before .before .before .before .before in passed (queueVerdict (s .args .p) (s .args .s) (now (s .args .a)) (length (now (s .args .bytes)))) ≡ true
-accepted c = is-passed _ _ _ (c .before .before .queue-verdict .ensures) (c .before .number .ensures) (c .if1 .left)
+asked : (c : tie.After-queue-verdict) → let s = c .before .before .before .before .before .before in c .queue-verdict .result ≡ queueVerdict (s .args .p) (s .args .s) (now (s .args .a)) (length (now (s .args .bytes)))
+unfolding queueVerdict
+asked c = let s = c .before .before .before .before .before .before in c .queue-verdict .ensures ∙ ap (λ (u : Verdict). firstOf u (roomVerdict (s .args .s .counts) (length (now (s .args .bytes))))) (c .before .standing .ensures)
 
-room : (c : tie.Else1) → let s = c .before .before .before .before .before .before in (s .args .s .counts .flying + s .args .s .counts .waiting + length (now (s .args .bytes)) ≤ streamBytes) × (areaBytes ≤ length (now (s .args .a))) × (s .args .s .counts .waiting + length (now (s .args .bytes)) ≤ maxWaiting)
-room c = let s = c .before .before .before .before .before .before in queue-room (s .args .p) (s .args .s) (now (s .args .a)) (length (now (s .args .bytes))) (accepted c)
+accepted : (c : tie.Else1) → let s = c .before .before .before .before .before .before .before .before in passed (queueVerdict (s .args .p) (s .args .s) (now (s .args .a)) (length (now (s .args .bytes)))) ≡ true
+accepted c = is-passed _ _ _ (asked (c .before .before)) (c .before .number .ensures) (c .if1 .left)
+
+room : (c : tie.Else1) → let s = c .before .before .before .before .before .before .before .before in (s .args .s .counts .flying + s .args .s .counts .waiting + length (now (s .args .bytes)) ≤ streamBytes) × (areaBytes ≤ length (now (s .args .a))) × (s .args .s .counts .waiting + length (now (s .args .bytes)) ≤ maxWaiting)
+room c = let s = c .before .before .before .before .before .before .before .before in queue-room (s .args .p) (s .args .s) (now (s .args .a)) (length (now (s .args .bytes))) (accepted c)
+
+standing-requires : tie.Need-standing-requires
+standing-requires c κs = search needs
 
 queue-verdict-requires : tie.Need-queue-verdict-requires
-queue-verdict-requires c κs = search needs
+queue-verdict-requires c κs e =
+    let s = c .before .before .before .before .before in
+    sound-taken (s .args .p) (s .args .s) (now (s .args .a)) (standing-passed (s .args .p) (s .args .s) (now (s .args .a)) false (sym (ap (λ (u : Verdict). passed u) (c .standing .ensures)) ∙ e) .1)
 
 number-requires : tie.Need-number-requires
 number-requires c κs = search needs
@@ -43,9 +53,8 @@ same-length c = search needs
 
 returns : tie.Need-returns
 returns c =
-    let s = c .before .before .before .before .before .before in
-    queue-refused (s .args .p) (s .args .s) (now (s .args .a)) (now (s .args .bytes)) _ (c .before .before .queue-verdict .ensures)
-    (not-passed _ _ _ (c .before .before .queue-verdict .ensures) (c .before .number .ensures) (c .if1 .taken))
+    let s = c .before .before .before .before .before .before .before .before in
+    queue-refused (s .args .p) (s .args .s) (now (s .args .a)) (now (s .args .bytes)) _ (asked (c .before .before)) (not-passed _ _ _ (asked (c .before .before)) (c .before .number .ensures) (c .if1 .taken))
 
 cast-at : tie.Need-cast-at
 cast-at c = search needs
@@ -57,24 +66,28 @@ add-at : tie.Need-add-at
 add-at c = search needs
 
 copy-in-requires : tie.Need-copy-in-requires
-copy-in-requires c κs = let q = room (c .before .before .before .before) in omega (arith, q .0, q .1)
+copy-in-requires c κs = let q = room (c .before .before .before) in omega (arith, q .0, q .1)
 
 cast-w : tie.Need-cast-w
-cast-w c = let q = room (c .before .before .before .before .before .before .before) in omega (arith, q .2)
+cast-w c = let q = room (c .before .before .before .before .before .before) in omega (arith, q .2)
 
 add-w : tie.Need-add-w
-add-w c = let q = room (c .before .before .before .before .before .before .before .before) in omega (arith, q .2)
+add-w c = let q = room (c .before .before .before .before .before .before .before) in omega (arith, q .2)
 
 same-length-2 : tie.Need-same-length-2
 same-length-2 c = search needs
 
 returns-2 : tie.Need-returns-2
-returns-2 c = let s = c .before .before .before .before .before .before .before .before .before .before .before .before .before .before .before in queue-accepted (s .args .p) (s .args .s) (now (s .args .a)) (arrays s) (λ k. c .before .before .before .before .before .before .before .before .before .before .before .before .before .before .slice-known .given k .fits) (now (s .args .bytes)) _ _ (c .before .before .before .before .before .before .before .before .before .before .before .queue-verdict .ensures) (accepted (c .before .before .before .before .before .before .before .before .before)) (c .before .before .before .before .copy-in .ensures)
+returns-2 c =
+    let e = c .before .before .before .before .before .before .before .before in
+    let s = e .before .before .before .before .before .before .before .before in
+    queue-accepted (s .args .p) (s .args .s) (now (s .args .a)) (arrays s) (λ k. e .before .before .before .before .before .before .before .slice-known .given k .fits) (now (s .args .bytes)) _ _ (asked (e .before .before)) (accepted e) (c .before .before .before .before .copy-in .ensures)
 
 pub queue-spec : {M : Type 1} → statement M
 queue-spec =
     tie.close
     (tie.spec
+    standing-requires
     queue-verdict-requires
     number-requires
     same-length

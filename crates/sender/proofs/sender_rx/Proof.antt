@@ -1,13 +1,15 @@
 -- `sender::sender_rx` meets its contract.
 use denote.Ref.{now}
 use mathlib.Core.Bool.{true}
-use mathlib.Core.Path.{_≡_}
+use mathlib.Core.Path.{_≡_, ap, _∙_}
 use Prim.Native.Nat.{ℕ}
+use lib.Dec.{eqb}
 use lib.ListN.{length}
 use borrow.Author.Needs.{length-unmapped}
 use Rattle.ledger.specs.Limits.{maxSlots}
 use Rattle.record.proofs.View.{Arrays}
-use Rattle.verdicts.specs.Verdicts.{passed, receiveVerdict}
+use Rattle.refusals.specs.declared.Verdict.{Verdict}
+use Rattle.verdicts.specs.Verdicts.{passed, firstOf, standing, replyVerdict, receiveVerdict}
 use Rattle.verdicts.proofs.Passed.{is-passed, not-passed}
 use Rattle.sender.proofs.Answered.{receive-refused, answer-ranged, answerable, receive-accepted}
 use borrow.Author.Needs.{needs}
@@ -24,8 +26,22 @@ arrays s =
       sentHeld = length-unmapped ℕ (s .args .s .«last_burst» .held) maxSlots (s .good .1 .0 .1 .1 .1 .1 .1 .1 .0 .1 .1 .1 .1 .0 .1 .0 .1);
     }
 
-accepted : (c : tie.Else1) → let s = c .before .before .before .before .before .before in passed (receiveVerdict (s .args .p) (s .args .s) (now (s .args .a)) (s .args .h) (s .args .r) (length (now (s .args .payload)))) ≡ true
-accepted c = is-passed _ _ _ (c .before .before .receive-verdict .ensures) (c .before .number .ensures) (c .if1 .left)
+asked : (c : tie.After-receive-verdict) → let s = c .before .before .before .before .before .before in c .receive-verdict .result ≡ receiveVerdict (s .args .p) (s .args .s) (now (s .args .a)) (s .args .h) (s .args .r) (length (now (s .args .payload)))
+unfolding receiveVerdict
+asked c =
+    let s = c .before .before .before .before .before .before in
+    c .receive-verdict .ensures
+    ∙ ap (λ (u : Verdict). firstOf u (replyVerdict (s .args .s .link .«last_time») (s .args .h) (s .args .r) (length (now (s .args .payload)))))
+    (c .before .standing .ensures ∙ ap (λ (k : ℕ). standing (s .args .p) (s .args .s) (now (s .args .a)) (eqb k 0)) (c .before .before .kind .ensures))
+
+accepted : (c : tie.Else1) → let s = c .before .before .before .before .before .before .before .before in passed (receiveVerdict (s .args .p) (s .args .s) (now (s .args .a)) (s .args .h) (s .args .r) (length (now (s .args .payload)))) ≡ true
+accepted c = is-passed _ _ _ (asked (c .before .before)) (c .before .number .ensures) (c .if1 .left)
+
+kind-requires : tie.Need-kind-requires
+kind-requires c κs = search needs
+
+standing-requires : tie.Need-standing-requires
+standing-requires c κs = search needs
 
 receive-verdict-requires : tie.Need-receive-verdict-requires
 receive-verdict-requires c κs = search needs
@@ -38,23 +54,28 @@ same-length c = search needs
 
 returns : tie.Need-returns
 returns c =
-    let s = c .before .before .before .before .before .before in
-    receive-refused (s .args .p) (s .args .s) (now (s .args .a)) (s .args .h) (s .args .r) (now (s .args .payload)) _ (c .before .before .receive-verdict .ensures)
-    (not-passed _ _ _ (c .before .before .receive-verdict .ensures) (c .before .number .ensures) (c .if1 .taken))
+    let s = c .before .before .before .before .before .before .before .before in
+    receive-refused (s .args .p) (s .args .s) (now (s .args .a)) (s .args .h) (s .args .r) (now (s .args .payload)) _ (asked (c .before .before))
+    (not-passed _ _ _ (asked (c .before .before)) (c .before .number .ensures) (c .if1 .taken))
 
 answer-requires : tie.Need-answer-requires
-answer-requires c κs = let s = c .before .before .before .before .before .before .before in let ok = accepted (c .before) in (answer-ranged (s .args .p) (s .args .s) (now (s .args .a)) (s .args .h) (s .args .r) (now (s .args .payload)) ok, answerable (s .args .p) (s .args .s) (now (s .args .a)) (s .args .h) (s .args .r) (now (s .args .payload)) ok (arrays s))
+answer-requires c κs = let s = c .before .before .before .before .before .before .before .before .before in let ok = accepted (c .before) in (answer-ranged (s .args .p) (s .args .s) (now (s .args .a)) (s .args .h) (s .args .r) (now (s .args .payload)) ok, answerable (s .args .p) (s .args .s) (now (s .args .a)) (s .args .h) (s .args .r) (now (s .args .payload)) ok (arrays s))
 
 same-length-2 : tie.Need-same-length-2
 same-length-2 c = search needs
 
 returns-2 : tie.Need-returns-2
-returns-2 c = let s = c .before .before .before .before .before .before .before .before .before .before in receive-accepted (s .args .p) (s .args .s) (now (s .args .a)) (s .args .h) (s .args .r) (now (s .args .payload)) (accepted (c .before .before .before .before)) _ _ _ (c .before .before .before .before .before .before .receive-verdict .ensures) (c .before .before .answer .ensures)
+returns-2 c =
+    let e = c .before .before .before .before in
+    let s = e .before .before .before .before .before .before .before .before in
+    receive-accepted (s .args .p) (s .args .s) (now (s .args .a)) (s .args .h) (s .args .r) (now (s .args .payload)) (accepted e) _ _ _ (asked (e .before .before)) (c .before .before .answer .ensures)
 
 pub sender-rx-spec : {M : Type 1} → statement M
 sender-rx-spec =
     tie.close
     (tie.spec
+    kind-requires
+    standing-requires
     receive-verdict-requires
     number-requires
     same-length

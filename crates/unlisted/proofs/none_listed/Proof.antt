@@ -2,7 +2,7 @@
 use lib.ListN.{drop, length}
 use Rattle.flight.proofs.Laws.{length-marks, marked-by}
 use Rattle.sound.specs.Sound.{noneListed}
-use Rattle.unlisted.proofs.Laws.{unlisted-turn, unlisted-end}
+use Rattle.unlisted.proofs.Laws.{unlisted-pass, unlisted-hit, unlisted-end, unlisted-none}
 use Prim.Native.Nat.{_-_}
 use mathlib.Core.Path.{_≡_, refl, sym, ap, _∙_}
 use borrow.Author.Needs.{needs}
@@ -14,6 +14,9 @@ Inv-loop xs ys marks i₀ i = noneListed xs ys ≡ noneListed (drop i xs) ys
 
 abbrev μ-loop : tie.MeasureT-loop
 μ-loop xs ys marks i₀ i = length xs - i
+
+returns : tie.Need-returns Inv-loop μ-loop
+returns c = sym (unlisted-none _ _ (c .if1 .taken))
 
 slice-aggregate-mark : tie.Need-slice-aggregate-mark Inv-loop μ-loop
 slice-aggregate-mark c = search needs
@@ -36,8 +39,8 @@ slice-aggregate-contains-marked c = sym (ap length (c .before .before .before .b
 contains-marked-requires : tie.Need-contains-marked-requires Inv-loop μ-loop
 contains-marked-requires c κs = marked-by _ _ _ (c .before .before .before .before .before .mark .ensures) refl
 
-returns : tie.Need-returns Inv-loop μ-loop
-returns c = let sr = c .before in let d = sr .before .before .before in sym (d .before .loop .inv ∙ unlisted-turn _ _ _ (d .loop-test .taken) ∙ simp (sym (sr .contains-marked .ensures) ∙ c .if1 .taken))
+returns-2 : tie.Need-returns-2 Inv-loop μ-loop
+returns-2 c = let sr = c .before in let d = sr .before .before .before in sym (d .before .loop .inv ∙ unlisted-hit _ _ _ (d .loop-test .taken) (sym (sr .contains-marked .ensures) ∙ c .if2 .taken))
 
 add-i : tie.Need-add-i Inv-loop μ-loop
 add-i c = search needs
@@ -46,10 +49,10 @@ loop-less : tie.Need-loop-less Inv-loop μ-loop
 loop-less c = search needs
 
 loop-again : tie.Need-loop-again Inv-loop μ-loop
-loop-again c = let sr = c .before in let d = sr .before .before .before in d .before .loop .inv ∙ unlisted-turn _ _ _ (d .loop-test .taken) ∙ simp (sym (sr .contains-marked .ensures) ∙ c .if1 .left)
+loop-again c = let sr = c .before in let d = sr .before .before .before in d .before .loop .inv ∙ unlisted-pass _ _ _ (d .loop-test .taken) (sym (sr .contains-marked .ensures) ∙ c .if2 .left)
 
-returns-2 : tie.Need-returns-2 Inv-loop μ-loop
-returns-2 c = sym (c .before .loop .inv ∙ unlisted-end _ _ _ (c .loop-test .left))
+returns-3 : tie.Need-returns-3 Inv-loop μ-loop
+returns-3 c = sym (c .before .loop .inv ∙ unlisted-end _ _ _ (c .loop-test .left))
 
 pub none-listed-spec : {M : Type 1} → statement M
 none-listed-spec =
@@ -57,6 +60,7 @@ none-listed-spec =
     (tie.spec
     Inv-loop
     μ-loop
+    returns
     slice-aggregate-mark
     mark-requires
     loop-holds
@@ -64,8 +68,8 @@ none-listed-spec =
     shared-slice-read-x
     slice-aggregate-contains-marked
     contains-marked-requires
-    returns
+    returns-2
     add-i
     loop-less
     loop-again
-    returns-2)
+    returns-3)

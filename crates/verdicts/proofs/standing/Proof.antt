@@ -16,6 +16,7 @@ one : (c : tie.Else1) → not (inRange (c .before .before .before .before .args 
 one c = sym (ap not (c .before .in-range .ensures)) ∙ c .if1 .left
 
 two : (c : tie.Else2) → not (inOrder (c .before .before .before .before .before .before .args .p)) ≡ false
+unfolding inOrder
 two c = sym (ap not (c .before .in-order .ensures)) ∙ c .if2 .left
 
 three : (c : tie.Else3) → let s = c .before .before .before .before .before .before .before .before in not (soundOk (s .args .p) (s .args .s) (now (s .args .a))) ≡ false
@@ -32,7 +33,7 @@ in-order-requires : tie.Need-in-order-requires
 in-order-requires c κs = search needs
 
 returns-2 : tie.Need-returns-2
-unfolding standing
+unfolding standing inOrder
 returns-2 c = cond-no _ _ _ _ (one (c .before .before)) (cond-yes _ _ _ _ (sym (ap not (c .before .in-order .ensures)) ∙ c .if2 .taken) refl)
 
 is-sound-requires : tie.Need-is-sound-requires

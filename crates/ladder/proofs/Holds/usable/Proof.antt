@@ -5,16 +5,16 @@ use native.Mathlib.Omega.{arith}
 use Rattle.laws.specs.Span.{upto, every}
 use Rattle.laws.proofs.Span.{every-pass, every-fail, every-end}
 use Rattle.laws.proofs.Picks.{told-yes, told-no, is-and, is-not-and}
-use Rattle.ladder.specs.Ladders.{passes, usable}
+use Rattle.ladder.specs.Ladders.{passesAt, usable}
 use borrow.Author.Needs.{needs}
 use Rattle.ladder.proofs.Holds.usable.Statement.{statement}
 use Rattle.ladder.proofs.Holds.usable.Tie as tie
 
 abbrev Inv-loop : tie.InvT-loop
-Inv-loop self l now k₀ k-end k = (every (passes self l now) (upto 0 (l + 1)) ≡ every (passes self l now) (upto k (l + 1))) × (k ≤ l + 1) × (k-end ≡ l + 1)
+Inv-loop l now self k₀ k-end k = (every (passesAt self l now) (upto 0 (l + 1)) ≡ every (passesAt self l now) (upto k (l + 1))) × (k ≤ l + 1) × (k-end ≡ l + 1)
 
 abbrev μ-loop : tie.MeasureT-loop
-μ-loop self l now k₀ k-end k = l + 1 - k
+μ-loop l now self k₀ k-end k = l + 1 - k
 
 family-ok-requires : tie.Need-family-ok-requires Inv-loop μ-loop
 family-ok-requires c κs = search needs
@@ -29,12 +29,21 @@ add-k-end c = search needs
 loop-holds : tie.Need-loop-holds Inv-loop μ-loop
 loop-holds c = (refl, omega arith, refl)
 
+mul-passes : tie.Need-mul-passes Inv-loop μ-loop
+mul-passes c = search needs
+
+element-copy-out-passes : tie.Need-element-copy-out-passes Inv-loop μ-loop
+element-copy-out-passes c = search needs
+
+element-copy-out-passes-2 : tie.Need-element-copy-out-passes-2 Inv-loop μ-loop
+element-copy-out-passes-2 c = search needs
+
 passes-requires : tie.Need-passes-requires Inv-loop μ-loop
 passes-requires c κs = search needs
 
 returns-2 : tie.Need-returns-2 Inv-loop μ-loop
 unfolding usable
-returns-2 c = is-and _ _ _ (told-yes _ _ (c .before .before .before .before .before .family-ok .ensures) (not-false _ (c .before .before .before .before .if1 .left))) (sym (c .before .before .before .loop .inv .0 ∙ every-fail _ _ _ (omega arith) (told-no _ _ (c .before .passes .ensures) (not-true _ (c .if2 .taken)))))
+returns-2 c = is-and _ _ _ (told-yes _ _ (c .before .before .before .before .before .before .before .family-ok .ensures) (not-false _ (c .before .before .before .before .before .before .if1 .left))) (sym (c .before .before .before .before .before .loop .inv .0 ∙ every-fail _ _ _ (omega arith) (told-no _ _ (c .before .passes .ensures) (not-true _ (c .if2 .taken)))))
 
 add-k : tie.Need-add-k Inv-loop μ-loop
 add-k c = search needs
@@ -43,11 +52,11 @@ loop-less : tie.Need-loop-less Inv-loop μ-loop
 loop-less c = search needs
 
 loop-again : tie.Need-loop-again Inv-loop μ-loop
-loop-again c = (c .before .before .before .loop .inv .0 ∙ every-pass _ _ _ (omega arith) (told-yes _ _ (c .before .passes .ensures) (not-false _ (c .if2 .left))), omega arith, c .before .before .before .loop .inv .2)
+loop-again c = (c .before .before .before .before .before .loop .inv .0 ∙ every-pass _ _ _ (omega arith) (told-yes _ _ (c .before .passes .ensures) (not-false _ (c .if2 .left))), omega arith, c .before .before .before .before .before .loop .inv .2)
 
 returns-3 : tie.Need-returns-3 Inv-loop μ-loop
 unfolding usable
 returns-3 c = is-and _ _ _ (told-yes _ _ (c .before .before .before .family-ok .ensures) (not-false _ (c .before .before .if1 .left))) (sym (c .before .loop .inv .0 ∙ every-end _ _ _ (omega arith)))
 
 pub usable-spec : {M : Type 1} → statement M
-usable-spec = tie.close (tie.spec Inv-loop μ-loop family-ok-requires returns add-k-end loop-holds passes-requires returns-2 add-k loop-less loop-again returns-3)
+usable-spec = tie.close (tie.spec Inv-loop μ-loop family-ok-requires returns add-k-end loop-holds mul-passes element-copy-out-passes element-copy-out-passes-2 passes-requires returns-2 add-k loop-less loop-again returns-3)
