@@ -79,7 +79,13 @@ pub fn adapt_burst(mut g: Gear, cfg: Profile, at: usize, loss: f32, snr_db: f32)
     ensures { λ r. ⌜ r ≡ adapted cfg at loss «snr_db» g ⌝ }
 {
     let steady = steady(g.last_report_db, cfg.lengths.burst_steady_db, snr_db);
-    let far = far(cfg.plain, cfg.lengths.burst_climb_db, at, cfg.max_level, snr_db);
+    let far = far(
+        cfg.plain,
+        cfg.lengths.burst_climb_db,
+        at,
+        cfg.max_level,
+        snr_db,
+    );
     let usual = cfg.lengths.max_burst_s;
     let report = MaybeDb {
         set: true,
