@@ -1,5 +1,5 @@
 -- What a refusal is (document 01): the numbers, and the values that a reply may carry. Definitions only.
-use mathlib.Core.List.{List, [], _∷_}
+use mathlib.Core.List.{[], _∷_}
 use mathlib.Core.Bool.{Bool, true, not, _&&_, _||_}
 use Prim.Native.Nat.{ℕ}
 use lib.Dec.{leb}
@@ -8,7 +8,6 @@ use Rattle.laws.specs.Tests.{all}
 use Rattle.ieee.specs.Range.{w32, w64}
 use Rattle.limits.specs.Ranges.{inside}
 use Rattle.ledger.specs.Limits.{maxNumber, tinyAll}
-use Rattle.record.specs.declared.Sender.{Sender}
 use Rattle.answers.specs.declared.Heard.{Heard}
 use Rattle.refusals.specs.declared.Verdict.{Verdict}
 use Rattle.refusals.specs.declared.Verdict.the-variants.{Accepted, ProfileOutOfRange, ShortOverLong, Unsound, OutOfTurn, BadTime, BadValue, ShortPayload, QueueFull, AllTaken, ShortOutput}

@@ -3,11 +3,11 @@ use mathlib.Core.List.{List}
 use mathlib.Core.Bool.{Bool, false, cond, not, _&&_, _||_}
 use Prim.Native.Nat.{ℕ, _+_, _*_}
 use lib.Dec.{ltb, eqb}
+use lib.Ieee.{Float}
 use Rattle.limits.specs.Ranges.{inRange, inOrder}
 use Rattle.config.specs.declared.Profile.{Profile}
 use Rattle.ledger.specs.Limits.{maxSlots}
 use Rattle.queued.specs.Queued.{queueRefusal}
-use lib.Ieee.{Float}
 use Rattle.record.specs.declared.Counts.{Counts}
 use Rattle.record.specs.declared.Sender.{Sender}
 use Rattle.checks.specs.Checked.{soundOk}
