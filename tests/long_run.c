@@ -7,7 +7,6 @@
 #include <stdio.h>
 #include <stdlib.h>
 #include "checked.h"
-#include "defined.h"
 #include "profiles.h"
 
 /* A queuing: letters of some kilobytes, and every length around what fits. */
@@ -91,7 +90,6 @@ static void begin(struct run *r, const char *name, const struct vanitycrow_profi
     r->far = (struct far_station){.quality = .8};
     r->now = 1;
     vanitycrow_fresh(r->s);
-    VALGRIND_MAKE_MEM_DEFINED(r->s, sizeof *r->s);
     list_profile(r->list, r->p);
 }
 
