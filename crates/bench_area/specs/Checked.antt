@@ -2,8 +2,8 @@
 use mathlib.Core.List.{List}
 use mathlib.Core.Bool.{Bool, _&&_}
 use Prim.Native.Nat.{ℕ}
-use Rattle.table.specs.declared.Row.{Row}
-use Rattle.sound.specs.Sound.{rowOffs, tableOk, allFlying, heldBitsOk, sentBitsOk}
+use Rattle.area.specs.declared.table.Row.{Row}
+use Rattle.area_check.specs.Sound.{rowOffs, tableOk, allFlying, heldBitsOk, sentBitsOk}
 
 unfoldable pub checked : ℕ → ℕ → ℕ → ℕ → List Row → List ℕ → List ℕ → ℕ → List ℕ → List ℕ → List ℕ → Bool
 checked short long next flying rs held heldBits top sent bits sentHeld =

@@ -1,19 +1,19 @@
 // What bench/area.c measures of the work area, as functions for C: a slice is a pointer and a length.
-use flight::mark;
-use flight::remove_pieces;
-use flying::all_flying;
-use merging::merge_table;
-use sound::held_bits_ok;
-use sound::sent_bits_ok;
-use sound::table_ok;
+use area::merging::merge_table;
+use area::removal::mark;
+use area::removal::remove_pieces;
+use area_check::flying::all_flying;
+use area_check::rows::held_bits_ok;
+use area_check::rows::sent_bits_ok;
+use area_check::rows::table_ok;
 ghost use mathlib.Core.Path.{_≡_};
 ghost use Prim.Native.Nat.{_≤_};
 ghost use lib.ListN.{length};
 ghost use Rattle.ledger.specs.Limits.{maxPieces, maxPayload};
-ghost use Rattle.table.specs.Layout.{areaBytes, streamBytes};
-ghost use Rattle.table.specs.Table.{rowsFrom, total};
-ghost use Rattle.flight.specs.Flight.{removedPieces};
-ghost use Rattle.recut.specs.Recut.{mergeTable};
+ghost use Rattle.area.specs.Layout.{areaBytes, streamBytes};
+ghost use Rattle.area.specs.Table.{rowsFrom, total};
+ghost use Rattle.area.specs.Flight.{removedPieces};
+ghost use Rattle.area.specs.Recut.{mergeTable};
 ghost use Rattle.bench_area.specs.Checked.{checked};
 
 const MARKS: usize = 2048;

@@ -2,11 +2,11 @@
 use config::MaybeDb;
 use defaults::new_profile;
 use gear::Outcome;
+use gear::goodput::Gear;
 use gear::on_ack;
-use goodput::Gear;
-use ladder::Holds;
-use memory::Reports;
-use memory::Tries;
+use levels::memory::Reports;
+use levels::memory::Tries;
+use levels::usable::Holds;
 use report::ChanClass;
 ghost use mathlib.Core.Path.{_≡_};
 ghost use Rattle.bench_gear.specs.Acks.{tried, acks};

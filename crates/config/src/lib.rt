@@ -5,6 +5,8 @@ ghost use Prim.Native.Nat.{_*_, _<_};
 ghost use Rattle.config.specs.Durations.{slotAt, frameBits, maxBitsAt, durationAt, ackAt, dataS, frameBytes};
 ghost use Rattle.config.specs.Entries.{entryAt};
 
+pub mod ranges;
+
 // An optional dB value: a flag beside it.
 #[repr(C)]
 pub struct MaybeDb {

@@ -5,7 +5,7 @@ use lib.Ieee.{le, lt, eq, neg, ofInt, ofBits}
 use Rattle.laws.specs.Tests.{all}
 use Rattle.laws.specs.Span.{from, upto, every}
 use Rattle.config.specs.Durations.{slotAt, maxBitsAt, ackAt}
-use Rattle.limits.specs.Ranges.{inside, between, dbOk, maybeDbOk, levelOk, ackOk, airOk, endOk, harqOk, lengthsOk, holdsOk, thresholdOk, marksOk, pinOk, levelsOk, sizesOk, inRange, inOrder}
+use Rattle.config.specs.Ranges.{inside, between, dbOk, maybeDbOk, levelOk, ackOk, airOk, endOk, harqOk, lengthsOk, holdsOk, thresholdOk, marksOk, pinOk, levelsOk, sizesOk, inRange, inOrder}
 use Rattle.defaults.specs.Default.{newProfile}
 
 pub default-in-range : inRange newProfile ≡ true

@@ -13,9 +13,9 @@ use Rattle.laws.proofs.Little.{Bytes}
 use Rattle.laws.proofs.Picks.{test, and-yes, and-first, and-second}
 use Rattle.laws.proofs.Tests.{all-at}
 use Rattle.config.specs.declared.Profile.{Profile}
-use Rattle.limits.specs.Ranged.{Ranged}
-use Rattle.limits.specs.Ranges.{inRange, inOrder}
-use Rattle.limits.proofs.Ranged.{ranged}
+use Rattle.config.specs.Ranged.{Ranged}
+use Rattle.config.specs.Ranges.{inRange, inOrder}
+use Rattle.config.proofs.ranges.Ranged.{ranged}
 use Rattle.ledger.specs.Limits.{Sizes, SizeRange, minPayload}
 use Rattle.ledger.specs.Ledger as L
 use Rattle.ledger.specs.Calls.{Along, run, history, tally, idle}
@@ -23,19 +23,19 @@ use Rattle.ledger.specs.Claim.{Demand3}
 use Rattle.ledger.specs.Tally as T
 use Rattle.ledger.specs.Tally.{silent}
 use Rattle.ledger.proofs.Refine.{Refines, refined, ok-after}
-use Rattle.table.specs.Layout.{areaBytes}
+use Rattle.area.specs.Layout.{areaBytes}
 use Rattle.record.specs.Fresh.{fresh}
 use Rattle.record.specs.Profiles.{sizesOf}
 use Rattle.record.proofs.View.{view-fresh}
-use Rattle.checks.specs.Checked.{soundOk}
-use Rattle.checks.proofs.Sound.{sound-test, profile-sizes}
+use Rattle.soundness.specs.Checked.{soundOk}
+use Rattle.soundness.proofs.fields.Sound.{sound-test, profile-sizes}
 use Rattle.laws.specs.Bytes.{overwrite}
 use Rattle.config.specs.Durations.{frameBytes}
 use Rattle.pieces.specs.Burst.{framesSent}
 use Rattle.outgoing.specs.Outgoing.{burstOf, output}
 use Rattle.sender.specs.declared.Bursted.{Bursted}
-use Rattle.keeping.proofs.Well.{Well, fresh-well}
-use Rattle.keeping.proofs.Bursts.{choice-keeps-air}
+use Rattle.invariant.proofs.Well.{Well, fresh-well}
+use Rattle.invariant.proofs.Bursts.{choice-keeps-air}
 use Rattle.refusals.specs.declared.Verdict.{Verdict}
 use Rattle.refusals.specs.Refusals.{kindOf}
 use Rattle.verdicts.specs.Verdicts.{passed, standing, firstOf, queueVerdict, receiveVerdict, burstVerdict}

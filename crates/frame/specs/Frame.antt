@@ -3,7 +3,7 @@ use mathlib.Core.List.{List, [], _∷_, _++_}
 use Prim.Native.Nat.{ℕ, _-_, min}
 use lib.ListN.{length, replicate}
 use Rattle.laws.specs.Little.{le}
-use Rattle.crc.specs.Crc.{crc32}
+use Rattle.frame.specs.Crc.{crc32}
 
 -- Frame::max_payload: min(size - 10, 255)
 abbrev pub maxPayload : ℕ → ℕ

@@ -1,14 +1,16 @@
 // frame.rs: a data frame is written.
-use crc::crc32_by;
-use moves::copy_in;
-use moves::fill;
-use moves::store32;
+use crate::crc::crc32_by;
+use byte_copy::copy_in;
+use byte_copy::fill;
+use byte_copy::store32;
 ghost use mathlib.Core.Path.{_≡_};
 ghost use Prim.Native.Nat.{_+_, _≤_, _<_};
 ghost use lib.ListN.{length};
 ghost use Rattle.laws.specs.Bytes.{overwrite};
-ghost use Rattle.crc.specs.Table.{tableOf};
+ghost use Rattle.frame.specs.Table.{tableOf};
 ghost use Rattle.frame.specs.Frame.{maxPayload, headOf, frameOf};
+
+pub mod crc;
 
 // The most payload bytes of a frame.
 pub fn max_payload(size: usize) -> usize

@@ -9,9 +9,9 @@ use Rattle.laws.specs.Bytes.{overwrite, part}
 use Rattle.laws.proofs.Bytes.{over-cat, length-part}
 use Rattle.frame.specs.Frame.{frameOf, maxPayload}
 use Rattle.frame.proofs.Laws.{length-frame}
-use Rattle.slots.specs.Slots.{slotAt, slotsFrom}
-use Rattle.slots.specs.declared.Slot.{Slot}
-use Rattle.slots.specs.declared.Slots.{Slots}
+use Rattle.frames.specs.Slots.{slotAt, slotsFrom}
+use Rattle.frames.specs.declared.slots.Slot.{Slot}
+use Rattle.frames.specs.declared.slots.Slots.{Slots}
 use Rattle.frames.specs.Frames.{framesOf, Fit}
 
 slots-turn : (s : Slots) (i n : ℕ) → i < n → slotsFrom s i (n - i) ≡ slotAt s i ∷ slotsFrom s (i + 1) (n - (i + 1))

@@ -3,7 +3,7 @@ use mathlib.Core.List.{List, [], _∷_, _++_}
 use Prim.Native.Nat.{ℕ, _+_, _≤_}
 use Rattle.laws.specs.Bytes.{part}
 use Rattle.frame.specs.Frame.{frameOf, maxPayload}
-use Rattle.slots.specs.declared.Slot.{Slot}
+use Rattle.frames.specs.declared.slots.Slot.{Slot}
 
 -- each slot's frame of `size` bytes, with the piece's bytes out of the work area
 unfoldable pub framesOf : ℕ → List Slot → List ℕ → List ℕ

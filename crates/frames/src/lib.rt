@@ -1,14 +1,16 @@
 // The frames of a burst, written back to back.
+use crate::slots::Slots;
 use frame::encode;
-use slots::Slots;
 ghost use mathlib.Core.Path.{_≡_};
 ghost use Prim.Native.Nat.{_≤_};
 ghost use lib.ListN.{length};
 ghost use Rattle.laws.specs.Bytes.{overwrite};
-ghost use Rattle.crc.specs.Table.{tableOf};
+ghost use Rattle.frame.specs.Table.{tableOf};
 ghost use Rattle.ledger.specs.Limits.{maxSlots};
-ghost use Rattle.slots.specs.Slots.{slotsFrom};
+ghost use Rattle.frames.specs.Slots.{slotsFrom};
 ghost use Rattle.frames.specs.Frames.{framesOf, Fit};
+
+pub mod slots;
 
 // Writes the frames of `s`, each of `size` bytes, with the pieces' bytes out of `a`. `t` are crc's tables.
 pub fn put_frames(t: &[u32; 256], out: &mut [u8], a: &[u8], s: Slots, size: usize)

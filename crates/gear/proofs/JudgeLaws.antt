@@ -6,10 +6,10 @@ use lib.Ieee.{Float, lt}
 use Rattle.float.specs.Gear.{weight, most}
 use Rattle.laws.proofs.Picks.{either}
 use Rattle.config.specs.declared.Profile.{Profile}
-use Rattle.limits.specs.Ranged.{Ranged}
-use Rattle.goodput.specs.declared.Gear.{Gear}
+use Rattle.config.specs.Ranged.{Ranged}
+use Rattle.gear.specs.declared.goodput.Gear.{Gear}
 use Rattle.gear.specs.Judging.{aimed, held}
-use Rattle.ladder.proofs.Laws.{level-for-lt}
+use Rattle.levels.proofs.usable.Laws.{level-for-lt}
 
 pub aimed-level : (p : Profile) (g : Gear) (snr : Float) → aimed p g snr .level ≡ g .level
 unfolding aimed

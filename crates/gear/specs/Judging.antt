@@ -11,15 +11,15 @@ use Rattle.laws.specs.Span.{upto, every}
 use Rattle.level.specs.Ladder.{waveRank, isStep}
 use Rattle.config.specs.declared.Profile.{Profile}
 use Rattle.report.specs.declared.ChanClass.{ChanClass}
-use Rattle.memory.specs.declared.Tries.{Tries}
-use Rattle.goodput.specs.declared.Gear.{Gear}
+use Rattle.levels.specs.declared.memory.Tries.{Tries}
+use Rattle.gear.specs.declared.goodput.Gear.{Gear}
 use Rattle.gear.specs.declared.Outcome.{Outcome}
-use Rattle.goodput.specs.Setters.{some, withLevel, withBurst, withAim, withTries, withHolds}
-use Rattle.ladder.specs.Ladders.{airDb, heeded, familyOk, levelFor, usableBelow, climbAbove, stepDown}
-use Rattle.rates.specs.Rates.{levelRate}
-use Rattle.goodput.specs.Goodput.{marksOf, cueFor, pickByGoodput}
-use Rattle.bursts.specs.Bursts.{adapted}
-use Rattle.memory.specs.Memory.{pushed, aimOf, noted, failed, cleared, channelFailed, others, heldUntil}
+use Rattle.gear.specs.Setters.{some, withLevel, withBurst, withAim, withTries, withHolds}
+use Rattle.levels.specs.Ladders.{airDb, heeded, familyOk, levelFor, usableBelow, climbAbove, stepDown}
+use Rattle.levels.specs.Rates.{levelRate}
+use Rattle.gear.specs.Goodput.{marksOf, cueFor, pickByGoodput}
+use Rattle.gear.specs.Bursts.{adapted}
+use Rattle.levels.specs.Memory.{pushed, aimOf, noted, failed, cleared, channelFailed, others, heldUntil}
 
 -- CHANNEL_FAIL_DB
 abbrev pub channelFail : Float

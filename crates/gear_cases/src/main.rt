@@ -4,28 +4,28 @@
 mod read;
 mod same;
 
+use byte_copy::load32;
 use config::MaybeDb;
 use config::Profile;
 use gear::Outcome;
+use gear::goodput::Gear;
 use gear::on_ack;
-use goodput::Gear;
+use gear::other_replies::connect;
+use gear::other_replies::on_turn;
 use io::print_decimal;
 use io::write_all;
-use ladder::Holds;
+use levels::memory::Reports;
+use levels::memory::Tries;
+use levels::usable::Holds;
 use libc::STDIN_FILENO;
 use libc::STDOUT_FILENO;
-use meeting::connect;
-use meeting::on_turn;
-use memory::Reports;
-use memory::Tries;
-use moves::load32;
 use read::f32_at;
 use read::f64_at;
 use read::profile_of;
 use report::ChanClass;
 use same::differing;
 ghost use Prim.Native.Nat.{_<_};
-ghost use Rattle.limits.specs.Ranged.{Ranged};
+ghost use Rattle.config.specs.Ranged.{Ranged};
 
 // Counts: of profiles, of replies in goodput and in ladder, of each kind of reply from 3 on, and of differences.
 pub struct Counts {
@@ -342,7 +342,7 @@ fn print_counts(c: Counts) {
 // A profile and its replies.
 fn profile(c: Counts, a: &[u8; 640]) -> Counts {
     let cfg = profile_of(a);
-    if limits::in_range(cfg) {
+    if config::ranges::in_range(cfg) {
         return replies(cfg, c, load32(a, 633));
     }
     write_all(STDOUT_FILENO, b"a profile is out of range\n");

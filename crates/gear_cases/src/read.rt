@@ -1,4 +1,6 @@
 // The stored numbers: low byte first, floats by their bits.
+use byte_copy::load32;
+use byte_copy::load64;
 use config::Air;
 use config::HoldTimes;
 use config::Lengths;
@@ -6,11 +8,9 @@ use config::Marks;
 use config::MaybeDb;
 use config::MaybeLevel;
 use config::Profile;
+use float_bits::of_bits32;
+use float_bits::of_bits64;
 use harq::Harq;
-use moves::load32;
-use moves::load64;
-use patterns::of_bits32;
-use patterns::of_bits64;
 ghost use Prim.Native.Nat.{_+_, _*_, _≤_, _<_};
 ghost use lib.ListN.{length};
 

@@ -1,14 +1,14 @@
 // The sender's calls with document 01's numbers in place of the verdicts, and a function for each reply: what the C interface stands on.
-use answers::Ack;
-use answers::ConnAck;
-use answers::Heard;
-use answers::LongAck;
-use answers::Turn;
 use config::Profile;
 use outgoing::Outgoing;
 use record::Sender;
 use refusals::Reply;
 use refusals::number;
+use replies::Ack;
+use replies::ConnAck;
+use replies::Heard;
+use replies::LongAck;
+use replies::Turn;
 use sender::sender_rx;
 ghost use mathlib.Core.Path.{_≡_};
 ghost use mathlib.Core.List.{[]};

@@ -17,12 +17,12 @@ use Rattle.laws.proofs.Lists.{occurs-append, occurs-all, one-other}
 use Rattle.laws.proofs.Picks.{by, test}
 use Rattle.frame.specs.Frame.{maxPayload}
 use Rattle.frames.specs.Frames.{framesOf, Fit}
-use Rattle.table.specs.declared.Row.{Row}
-use Rattle.table.specs.Table.{total}
-use Rattle.sound.specs.Sound.{rowOffs}
-use Rattle.slots.specs.Slots.{unheldSlots, incrementSlots}
-use Rattle.slots.specs.declared.Slot.{Slot}
-use Rattle.slots.proofs.Laws.{chunk-total}
+use Rattle.area.specs.declared.table.Row.{Row}
+use Rattle.area.specs.Table.{total}
+use Rattle.area_check.specs.Sound.{rowOffs}
+use Rattle.frames.specs.Slots.{unheldSlots, incrementSlots}
+use Rattle.frames.specs.declared.slots.Slot.{Slot}
+use Rattle.frames.proofs.slots.Laws.{chunk-total}
 use Rattle.ledger.specs.Limits.{Sizes, SizeRange, maxSlots}
 use Rattle.ledger.specs.Ledger.{Piece, Plan, Sender, Sent, Held, end, size, offs, heldOffs, find, frames, kept, recut, oldOffs, newPieces, dataBurst}
 use Rattle.ledger.specs.Cover.{Ascend}

@@ -19,14 +19,14 @@ use Rattle.laws.proofs.Picks.{by, by₂, test}
 use Rattle.frame.specs.Frame.{maxPayload, frameOf}
 use Rattle.frame.proofs.Laws.{length-frame}
 use Rattle.frames.specs.Frames.{framesOf, Fit}
-use Rattle.table.specs.declared.Row.{Row}
-use Rattle.table.specs.Table.{total}
-use Rattle.lookup.specs.Find.{findFrom, bytesAt}
-use Rattle.lookup.specs.declared.Found.{Found}
-use Rattle.lookup.proofs.Laws.{find-within}
-use Rattle.sound.specs.Sound.{rowOffs}
-use Rattle.slots.specs.Slots.{unheldSlots, incrementSlots}
-use Rattle.slots.specs.declared.Slot.{Slot}
+use Rattle.area.specs.declared.table.Row.{Row}
+use Rattle.area.specs.Table.{total}
+use Rattle.area.specs.Find.{findFrom, bytesAt}
+use Rattle.area.specs.declared.lookup.Found.{Found}
+use Rattle.area.proofs.lookup.Laws.{find-within}
+use Rattle.area_check.specs.Sound.{rowOffs}
+use Rattle.frames.specs.Slots.{unheldSlots, incrementSlots}
+use Rattle.frames.specs.declared.slots.Slot.{Slot}
 use Rattle.ledger.specs.Ledger.{Piece, Sent, Frame, end, find, frames}
 use Rattle.ledger.specs.Cover.{Ascend}
 use Rattle.pieces.specs.Pieces.{piecesOf}

@@ -7,9 +7,9 @@ use Prim.Native.Nat.{ℕ, _≤_}
 use lib.ListN.{length, take, drop}
 use lib.Seq.{take-at, drop-at}
 use Rattle.laws.specs.Lists.{listed}
-use Rattle.table.specs.declared.Row.{Row}
-use Rattle.table.specs.Table.{total}
-use Rattle.flight.specs.Flight.{keptRows, keptBytes}
+use Rattle.area.specs.declared.table.Row.{Row}
+use Rattle.area.specs.Table.{total}
+use Rattle.area.specs.Flight.{keptRows, keptBytes}
 use Rattle.ledger.specs.Ledger.{Piece}
 use Rattle.pieces.specs.Pieces.{piecesOf, unlistedPieces}
 use Rattle.pieces.proofs.Sound.{head-length}

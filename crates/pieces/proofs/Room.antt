@@ -11,11 +11,11 @@ use lib.Dec.{ltb}
 use borrow.Author.Tests.{ltb-true, ltb-false}
 use Rattle.harq.specs.declared.Harq.{Harq}
 use Rattle.laws.proofs.Picks.{test}
-use Rattle.table.specs.declared.Row.{Row}
-use Rattle.table.specs.Table.{rowAt, rowsFrom, total, Small}
-use Rattle.recut.specs.Recut.{splitRows}
-use Rattle.slots.specs.Slots.{incrementSlots}
-use Rattle.slots.proofs.Laws.{increments-length}
+use Rattle.area.specs.declared.table.Row.{Row}
+use Rattle.area.specs.Table.{rowAt, rowsFrom, total, Small}
+use Rattle.area.specs.Recut.{splitRows}
+use Rattle.frames.specs.Slots.{incrementSlots}
+use Rattle.frames.proofs.slots.Laws.{increments-length}
 use Rattle.ledger.specs.Limits.{Sizes, SizeRange, maxPieces, maxSlots, maxTaken}
 use Rattle.ledger.specs.Ledger.{Piece, Plan, Sender, end, heldOffs, unheld, split, kept, recut, oldOffs, newPieces, dataBurst}
 use Rattle.ledger.specs.Cover.{Ascend, shortFrames}

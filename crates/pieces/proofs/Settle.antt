@@ -11,9 +11,9 @@ use lib.Dec.{eqb}
 use borrow.Author.Tests.{ne-eqb, eq-eqb, eqb-true, eqb-false}
 use Rattle.laws.specs.Lists.{listed}
 use Rattle.laws.proofs.Picks.{by, by₂}
-use Rattle.table.specs.declared.Row.{Row}
-use Rattle.table.specs.Table.{total, Small}
-use Rattle.flight.specs.Flight.{keptRows, keptBytes}
+use Rattle.area.specs.declared.table.Row.{Row}
+use Rattle.area.specs.Table.{total, Small}
+use Rattle.area.specs.Flight.{keptRows, keptBytes}
 use Rattle.ledger.specs.Ledger.{Piece, Sent, end, size, remove, remaining, ackedBytes}
 use Rattle.ledger.specs.Cover.{Ascend}
 use Rattle.ledger.proofs.Offsets.{ascend-remove}

@@ -9,9 +9,9 @@ use lib.Seq.{getD-set-same}
 use Rattle.laws.specs.Bytes.{overwrite}
 use Rattle.laws.proofs.Bytes.{over-nil, over-cat, set-over, getD-over-before, part-same}
 use Rattle.ledger.specs.Limits.{maxSlots}
-use Rattle.slots.specs.declared.Slot.{Slot}
-use Rattle.slots.specs.declared.Slots.{Slots}
-use Rattle.slots.specs.Slots.{pushed, pushAll, noSlots, slotsFrom}
+use Rattle.frames.specs.declared.slots.Slot.{Slot}
+use Rattle.frames.specs.declared.slots.Slots.{Slots}
+use Rattle.frames.specs.Slots.{pushed, pushAll, noSlots, slotsFrom}
 use Rattle.pieces.specs.Lists.{sentOf, sentSlots}
 use Rattle.pieces.proofs.Lists.{sentSlots-is}
 

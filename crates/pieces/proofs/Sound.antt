@@ -12,9 +12,9 @@ use lib.Dec.{leb, ltb, eqb}
 use borrow.Author.Tests.{leb-true, ltb-true, eqb-true, le-leb, lt-ltb, eq-eqb, not-true}
 use Rattle.laws.specs.Lists.{listed, Distinct, AllListed}
 use Rattle.laws.proofs.Picks.{and-yes, and-first, and-second, or-no}
-use Rattle.table.specs.declared.Row.{Row}
-use Rattle.table.specs.Table.{total}
-use Rattle.sound.specs.Sound.{ascends, shortFramesOf, rowOffs, tableOk, allFlying, heldBitsOk, sentBitsOk, noneListed}
+use Rattle.area.specs.declared.table.Row.{Row}
+use Rattle.area.specs.Table.{total}
+use Rattle.area_check.specs.Sound.{ascends, shortFramesOf, rowOffs, tableOk, allFlying, heldBitsOk, sentBitsOk, noneListed}
 use Rattle.ledger.specs.Limits.{maxPieces, maxBits, maxHeld}
 use Rattle.ledger.specs.Ledger.{size, offs}
 use Rattle.ledger.specs.Cover.{Ascend, ceil, shortFrames}

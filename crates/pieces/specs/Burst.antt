@@ -7,12 +7,12 @@ use lib.ListN.{length, take}
 use Rattle.harq.specs.declared.Harq.{Harq}
 use Rattle.frame.specs.Frame.{frameOf}
 use Rattle.ledger.specs.Ledger.{Piece, Sent, Plan, find}
-use Rattle.table.specs.declared.Row.{Row}
-use Rattle.table.specs.Table.{total}
-use Rattle.lookup.specs.Find.{findFrom}
-use Rattle.recut.specs.Recut.{splitRows, mergeRows}
-use Rattle.slots.specs.Slots.{unheldSlots, chunkRows, incrementSlots}
-use Rattle.slots.specs.declared.Slot.{Slot}
+use Rattle.area.specs.declared.table.Row.{Row}
+use Rattle.area.specs.Table.{total}
+use Rattle.area.specs.Find.{findFrom}
+use Rattle.area.specs.Recut.{splitRows, mergeRows}
+use Rattle.frames.specs.Slots.{unheldSlots, chunkRows, incrementSlots}
+use Rattle.frames.specs.declared.slots.Slot.{Slot}
 
 -- "Splitting comes before merging; merging passes over held pieces": the rows re-cut, where the burst keeps the held offsets os
 abbrev pub recutRows : Plan → List ℕ → List Row → List Row

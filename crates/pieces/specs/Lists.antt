@@ -3,7 +3,7 @@ use mathlib.Core.List.{List, [], _∷_, map}
 use mathlib.Core.Bool.{Bool, cond}
 use Prim.Native.Nat.{ℕ, suc}
 use Rattle.ledger.specs.Ledger.{Held, Sent}
-use Rattle.slots.specs.declared.Slot.{Slot}
+use Rattle.frames.specs.declared.slots.Slot.{Slot}
 
 -- offsets and held bits; as many as the shorter list has
 abbrev pub heldOf : List ℕ → List ℕ → List Held

@@ -4,7 +4,7 @@ use mathlib.Core.Bool.{cond}
 use Prim.Native.Nat.{ℕ}
 use lib.ListN.{take, drop}
 use Rattle.laws.specs.Lists.{listed}
-use Rattle.table.specs.declared.Row.{Row}
+use Rattle.area.specs.declared.table.Row.{Row}
 use Rattle.ledger.specs.Ledger.{Piece}
 
 -- the rows' pieces; the stream has their bytes, one row after the other

@@ -1,18 +1,18 @@
 // The example of a hold: the gear's own judgement of a whole burst lost, at a level that has lost two.
 use config::MaybeDb;
 use config::Profile;
+use config::ranges::in_range;
 use defaults::new_profile;
+use float::whole::cut64;
 use gear::Outcome;
+use gear::goodput::Gear;
 use gear::on_ack;
-use goodput::Gear;
 use io::write_all;
-use ladder::Holds;
+use levels::memory::Reports;
+use levels::memory::Tries;
+use levels::usable::Holds;
 use libc::STDOUT_FILENO;
-use limits::in_range;
-use memory::Reports;
-use memory::Tries;
 use report::ChanClass;
-use whole::cut64;
 ghost use Prim.Native.Nat.{_<_};
 
 const LEVEL: usize = 9;

@@ -13,10 +13,10 @@ use Rattle.ledger.specs.Limits.{maxPieces, maxSlots}
 use Rattle.ledger.specs.Ledger as L
 use Rattle.ledger.specs.Ledger.{Piece, Held, Sent, size, bytesOf, heldOffs, sentOffs}
 use Rattle.ledger.proofs.Stream.{length-bytesOf}
-use Rattle.table.specs.Layout.{place, areaBytes, streamBytes}
-use Rattle.table.specs.Table.{rowsFrom, tableBytes, total, Small}
-use Rattle.table.specs.declared.Row.{Row}
-use Rattle.table.proofs.Laws.{rows-written, table-kept, length-rows}
+use Rattle.area.specs.Layout.{place, areaBytes, streamBytes}
+use Rattle.area.specs.Table.{rowsFrom, tableBytes, total, Small}
+use Rattle.area.specs.declared.table.Row.{Row}
+use Rattle.area.proofs.table.Laws.{rows-written, table-kept, length-rows}
 use Rattle.pieces.specs.Pieces.{piecesOf}
 use Rattle.pieces.specs.Lists.{heldOf, sentOf}
 use Rattle.pieces.proofs.Lists.{held-offs, held-length, held-map, sent-offs, sent-length}

@@ -5,9 +5,9 @@ use lib.ListN.{length, take, drop}
 use Rattle.laws.specs.Bytes.{overwrite, part}
 use Rattle.ledger.specs.Ledger as L
 use Rattle.ledger.specs.Ledger.{Piece, Held, Sent, size, bytesOf, heldOffs, sentOffs}
-use Rattle.table.specs.Layout.{place}
-use Rattle.table.specs.Table.{rowsFrom, tableBytes}
-use Rattle.table.specs.declared.Row.{Row}
+use Rattle.area.specs.Layout.{place}
+use Rattle.area.specs.Table.{rowsFrom, tableBytes}
+use Rattle.area.specs.declared.table.Row.{Row}
 use Rattle.pieces.specs.Pieces.{piecesOf}
 use Rattle.pieces.specs.Lists.{heldOf, sentOf}
 use Rattle.record.specs.declared.Link.{Link}

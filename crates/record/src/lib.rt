@@ -1,9 +1,9 @@
 // The sender's record: the sending half of Station (station.rs), nested in small structs.
 use config::MaybeDb;
-use goodput::Gear;
-use ladder::Holds;
-use memory::Reports;
-use memory::Tries;
+use gear::goodput::Gear;
+use levels::memory::Reports;
+use levels::memory::Tries;
+use levels::usable::Holds;
 use report::ChanClass;
 ghost use mathlib.Core.Path.{_≡_};
 ghost use Rattle.record.specs.Fresh.{freshGear, freshLink, noCounts, noHeld, noSent, fresh};

@@ -16,9 +16,9 @@ use config::Marks;
 use config::MaybeDb;
 use config::MaybeLevel;
 use config::Profile;
+use float_bits::of_bits32;
+use float_bits::of_bits64;
 use harq::Harq;
-use patterns::of_bits32;
-use patterns::of_bits64;
 ghost use Prim.Native.Nat.{_+_, _≤_, _<_};
 ghost use lib.ListN.{length};
 

@@ -1,8 +1,8 @@
 // The transcript's text: it is gathered in a buffer, of which n bytes are used, and written when that is full.
+use float_bits::to_bits32;
+use float_bits::to_bits64;
 use io::write_all;
 use libc::STDOUT_FILENO;
-use patterns::to_bits32;
-use patterns::to_bits64;
 ghost use Rattle.io.specs.Counts.{Counts};
 
 // One character more.

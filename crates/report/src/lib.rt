@@ -4,6 +4,8 @@ ghost use Prim.Native.Nat.{_+_, _≤_, _<_};
 ghost use lib.ListN.{length};
 ghost use Rattle.report.specs.Report.{snrFromQ, bit, bitsOf, classOf, spreadOf, slotOf, reportAt};
 
+pub mod ack;
+
 // The two class bits (report.rs).
 #[repr(C)]
 pub struct ChanClass {

@@ -9,25 +9,25 @@ use Rattle.laws.specs.Bytes.{overwrite}
 use Rattle.laws.proofs.Little.{Bytes}
 use Rattle.laws.proofs.Picks.{cond-yes, cond-no, by₂}
 use Rattle.config.specs.declared.Profile.{Profile}
-use Rattle.limits.specs.Ranged.{Ranged}
-use Rattle.limits.proofs.Ranged.{ranged}
+use Rattle.config.specs.Ranged.{Ranged}
+use Rattle.config.proofs.ranges.Ranged.{ranged}
 use Rattle.ledger.specs.Ledger as L
-use Rattle.table.specs.Table.{rowsFrom}
-use Rattle.lookup.specs.Find.{bytesAt}
+use Rattle.area.specs.Table.{rowsFrom}
+use Rattle.area.specs.Find.{bytesAt}
 use Rattle.pieces.proofs.Placed.{found-bytes}
 use Rattle.record.specs.View.{view, storeArea}
 use Rattle.record.specs.declared.Sender.{Sender}
 use Rattle.record.proofs.View.{Arrays}
-use Rattle.checks.proofs.Sound.{test-sound, sound-counted, sound-level, sound-settling}
-use Rattle.answers.specs.Answers.{Answerable}
-use Rattle.answers.specs.declared.Heard.{Heard}
+use Rattle.soundness.proofs.fields.Sound.{test-sound, sound-counted, sound-level, sound-settling}
+use Rattle.replies.specs.Answers.{Answerable}
+use Rattle.replies.specs.declared.Heard.{Heard}
 use Rattle.refusals.specs.declared.Verdict.{Verdict}
 use Rattle.refusals.specs.declared.Reply.{Reply}
 use Rattle.sender.specs.declared.Queued.{Queued}
 use Rattle.sender.specs.declared.Received.{Received}
 use Rattle.sender.specs.declared.Finding.{Finding}
 use Rattle.verdicts.specs.Verdicts.{passed, standing, queueVerdict, receiveVerdict}
-use Rattle.answering.specs.Answering.{answered}
+use Rattle.receive.specs.Answering.{answered}
 use Rattle.sender.specs.Calls.{queueOf, receiveOf, findOf, pieceOf}
 use Rattle.verdicts.proofs.Passed.{queue-passed, queue-room, receive-passed}
 use Rattle.sender.proofs.Queuing.{withWaiting, queue-area, queue-record}

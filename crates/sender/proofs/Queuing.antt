@@ -12,10 +12,10 @@ use Rattle.laws.proofs.Bytes.{over-keep, over-comm, length-part}
 use Rattle.laws.proofs.Little.{Bytes}
 use Rattle.ledger.specs.Ledger as L
 use Rattle.ledger.specs.Ledger.{bytesOf}
-use Rattle.table.specs.Layout.{place, streamBytes}
-use Rattle.table.specs.Table.{rowsFrom, tableBytes}
-use Rattle.table.specs.declared.Row.{Row}
-use Rattle.table.proofs.Laws.{table-kept}
+use Rattle.area.specs.Layout.{place, streamBytes}
+use Rattle.area.specs.Table.{rowsFrom, tableBytes}
+use Rattle.area.specs.declared.table.Row.{Row}
+use Rattle.area.proofs.table.Laws.{table-kept}
 use Rattle.pieces.specs.Pieces.{piecesOf}
 use Rattle.record.specs.View.{view, store, storeArea, storeCounts, storeHeld, storeSent, storeLink}
 use Rattle.record.specs.declared.Counts.{Counts}

@@ -5,14 +5,14 @@ use Prim.Native.Nat.{ℕ}
 use lib.ListN.{length, replicate}
 use Rattle.config.specs.declared.Profile.{Profile}
 use Rattle.ledger.specs.Ledger as L
-use Rattle.table.specs.Table.{rowsFrom}
-use Rattle.lookup.specs.Find.{findFrom}
-use Rattle.lookup.specs.declared.Found.{Found}
+use Rattle.area.specs.Table.{rowsFrom}
+use Rattle.area.specs.Find.{findFrom}
+use Rattle.area.specs.declared.lookup.Found.{Found}
 use Rattle.record.specs.View.{view, store, storeArea}
 use Rattle.record.specs.declared.Sender.{Sender}
-use Rattle.answers.specs.declared.Heard.{Heard}
+use Rattle.replies.specs.declared.Heard.{Heard}
 use Rattle.refusals.specs.declared.Reply.{Reply}
-use Rattle.answering.specs.Answering.{answered}
+use Rattle.receive.specs.Answering.{answered}
 use Rattle.sender.specs.declared.Queued.{Queued}
 use Rattle.sender.specs.declared.Received.{Received}
 use Rattle.sender.specs.declared.Finding.{Finding}

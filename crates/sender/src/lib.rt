@@ -1,16 +1,16 @@
 // The sender's calls (sender.rs), with document 01's refusals. No call requires anything.
-use answering::answer;
-use answers::Heard;
+use area::lookup::Found;
+use byte_copy::copy_in;
 use config::Profile;
-use lookup::Found;
-use moves::copy_in;
 use outgoing::Frames;
 use outgoing::Outgoing;
+use receive::accepted::answer;
 use record::Sender;
 use refusals::Reply;
 use refusals::Verdict;
 use refusals::kind;
 use refusals::number;
+use replies::Heard;
 use verdicts::burst_verdict;
 use verdicts::queue_verdict;
 use verdicts::receive_verdict;
@@ -108,7 +108,7 @@ pub fn find(p: Profile, s: Sender, a: &[u8], off: u32) -> Finding
         };
     }
     let n = s.counts.pieces;
-    let found = lookup::find(a, n, off);
+    let found = area::lookup::find(a, n, off);
     Finding { verdict: v, found }
 }
 
@@ -121,7 +121,7 @@ pub fn piece(p: Profile, s: Sender, a: &[u8], off: u32) -> &[u8]
         return &a[..0];
     }
     let n = s.counts.pieces;
-    lookup::piece(a, n, off)
+    area::lookup::piece(a, n, off)
 }
 
 fn no_burst() -> Outgoing
@@ -159,7 +159,7 @@ pub fn data_burst(p: Profile, s: Sender, a: &mut [u8], out: &mut [u8]) -> Burste
             next: s,
         };
     }
-    let b = sending::data_burst(p, s, a, out);
+    let b = data_burst::burst::data_burst(p, s, a, out);
     let outgoing = b.outgoing;
     let next = b.next;
     Bursted {

@@ -20,8 +20,8 @@ use Rattle.record.specs.View.{restIn}
 use Rattle.record.specs.declared.AtPeer.{AtPeer}
 use Rattle.record.specs.declared.LastBurst.{LastBurst}
 use Rattle.record.specs.declared.Sender.{Sender}
-use Rattle.flight.specs.declared.Kept.{Kept}
-use Rattle.flight.specs.Flight.{removedPieces}
+use Rattle.area.specs.declared.removal.Kept.{Kept}
+use Rattle.area.specs.Flight.{removedPieces}
 use Rattle.settle.specs.declared.Offsets.{Offsets}
 use Rattle.settle.specs.Settle.{ackedIn, offsetsOf, missedIn, heldMore, heldNone, newHeld, unawaited, withFlight, settled}
 

@@ -18,10 +18,10 @@ use Rattle.ledger.specs.Ledger as L
 use Rattle.ledger.specs.Ledger.{Piece, Held, Sent, size, bytesOf, heldOffs, sentOffs, remaining, ackedBytes, missed, settleBurst}
 use Rattle.ledger.specs.Sound.{Sound}
 use Rattle.ledger.specs.Cover.{Ascend}
-use Rattle.table.specs.Layout.{place, streamBytes}
-use Rattle.table.specs.Table.{rowsFrom, tableBytes, total}
-use Rattle.table.specs.declared.Row.{Row}
-use Rattle.flight.specs.Flight.{keptRows, keptBytes, removedPieces}
+use Rattle.area.specs.Layout.{place, streamBytes}
+use Rattle.area.specs.Table.{rowsFrom, tableBytes, total}
+use Rattle.area.specs.declared.table.Row.{Row}
+use Rattle.area.specs.Flight.{keptRows, keptBytes, removedPieces}
 use Rattle.pieces.specs.Pieces.{piecesOf}
 use Rattle.pieces.specs.Lists.{heldOf, sentOf, ackedOffs}
 use Rattle.pieces.proofs.Settle.{kept-total, kept-waiting, kept-length, settled-pieces, settled-size, settled-bytes}

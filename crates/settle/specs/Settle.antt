@@ -8,10 +8,10 @@ use lib.ListN.{length, take, replicate}
 use Rattle.laws.specs.Bytes.{overwrite}
 use Rattle.ledger.specs.Limits.{maxSlots, maxFlying, maxWaiting, maxPieces, maxTaken}
 use Rattle.ledger.specs.Ledger.{Held, heldOffs}
-use Rattle.table.specs.Layout.{areaBytes}
-use Rattle.table.specs.Table.{rowsFrom, total}
-use Rattle.flight.specs.Flight.{removedPieces}
-use Rattle.flight.specs.declared.Kept.{Kept}
+use Rattle.area.specs.Layout.{areaBytes}
+use Rattle.area.specs.Table.{rowsFrom, total}
+use Rattle.area.specs.Flight.{removedPieces}
+use Rattle.area.specs.declared.removal.Kept.{Kept}
 use Rattle.record.specs.View.{restIn}
 use Rattle.record.specs.declared.AtPeer.{AtPeer}
 use Rattle.record.specs.declared.Counts.{Counts}

@@ -1,6 +1,6 @@
 // settle_burst of sender.rs: what an ack leaves of the outstanding burst; and what it says of the burst to the gear.
-use flight::mark;
-use flight::remove_pieces;
+use area::removal::mark;
+use area::removal::remove_pieces;
 use record::AtPeer;
 use record::Counts;
 use record::LastBurst;
@@ -12,6 +12,8 @@ ghost use lib.ListN.{length, drop};
 ghost use Rattle.ledger.specs.Limits.{maxSlots};
 ghost use Rattle.pieces.specs.Lists.{heldOf};
 ghost use Rattle.settle.specs.Settle.{ackedIn, offsetsOf, missedIn, heldMore, newHeld, Settling, settled};
+
+pub mod outcome;
 
 // A list of offsets.
 struct Offsets {

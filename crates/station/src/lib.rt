@@ -1,14 +1,14 @@
 // The thin layer: a station program holds one record, and each call of the sender changes it. The calls are exported, for C to link: a slice goes
 // as a pointer and a length. No call requires anything; the profile is read where it lies.
-use answers::Ack;
-use answers::ConnAck;
-use answers::Heard;
-use answers::LongAck;
-use answers::Turn;
 use config::Profile;
 use numbered::Burst;
 use numbered::Place;
 use record::Sender;
+use replies::Ack;
+use replies::ConnAck;
+use replies::Heard;
+use replies::LongAck;
+use replies::Turn;
 ghost use mathlib.Core.Path.{_≡_};
 ghost use mathlib.Core.List.{[]};
 ghost use Rattle.record.specs.Fresh.{fresh};

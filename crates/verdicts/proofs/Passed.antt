@@ -11,17 +11,17 @@ use borrow.Author.Tests.{not-false, eq-eqb, ne-eqb, leb-true, ltb-true, ltb-fals
 use Rattle.laws.proofs.Picks.{test, cond-no, and-first, and-second}
 use Rattle.laws.proofs.Tests.{all-at}
 use Rattle.config.specs.declared.Profile.{Profile}
-use Rattle.limits.specs.Ranges.{inRange, inOrder}
+use Rattle.config.specs.Ranges.{inRange, inOrder}
 use Rattle.ledger.specs.Limits.{maxSlots, maxWaiting, maxTaken, maxPieces}
-use Rattle.table.specs.Layout.{areaBytes, streamBytes}
-use Rattle.table.specs.Table.{rowsFrom, total}
+use Rattle.area.specs.Layout.{areaBytes, streamBytes}
+use Rattle.area.specs.Table.{rowsFrom, total}
 use Rattle.pieces.proofs.Sound.{table-total}
-use Rattle.queued.specs.Queued.{queueRefusal}
-use Rattle.queued.proofs.Laws.{full, over, room, not-refused, queue-fits}
+use Rattle.area.specs.Queued.{queueRefusal}
+use Rattle.area.proofs.room.Laws.{full, over, room, not-refused, queue-fits}
 use Rattle.record.specs.declared.Sender.{Sender}
-use Rattle.checks.specs.Checked.{countsOk, soundOk}
-use Rattle.checks.proofs.Counts.{flying-few, pieces-few, taken-few}
-use Rattle.answers.specs.declared.Heard.{Heard}
+use Rattle.soundness.specs.Checked.{countsOk, soundOk}
+use Rattle.soundness.proofs.fields.Counts.{flying-few, pieces-few, taken-few}
+use Rattle.replies.specs.declared.Heard.{Heard}
 use Rattle.refusals.specs.declared.Verdict.{Verdict}
 use Rattle.refusals.specs.declared.Verdict.the-variants.{Accepted, AllTaken, BadTime, BadValue, OutOfTurn, ProfileOutOfRange, QueueFull, ShortOutput, ShortOverLong, ShortPayload, Unsound}
 use Rattle.refusals.specs.declared.Reply.{Reply}

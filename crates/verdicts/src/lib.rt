@@ -1,9 +1,8 @@
 // What the sender turns down (document 01): the verdict of each call.
-use answers::Heard;
+use area::room::queue_refusal;
 use config::Profile;
-use limits::in_order;
-use limits::in_range;
-use queued::queue_refusal;
+use config::ranges::in_order;
+use config::ranges::in_range;
 use record::Counts;
 use record::Sender;
 use refusals::Reply;
@@ -13,6 +12,7 @@ use refusals::kind;
 use refusals::number;
 use refusals::reply_ok;
 use refusals::time_ok;
+use replies::Heard;
 use soundness::is_sound;
 ghost use mathlib.Core.Path.{_≡_};
 ghost use mathlib.Core.Bool.{true};

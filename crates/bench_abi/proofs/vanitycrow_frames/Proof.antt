@@ -9,7 +9,7 @@ use borrow.Author.Needs.{needs}
 use Rattle.laws.specs.Steps.{steps}
 use Rattle.laws.proofs.Bytes.{length-over}
 use Rattle.laws.proofs.Steps.{steps-none, steps-more}
-use Rattle.crc.specs.Table.{tableOf}
+use Rattle.frame.specs.Table.{tableOf}
 use Rattle.frame.specs.Frame.{maxPayload}
 use Rattle.frame.proofs.Laws.{short}
 use Rattle.bench_abi.specs.Burst.{frameAt, framesOf}

@@ -1,7 +1,7 @@
 -- `bench_area::vanitycrow_merge` meets its contract.
 use denote.Ref.{now}
-use Rattle.flight.specs.Flight.{Marked}
-use Rattle.flight.proofs.Laws.{marked-all}
+use Rattle.area.specs.Flight.{Marked}
+use Rattle.area.proofs.removal.Laws.{marked-all}
 use Prim.Native.Nat.{ℕ, _-_}
 use mathlib.Core.Path.{sym, subst}
 use mathlib.Core.List.{List}

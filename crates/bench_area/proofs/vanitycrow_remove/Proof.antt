@@ -1,8 +1,8 @@
 -- `bench_area::vanitycrow_remove` meets its contract.
 use denote.Ref.{now}
-use Rattle.flight.specs.Flight.{Marked}
-use Rattle.flight.specs.declared.Kept.{Kept}
-use Rattle.flight.proofs.Laws.{marked-all}
+use Rattle.area.specs.Flight.{Marked}
+use Rattle.area.specs.declared.removal.Kept.{Kept}
+use Rattle.area.proofs.removal.Laws.{marked-all}
 use Prim.Native.Nat.{ℕ, _-_}
 use mathlib.Core.Path.{sym, subst, ap}
 use mathlib.Core.List.{List}

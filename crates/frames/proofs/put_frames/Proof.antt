@@ -5,7 +5,7 @@ use Rattle.laws.specs.Bytes.{overwrite, part}
 use Rattle.laws.proofs.Bytes.{over-nil, length-over}
 use Rattle.frame.specs.Frame.{frameOf, maxPayload}
 use Rattle.ledger.specs.Limits.{maxSlots}
-use Rattle.slots.specs.Slots.{slotAt, slotsFrom}
+use Rattle.frames.specs.Slots.{slotAt, slotsFrom}
 use Rattle.frames.specs.Frames.{framesOf, Fit}
 use Rattle.frames.proofs.Laws.{fit-turn, frames-long, frames-turn}
 use Prim.Native.Nat.{ℕ, _+_, _-_, _≤_, _<_}

@@ -1,4 +1,4 @@
-use Rattle.ladder.proofs.Laws.{climb-lt}
+use Rattle.levels.proofs.usable.Laws.{climb-lt}
 use Rattle.gear.specs.Judging.{climbed}
 use borrow.Author.Needs.{needs}
 use Rattle.gear.proofs.climb.Statement.{statement}

@@ -1,4 +1,4 @@
-use Rattle.memory.proofs.Laws.{others-le}
+use Rattle.levels.proofs.memory.Laws.{others-le}
 use Rattle.gear.specs.Judging.{failHold}
 use native.Mathlib.Omega.{arith}
 use borrow.Author.Needs.{needs}

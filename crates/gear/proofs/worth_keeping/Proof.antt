@@ -1,4 +1,4 @@
-use Rattle.ladder.proofs.Laws.{step-down-lt, usable-below-lt}
+use Rattle.levels.proofs.usable.Laws.{step-down-lt, usable-below-lt}
 use Rattle.gear.specs.Judging.{worthKeeping}
 use borrow.Author.Needs.{needs}
 use Rattle.gear.proofs.worth_keeping.Statement.{statement}

@@ -1,7 +1,7 @@
 -- `profile` is safe: the profile is in range. Assumes nothing.
 use mathlib.Core.Path.{sym, _∙_}
 use borrow.Author.Needs.{needs}
-use Rattle.limits.proofs.Ranged.{ranged}
+use Rattle.config.proofs.ranges.Ranged.{ranged}
 use Rattle.gear_cases.proofs.profile.Statement.{statement}
 use Rattle.gear_cases.proofs.profile.Tie as tie
 

@@ -1,6 +1,6 @@
 -- `refusals::report_ok` meets its contract.
 use lib.Ieee.{ofInt, ofBits, neg}
-use Rattle.limits.specs.Ranges.{inside}
+use Rattle.config.specs.Ranges.{inside}
 use Rattle.refusals.specs.Refusals.{reportOk}
 use borrow.Author.Needs.{needs}
 use Rattle.refusals.proofs.report_ok.Statement.{statement}

@@ -1,7 +1,7 @@
 -- `refusals::time_ok` meets its contract.
 use mathlib.Core.Path.{refl}
 use lib.Ieee.{ofInt, ofBits}
-use Rattle.limits.specs.Ranges.{inside}
+use Rattle.config.specs.Ranges.{inside}
 use Rattle.refusals.specs.Refusals.{timeOk}
 use Rattle.refusals.proofs.time_ok.Statement.{statement}
 use Rattle.refusals.proofs.time_ok.Tie as tie

@@ -5,10 +5,10 @@ use mathlib.Core.Path.{_≡_, ap, _∙_}
 use Prim.Native.Nat.{ℕ}
 use lib.ListN.{length}
 use borrow.Author.Needs.{needs, length-unmapped}
-use Rattle.limits.proofs.Ranged.{ranged}
+use Rattle.config.proofs.ranges.Ranged.{ranged}
 use Rattle.ledger.specs.Limits.{maxSlots}
 use Rattle.record.proofs.View.{Arrays}
-use Rattle.checks.proofs.Sound.{test-sound}
+use Rattle.soundness.proofs.fields.Sound.{test-sound}
 use Rattle.refusals.specs.declared.Verdict.{Verdict}
 use Rattle.verdicts.specs.Verdicts.{passed, firstOf, outputVerdict, burstVerdict}
 use Rattle.verdicts.proofs.Passed.{is-passed, not-passed, burst-passed}

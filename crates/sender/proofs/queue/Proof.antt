@@ -7,7 +7,7 @@ use native.Mathlib.Omega.{arith}
 use lib.ListN.{length}
 use borrow.Author.Needs.{length-unmapped}
 use Rattle.ledger.specs.Limits.{maxSlots, maxWaiting}
-use Rattle.table.specs.Layout.{areaBytes, streamBytes}
+use Rattle.area.specs.Layout.{areaBytes, streamBytes}
 use Rattle.record.proofs.View.{Arrays}
 use Rattle.refusals.specs.declared.Verdict.{Verdict}
 use Rattle.verdicts.specs.Verdicts.{passed, firstOf, roomVerdict, queueVerdict}

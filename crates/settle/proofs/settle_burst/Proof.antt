@@ -4,8 +4,8 @@ use lib.ListN.{length, take, length-take}
 use lib.Seq.{length-take-le}
 use borrow.Author.Needs.{needs, length-unmapped}
 use Rattle.ledger.specs.Limits.{maxSlots}
-use Rattle.table.specs.Table.{rowsFrom, total}
-use Rattle.flight.proofs.Laws.{length-marks, removed-facts, marked-by}
+use Rattle.area.specs.Table.{rowsFrom, total}
+use Rattle.area.proofs.removal.Laws.{length-marks, removed-facts, marked-by}
 use Rattle.pieces.proofs.Settle.{kept-total}
 use Rattle.settle.specs.Settle.{ackedIn, offsetsOf}
 use Rattle.settle.proofs.Laws.{acked-few, offsets-list, offsets-fit, settled-is}

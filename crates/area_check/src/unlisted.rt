@@ -1,0 +1,25 @@
+// The sound record's test that two lists of offsets share none.
+use area::removal::contains_marked;
+use area::removal::mark;
+ghost use mathlib.Core.Path.{_≡_};
+ghost use Rattle.area_check.specs.Sound.{noneListed};
+
+// Whether none of xs is among ys.
+pub fn none_listed(xs: &[u32], ys: &[u32]) -> bool
+    ensures { λ r. ⌜ r ≡ noneListed (now (xs .entry)) (now (ys .entry)) ⌝ }
+{
+    if ys.len() == 0 {
+        return true;
+    }
+    let mut marks = [0u8; 2048];
+    mark(&mut marks, ys);
+    let mut i = 0;
+    while i < xs.len() {
+        let x = xs[i];
+        if contains_marked(&marks, ys, x) {
+            return false;
+        }
+        i += 1;
+    }
+    true
+}

@@ -1,0 +1,4 @@
+pub mod Ladders
+pub mod Memory
+pub mod Rates
+pub mod Paces

@@ -1,0 +1,167 @@
+-- The ConnAck, Ack and Turn arms of `sender_rx` and its frame loop (sender.rs; document 01, module 5), for replies that are not refused. Definitions only.
+use mathlib.Core.List.{List}
+use mathlib.Core.Bool.{Bool, true, false, cond, _&&_}
+use Prim.Native.Nat.{ℕ, _+_, _%_, _<_}
+use lib.Ieee.{Float}
+use Rattle.report.specs.declared.ChanClass.{ChanClass}
+use Rattle.report.specs.declared.ack.AckInfo.{AckInfo}
+use Rattle.config.specs.declared.Profile.{Profile}
+use Rattle.gear.specs.declared.goodput.Gear.{Gear}
+use Rattle.gear.specs.Setters.{withBurst}
+use Rattle.gear.specs.Meeting.{connected, onTurn}
+use Rattle.ledger.specs.Reply.{Reply, shortAck, longAck}
+use Rattle.ledger.specs.Ledger as L
+use Rattle.ledger.specs.Ledger.{clearBurst}
+use Rattle.ledger.specs.Sound.{Sound}
+use Rattle.record.specs.Profiles.{sizesOf}
+use Rattle.record.specs.View.{view, store, storeArea}
+use Rattle.record.specs.declared.Link.{Link}
+use Rattle.record.specs.declared.Sender.{Sender}
+use Rattle.settle.specs.Settle.{Settling}
+use Rattle.settle.specs.Outcomes.{outcomeOf, outcomeIn}
+use Rattle.settle.specs.Replies.{withGear, withLink, ackIn, withoutBurst}
+use Rattle.replies.specs.declared.Heard.{Heard}
+use Rattle.replies.specs.declared.ConnAck.{ConnAck}
+use Rattle.replies.specs.declared.Ack.{Ack}
+use Rattle.replies.specs.declared.LongAck.{LongAck}
+use Rattle.replies.specs.declared.Turn.{Turn}
+
+-- the slot that the peer hears best, and its Doppler spread
+abbrev pub withPath : Link → ℕ → Float → Link
+withPath k slot hz =
+    record {
+      connected = k .connected;
+      awaiting = k .awaiting;
+      session = k .session;
+      «last_time» = k .«last_time»;
+      «burst_id» = k .«burst_id»;
+      heard = k .heard;
+      «peer_heard» = k .«peer_heard»;
+      «peer_slot» = slot;
+      «peer_doppler_hz» = hz;
+      «peer_wants_turn» = k .«peer_wants_turn»;
+      «peer_wants_disc» = k .«peer_wants_disc»;
+      «peer_wave» = k .«peer_wave»;
+    }
+
+-- the turn and disconnect wishes, the number last heard, and the time
+abbrev pub noted : Link → Float → Bool → Bool → ℕ → Link
+noted k now turn disc number =
+    record {
+      connected = k .connected;
+      awaiting = k .awaiting;
+      session = k .session;
+      «last_time» = now;
+      «burst_id» = k .«burst_id»;
+      heard = true;
+      «peer_heard» = number;
+      «peer_slot» = k .«peer_slot»;
+      «peer_doppler_hz» = k .«peer_doppler_hz»;
+      «peer_wants_turn» = turn;
+      «peer_wants_disc» = disc;
+      «peer_wave» = k .«peer_wave»;
+    }
+
+-- the connect answer: session, slot and time
+abbrev pub met : Link → Float → ℕ → ℕ → Link
+met k now session slot =
+    record {
+      connected = true;
+      awaiting = k .awaiting;
+      session = session;
+      «last_time» = now;
+      «burst_id» = k .«burst_id»;
+      heard = k .heard;
+      «peer_heard» = k .«peer_heard»;
+      «peer_slot» = slot;
+      «peer_doppler_hz» = k .«peer_doppler_hz»;
+      «peer_wants_turn» = k .«peer_wants_turn»;
+      «peer_wants_disc» = k .«peer_wants_disc»;
+      «peer_wave» = k .«peer_wave»;
+    }
+
+abbrev pub timed : Link → Float → Link
+timed k now =
+    record {
+      connected = k .connected;
+      awaiting = k .awaiting;
+      session = k .session;
+      «last_time» = now;
+      «burst_id» = k .«burst_id»;
+      heard = k .heard;
+      «peer_heard» = k .«peer_heard»;
+      «peer_slot» = k .«peer_slot»;
+      «peer_doppler_hz» = k .«peer_doppler_hz»;
+      «peer_wants_turn» = k .«peer_wants_turn»;
+      «peer_wants_disc» = k .«peer_wants_disc»;
+      «peer_wave» = k .«peer_wave»;
+    }
+
+abbrev pub withClass : Gear → ChanClass → Gear
+withClass g class =
+    record {
+      level = g .level;
+      target = g .target;
+      «burst_s» = g .«burst_s»;
+      «aim_db» = g .«aim_db»;
+      «last_report_db» = g .«last_report_db»;
+      «snr_reports» = g .«snr_reports»;
+      «peer_class» = class;
+      cue = g .cue;
+      tries = g .tries;
+      holds = g .holds;
+    }
+
+-- "An ack not awaited updates only the turn and disconnect wishes and the number last heard" (and the time)
+unfoldable pub shortAcked : Profile → Heard → Ack → Sender → List ℕ → Sender × List ℕ
+shortAcked p h r s a =
+    let k = noted (s .link) (h .time) (r .«want_turn») (r .«want_disc») (r .burst) in
+    cond (s .link .awaiting)
+    (ackIn p (shortAck (r .burst) (r .bitmap)) (r .stored) (r .«snr_db») (h .time)
+    (withLink (withGear s (withClass (s .gear) (r .class))) (withPath k (r .slot) (s .link .«peer_doppler_hz»))) a)
+    (withLink s k, a)
+
+-- a long ack's dB: of its report, with eff_snr
+abbrev pub longDb : Profile → AckInfo → Float
+longDb p i = cond (i .reported && p .«eff_snr») (i .report .«eff_snr_db») (i .«snr_db»)
+
+unfoldable pub longAcked : Profile → Heard → LongAck → AckInfo → Sender → List ℕ → Sender × List ℕ
+longAcked p h r i s a =
+    let k = noted (s .link) (h .time) (r .«want_turn») (r .«want_disc») (i .burst) in
+    cond (s .link .awaiting)
+    (ackIn p (longAck (i .burst) (i .bitmap)) (r .stored) (longDb p i) (h .time)
+    (withLink (withGear s (withClass (s .gear) (i .report .class))) (withPath k (i .report .slot) (i .report .«doppler_hz»))) a)
+    (withLink s k, a)
+
+-- ---- turn and connect answer
+
+-- a turn without a report goes by the dB measured here
+abbrev pub turnDb : Heard → Turn → Float
+turnDb h r = cond (r .report .set) (r .report .db) (h .«snr_db»)
+
+-- a reply of another number, with no bit set: `on_ack(self.burst_id.wrapping_add(1) & 3, 0, ..)`
+abbrev pub nothingHeard : L.Sender → Reply
+nothingHeard l = record { number = (l .number + 1) % 4; bit = λ (n i : ℕ). false }
+
+unfoldable pub turned : Profile → Heard → Turn → Sender → List ℕ → Sender × List ℕ
+turned p h r s a =
+    let before = view s a in
+    let after = clearBurst before in
+    let g = onTurn p (s .gear) (outcomeOf (nothingHeard before) before) (turnDb h r) (h .wave) (h .time) in
+    (store after (withLink (withGear s g) (timed (s .link) (h .time))), storeArea after a)
+
+-- the called station's cue counts where the profile has one; burst_s is set here (docs/DECISIONS.md)
+unfoldable pub connectedTo : Profile → Heard → ConnAck → Sender → Sender
+connectedTo p h r s =
+    withLink (withGear s (connected p (withBurst (s .gear) (p .lengths .«max_burst_s»)) (r .class) (p .cue && r .cue) (r .«snr_db») (h .time)))
+    (met (s .link) (h .time) (r .session) (r .slot))
+
+-- as the code goes
+unfoldable pub turnedTo : Profile → Heard → Turn → Sender → Sender
+turnedTo p h r s = withoutBurst (withLink (withGear s (onTurn p (s .gear) (outcomeIn 0 false (s .«last_burst»)) (turnDb h r) (h .wave) (h .time))) (timed (s .link) (h .time)))
+
+-- what an accepted reply finds: a sound record, as far as it matters here
+pub record Answerable (p : Profile) (s : Sender) (a : List ℕ) : Type 0 where
+  pub level : s .gear .level < 17
+  pub settling : Settling s a
+  pub sound : Sound (sizesOf p) (view s a)

@@ -1,0 +1,124 @@
+-- Document 01's sound record, as tests and as facts. Definitions only.
+use mathlib.Core.List.{List, [], _∷_}
+use mathlib.Core.Path.{_≡_}
+use mathlib.Core.Bool.{Bool, true, false, not, _&&_, _||_}
+use Prim.Native.Nat.{ℕ, _+_, _-_, _<_, _≤_}
+use lib.Dec.{T, leb, eqb}
+use lib.ListN.{length, take, drop, getD}
+use lib.Ieee.{Float, nan, binary32, le, lt, neg, ofBits}
+use Rattle.laws.specs.Tests.{all}
+use Rattle.laws.specs.Span.{every, upto}
+use Rattle.ieee.specs.Range.{In, w32, w64}
+use Rattle.config.specs.declared.MaybeDb.{MaybeDb}
+use Rattle.config.specs.declared.Profile.{Profile}
+use Rattle.levels.specs.declared.memory.Reports.{Reports}
+use Rattle.levels.specs.declared.memory.Tries.{Tries}
+use Rattle.levels.specs.declared.usable.Holds.{Holds}
+use Rattle.gear.specs.declared.goodput.Gear.{Gear}
+use Rattle.ledger.specs.Limits.{maxSlots, maxNumber, maxFlying, maxWaiting, maxPieces, maxTaken}
+use Rattle.ledger.specs.Sound.{Sound}
+use Rattle.area.specs.Layout.{areaBytes}
+use Rattle.area.specs.Table.{rowsFrom, total}
+use Rattle.area_check.specs.Sound.{rowOffs, tableOk, allFlying, heldBitsOk, sentBitsOk, noneListed}
+use Rattle.record.specs.Profiles.{sizesOf}
+use Rattle.record.specs.View.{view}
+use Rattle.record.specs.declared.Link.{Link}
+use Rattle.record.specs.declared.AtPeer.{AtPeer}
+use Rattle.record.specs.declared.LastBurst.{LastBurst}
+use Rattle.record.specs.declared.Sender.{Sender}
+
+-- ---- the gear: "levels 0 to 16; shares 0 to 1, burst seconds 1 to 1,000, times at most 10^9, hold ends at most 1,001,000,000, kept dB -100 to 308"
+
+abbrev inside : Float → Float → Float → Bool
+inside lo hi x = le lo x && le x hi
+
+unfoldable pub keptOk : Float → Bool
+keptOk x = inside (neg (w32 100)) (w32 308) x
+
+unfoldable pub keptIfOk : MaybeDb → Bool
+keptIfOk m = not (m .set) || keptOk (m .db)
+
+-- at most three reports; those not there yet count as 0
+unfoldable pub reportsOk : Reports → Bool
+reportsOk r = all (leb (r .count) 3 ∷ keptOk (r .a) ∷ keptOk (r .b) ∷ keptOk (r .c) ∷ [])
+
+-- level k: minus infinity is a time and an end too, that of a fresh record
+unfoldable pub levelOk : Tries → Holds → ℕ → Bool
+levelOk t h k =
+    all (inside (w32 0) (w32 1) (getD (t .success) k nan) ∷ le (getD (t .«success_at») k nan) (w64 1000000000) ∷ le (getD (h .«blocked_until») k nan) (w64 1001000000) ∷ [])
+
+unfoldable pub gearOk : Gear → Bool
+gearOk g =
+    all (leb (g .level) 16 ∷ leb (g .target) 16 ∷ inside (w64 1) (w64 1000) (g .«burst_s») ∷ keptIfOk (g .«aim_db») ∷ keptIfOk (g .«last_report_db»)
+    ∷ reportsOk (g .«snr_reports») ∷ every (levelOk (g .tries) (g .holds)) (upto 0 17) ∷ [])
+
+-- ---- the link: "burst numbers 0 to 3, times at most 10^9, Doppler 0 to 63.5", or not a number. A slot above 2 and a wave above 5 stand for nothing
+
+-- 63.5
+abbrev maxDoppler : Float
+maxDoppler = ofBits binary32 0x427e_0000
+
+unfoldable pub linkOk : Link → Bool
+linkOk k =
+    all (inside (w64 0) (w64 1000000000) (k .«last_time») ∷ leb (k .«burst_id») maxNumber ∷ leb (k .«peer_heard») maxNumber ∷ leb (k .«peer_slot») 2
+    ∷ leb (k .«peer_wave») 5 ∷ not (lt (k .«peer_doppler_hz») (w32 0)) ∷ not (lt maxDoppler (k .«peer_doppler_hz»)) ∷ [])
+
+-- ---- the ledger's part
+
+unfoldable pub countsOk : Sender → Bool
+countsOk s =
+    all (leb (s .«at_peer» .n) maxSlots ∷ leb (s .«at_peer» .rest) (s .«at_peer» .n) ∷ leb (s .«last_burst» .n + s .«at_peer» .rest) maxSlots
+    ∷ leb (s .counts .waiting) maxWaiting ∷ leb (s .counts .flying) maxFlying ∷ leb (s .counts .pieces) maxPieces
+    ∷ leb (s .counts .«next_offset» + s .counts .waiting) maxTaken ∷ eqb (s .counts .«bytes_acked» + s .counts .flying) (s .counts .«next_offset») ∷ [])
+
+-- offsets os fly
+unfoldable pub listsOk : ℕ → AtPeer → LastBurst → List ℕ → Bool
+listsOk top h b os =
+    all (allFlying (take (h .n) (h .off)) os ∷ heldBitsOk top (take (h .n) (h .bits)) ∷ allFlying (take (b .n) (b .off)) os
+    ∷ noneListed (take (b .n) (b .off)) (drop (h .n - h .rest) (take (h .n) (h .off))) ∷ sentBitsOk (take (b .n) (b .bits)) (take (b .n) (b .held)) ∷ [])
+
+-- refusal 3: the work area has 49,152 bytes or more, and the record is sound
+unfoldable pub soundOk : Profile → Sender → List ℕ → Bool
+soundOk p s a =
+    let z = sizesOf p in
+    let rows = rowsFrom a 0 (s .counts .pieces) in
+    all (leb areaBytes (length a) ∷ countsOk s ∷ tableOk (z .short) (z .long) (s .counts .«next_offset») (s .counts .flying) rows
+    ∷ listsOk (z .top) (s .«at_peer») (s .«last_burst») (rowOffs rows) ∷ gearOk (s .gear) ∷ linkOk (s .link) ∷ [])
+
+-- ---- as facts
+
+pub record SoundGear (g : Gear) : Type 0 where
+  pub level : g .level < 17
+  pub target : g .target < 17
+  pub burst : In (w64 1) (w64 1000) (g .«burst_s»)
+  pub aim : g .«aim_db» .set ≡ true → In (neg (w32 100)) (w32 308) (g .«aim_db» .db)
+  pub last : g .«last_report_db» .set ≡ true → In (neg (w32 100)) (w32 308) (g .«last_report_db» .db)
+  pub count : g .«snr_reports» .count ≤ 3
+  pub a : In (neg (w32 100)) (w32 308) (g .«snr_reports» .a)
+  pub b : In (neg (w32 100)) (w32 308) (g .«snr_reports» .b)
+  pub c : In (neg (w32 100)) (w32 308) (g .«snr_reports» .c)
+  pub shares : (k : ℕ) → k < 17 → In (w32 0) (w32 1) (getD (g .tries .success) k nan)
+  pub times : (k : ℕ) → k < 17 → T (le (getD (g .tries .«success_at») k nan) (w64 1000000000))
+  pub ends : (k : ℕ) → k < 17 → T (le (getD (g .holds .«blocked_until») k nan) (w64 1001000000))
+
+pub record SoundLink (k : Link) : Type 0 where
+  pub time : In (w64 0) (w64 1000000000) (k .«last_time»)
+  pub number : k .«burst_id» ≤ maxNumber
+  pub heard : k .«peer_heard» ≤ maxNumber
+  pub slot : k .«peer_slot» ≤ 2
+  pub wave : k .«peer_wave» ≤ 5
+  -- not a number is neither below nor above
+  pub notBelow : lt (k .«peer_doppler_hz») (w32 0) ≡ false
+  pub notAbove : lt maxDoppler (k .«peer_doppler_hz») ≡ false
+
+-- the ledger's part is `Sound` of what the record and the work area hold (crates/ledger/specs/Sound.antt); the record's counts go with its lists and rows
+pub record SoundRecord (p : Profile) (s : Sender) (a : List ℕ) : Type 0 where
+  pub area : areaBytes ≤ length a
+  pub held : s .«at_peer» .n ≤ maxSlots
+  pub rest : s .«at_peer» .rest ≤ s .«at_peer» .n
+  pub sent : s .«last_burst» .n ≤ maxSlots
+  pub pieces : s .counts .pieces ≤ maxPieces
+  pub flying : total (rowsFrom a 0 (s .counts .pieces)) ≡ s .counts .flying
+  pub ledger : Sound (sizesOf p) (view s a)
+  pub gear : SoundGear (s .gear)
+  pub link : SoundLink (s .link)
