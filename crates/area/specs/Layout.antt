@@ -1,6 +1,6 @@
 -- Where things lie in the work area, each number named once. Definitions only.
 use Prim.Native.Nat.{ℕ, _+_, _*_}
-use Rattle.ledger.specs.Limits.{maxPieces}
+use Rattle.limits.specs.Limits.{maxPieces}
 
 -- The stream's bytes: those in flight by ascending offset, then directly those that wait. The table lies behind them
 abbrev pub streamBytes : ℕ

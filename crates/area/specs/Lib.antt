@@ -1,6 +1,6 @@
 pub mod Layout
 pub mod Table
-pub mod Queued
+pub mod Room
 pub mod Find
-pub mod Flight
+pub mod Removal
 pub mod Recut

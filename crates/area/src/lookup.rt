@@ -3,10 +3,10 @@ use crate::table::load_row;
 ghost use mathlib.Core.Path.{_≡_};
 ghost use Prim.Native.Nat.{_≤_};
 ghost use lib.ListN.{length};
-ghost use Rattle.ledger.specs.Limits.{maxPieces};
 ghost use Rattle.area.specs.Layout.{areaBytes, streamBytes};
 ghost use Rattle.area.specs.Table.{rowsFrom, total};
 ghost use Rattle.area.specs.Find.{findFrom, bytesAt};
+ghost use Rattle.limits.specs.Limits.{maxPieces};
 
 // Whether there is a piece, and where its bytes lie in the stream.
 pub struct Found {

@@ -6,10 +6,10 @@ use crate::table::store_row;
 ghost use mathlib.Core.Path.{_≡_};
 ghost use Prim.Native.Nat.{_≤_};
 ghost use lib.ListN.{length};
-ghost use Rattle.ledger.specs.Limits.{maxPieces};
 ghost use Rattle.area.specs.Layout.{areaBytes};
-ghost use Rattle.area.specs.Flight.{Marked};
+ghost use Rattle.area.specs.Removal.{Marked};
 ghost use Rattle.area.specs.Recut.{joinsRow, mergeTable};
+ghost use Rattle.limits.specs.Limits.{maxPieces};
 
 // Whether q is joined to p.
 fn joins(p: Row, q: Row, max: u32, marks: &[u8], held: &[u32]) -> bool

@@ -9,10 +9,10 @@ ghost use Prim.Native.Nat.{_+_, _≤_, _<_};
 ghost use lib.ListN.{length};
 ghost use Rattle.laws.specs.Bytes.{overwrite, part};
 ghost use Rattle.laws.specs.Lists.{listed};
-ghost use Rattle.ledger.specs.Limits.{maxPieces};
 ghost use Rattle.area.specs.Layout.{place, areaBytes, streamBytes};
 ghost use Rattle.area.specs.Table.{rowAt, rowsFrom, tableBytes, total};
-ghost use Rattle.area.specs.Flight.{markCount, markPlace, markAll, Marked, removedPieces};
+ghost use Rattle.area.specs.Removal.{markCount, markPlace, markAll, Marked, removedPieces};
+ghost use Rattle.limits.specs.Limits.{maxPieces};
 
 // Marks of a list of offsets.
 const MARKS: u64 = 2048;

@@ -6,10 +6,10 @@ ghost use mathlib.Core.Path.{_≡_};
 ghost use Prim.Native.Nat.{ℕ, _+_, _-_, _/_, _≤_, _<_};
 ghost use lib.ListN.{length};
 ghost use Rattle.laws.specs.Bytes.{overwrite};
-ghost use Rattle.ledger.specs.Limits.{maxPieces, maxTaken};
 ghost use Rattle.area.specs.Layout.{areaBytes, place};
 ghost use Rattle.area.specs.Table.{rowAt, rowsFrom, tableBytes};
 ghost use Rattle.area.specs.Recut.{cutRows, splitRows, splitTable};
+ghost use Rattle.limits.specs.Limits.{maxPieces, maxTaken};
 
 // How many rows a piece of n bytes becomes.
 fn cut_count(n: u32, max: u32) -> usize

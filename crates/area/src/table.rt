@@ -1,16 +1,15 @@
 // Rows of the table of pieces in the work area.
 use byte_copy::load32;
 use byte_copy::store32;
+use limits::STREAM_BYTES;
 ghost use mathlib.Core.Path.{_≡_};
 ghost use mathlib.Core.List.{_∷_, []};
 ghost use Prim.Native.Nat.{_≤_, _<_};
 ghost use lib.ListN.{length};
 ghost use Rattle.laws.specs.Bytes.{overwrite};
-ghost use Rattle.ledger.specs.Limits.{maxPieces};
 ghost use Rattle.area.specs.Layout.{place, areaBytes};
 ghost use Rattle.area.specs.Table.{rowAt, tableBytes};
-
-const STREAM_BYTES: usize = 32768;
+ghost use Rattle.limits.specs.Limits.{maxPieces};
 
 const ROW_BYTES: usize = 8;
 

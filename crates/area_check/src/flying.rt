@@ -7,10 +7,10 @@ ghost use mathlib.Core.Bool.{true};
 ghost use Prim.Native.Nat.{_≤_};
 ghost use lib.ListN.{length};
 ghost use Rattle.laws.specs.Lists.{listed};
-ghost use Rattle.ledger.specs.Limits.{maxPieces};
 ghost use Rattle.area.specs.Layout.{areaBytes};
 ghost use Rattle.area.specs.Table.{rowsFrom};
-ghost use Rattle.area_check.specs.Sound.{ascends, rowOffs, allFlying};
+ghost use Rattle.area_check.specs.Rows.{ascends, rowOffs, allFlying};
+ghost use Rattle.limits.specs.Limits.{maxPieces};
 
 // Whether a row has this offset.
 fn is_flying(a: &[u8], n: usize, off: u32, long: u32, next: u32) -> bool

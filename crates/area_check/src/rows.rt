@@ -1,26 +1,22 @@
 // The sound record's tests of the table and of lists of bits.
 use area::table::load_row;
+use limits::MAX_BITS;
+use limits::MAX_PIECES;
 ghost use mathlib.Core.Path.{_≡_};
 ghost use Prim.Native.Nat.{_≤_};
 ghost use lib.ListN.{length};
-ghost use Rattle.ledger.specs.Limits.{maxPieces, maxPayload};
 ghost use Rattle.ledger.specs.Cover.{ceil};
 ghost use Rattle.area.specs.Layout.{areaBytes};
 ghost use Rattle.area.specs.Table.{rowsFrom};
-ghost use Rattle.area_check.specs.Sound.{tableOk, heldBitsOk, sentBitsOk};
-
-// Pieces at most.
-const MAX_PIECES: u64 = 2048;
-
-// Bits of a frame at most.
-const MAX_BITS: u32 = 16384;
+ghost use Rattle.area_check.specs.Rows.{tableOk, heldBitsOk, sentBitsOk};
+ghost use Rattle.limits.specs.Limits.{maxPieces, maxTaken, longestPayload};
 
 // Held bits of an outstanding frame at most.
 const MAX_HELD: u32 = 49151;
 
 // Short frames for a piece of len bytes. It divides only where one doesn't do.
 fn shorts_of(len: u64, short: u32) -> u64
-    requires { ⌜ (1 ≤ len) × (len ≤ 4294967295) × (1 ≤ short) ⌝ }
+    requires { ⌜ (1 ≤ len) × (len ≤ maxTaken) × (1 ≤ short) ⌝ }
     ensures { λ r. ⌜ r ≡ ceil len short ⌝ }
 {
     if len <= short as u64 {
@@ -31,7 +27,7 @@ fn shorts_of(len: u64, short: u32) -> u64
 
 // The rows ascend, do not overlap, have 1 to long bytes, end by next, have flying bytes together, and can be cut to short in 2,048 pieces.
 pub fn table_ok(a: &[u8], n: usize, short: u32, long: u32, next: u32, flying: u32) -> bool
-    requires { ⌜ (n ≤ maxPieces) × (areaBytes ≤ length (now a)) × (1 ≤ short) × (short ≤ maxPayload) ⌝ }
+    requires { ⌜ (n ≤ maxPieces) × (areaBytes ≤ length (now a)) × (1 ≤ short) × (short ≤ longestPayload) ⌝ }
     ensures { λ r. ⌜ r ≡ tableOk short long next flying (rowsFrom (now (a .entry)) 0 n) ⌝ }
 {
     let mut from: u64 = 0;
@@ -62,7 +58,7 @@ pub fn table_ok(a: &[u8], n: usize, short: u32, long: u32, next: u32, flying: u3
     if sum != flying as u64 {
         return false;
     }
-    shorts <= MAX_PIECES
+    shorts <= MAX_PIECES as u64
 }
 
 // Whether each has 1 to below `top` bits.

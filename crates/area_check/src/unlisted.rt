@@ -2,7 +2,7 @@
 use area::removal::contains_marked;
 use area::removal::mark;
 ghost use mathlib.Core.Path.{_≡_};
-ghost use Rattle.area_check.specs.Sound.{noneListed};
+ghost use Rattle.area_check.specs.Rows.{noneListed};
 
 // Whether none of xs is among ys.
 pub fn none_listed(xs: &[u32], ys: &[u32]) -> bool

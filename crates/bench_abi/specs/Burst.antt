@@ -10,5 +10,5 @@ use Rattle.frame.specs.Frame.{frameOf}
 abbrev pub frameAt : ℕ → List ℕ → ℕ → List ℕ → List ℕ
 frameAt size payload i out = overwrite out (i * size) (frameOf size (i * length payload) payload)
 
-unfoldable pub framesOf : List ℕ → ℕ → ℕ → List ℕ → List ℕ
-framesOf out count size payload = steps (frameAt size payload) count out
+unfoldable pub benchFrames : List ℕ → ℕ → ℕ → List ℕ → List ℕ
+benchFrames out count size payload = steps (frameAt size payload) count out

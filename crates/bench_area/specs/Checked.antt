@@ -3,7 +3,7 @@ use mathlib.Core.List.{List}
 use mathlib.Core.Bool.{Bool, _&&_}
 use Prim.Native.Nat.{ℕ}
 use Rattle.area.specs.declared.table.Row.{Row}
-use Rattle.area_check.specs.Sound.{rowOffs, tableOk, allFlying, heldBitsOk, sentBitsOk}
+use Rattle.area_check.specs.Rows.{rowOffs, tableOk, allFlying, heldBitsOk, sentBitsOk}
 
 unfoldable pub checked : ℕ → ℕ → ℕ → ℕ → List Row → List ℕ → List ℕ → ℕ → List ℕ → List ℕ → List ℕ → Bool
 checked short long next flying rs held heldBits top sent bits sentHeld =

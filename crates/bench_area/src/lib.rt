@@ -9,12 +9,12 @@ use area_check::rows::table_ok;
 ghost use mathlib.Core.Path.{_≡_};
 ghost use Prim.Native.Nat.{_≤_};
 ghost use lib.ListN.{length};
-ghost use Rattle.ledger.specs.Limits.{maxPieces, maxPayload};
 ghost use Rattle.area.specs.Layout.{areaBytes, streamBytes};
 ghost use Rattle.area.specs.Table.{rowsFrom, total};
-ghost use Rattle.area.specs.Flight.{removedPieces};
+ghost use Rattle.area.specs.Removal.{removedPieces};
 ghost use Rattle.area.specs.Recut.{mergeTable};
 ghost use Rattle.bench_area.specs.Checked.{checked};
+ghost use Rattle.limits.specs.Limits.{maxPieces, longestPayload};
 
 const MARKS: usize = 2048;
 
@@ -34,7 +34,7 @@ pub extern "C" fn vanitycrow_sound(
     bits: &[u32],
     sent_held: &[u32],
 ) -> bool
-    requires { ⌜ (n ≤ maxPieces) × (areaBytes ≤ length (now a)) × (1 ≤ short) × (short ≤ maxPayload) × (length (now bits) ≡ length (now «sent_held»)) ⌝ }
+    requires { ⌜ (n ≤ maxPieces) × (areaBytes ≤ length (now a)) × (1 ≤ short) × (short ≤ longestPayload) × (length (now bits) ≡ length (now «sent_held»)) ⌝ }
     ensures { λ r. ⌜ r ≡ checked short long next flying (rowsFrom (now (a .entry)) 0 n) (now (held .entry)) (now («held_bits» .entry)) top (now (sent .entry)) (now (bits .entry)) (now («sent_held» .entry)) ⌝ }
 {
     if !table_ok(a, n, short, long, next, flying) {

@@ -7,7 +7,7 @@ use lib.ListN.{getD}
 use lib.Ieee.{Float, nan, binary32, binary64, ofBits, le, neg}
 use Rattle.laws.specs.Tests.{all}
 use Rattle.laws.specs.Span.{every, upto}
-use Rattle.ieee.specs.Range.{w32, w64}
+use Rattle.ieee.specs.Range.{inside, w32, w64}
 use Rattle.config.specs.Durations.{slotAt, maxBitsAt, ackAt}
 use Rattle.harq.specs.declared.Harq.{Harq}
 use Rattle.config.specs.declared.Air.{Air}
@@ -17,10 +17,6 @@ use Rattle.config.specs.declared.MaybeLevel.{MaybeLevel}
 use Rattle.config.specs.declared.Lengths.{Lengths}
 use Rattle.config.specs.declared.HoldTimes.{HoldTimes}
 use Rattle.config.specs.declared.Profile.{Profile}
-
--- lo to hi. What is not a number is not in it
-unfoldable pub inside : Float → Float → Float → Bool
-inside lo hi x = le lo x && le x hi
 
 unfoldable pub between : ℕ → ℕ → ℕ → Bool
 between lo hi n = leb lo n && leb n hi

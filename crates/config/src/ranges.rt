@@ -12,8 +12,8 @@ ghost use mathlib.Core.List.{[], _∷_};
 ghost use lib.Dec.{leb};
 ghost use Rattle.laws.specs.Tests.{all};
 ghost use Rattle.laws.specs.Span.{every, upto};
-ghost use Rattle.ieee.specs.Range.{w64};
-ghost use Rattle.config.specs.Ranges.{inside, between, dbOk, maybeDbOk, levelOk, ackOk, airOk, endOk, harqOk, lengthsOk, holdsOk, thresholdOk, marksOk, pinOk, levelsOk, sizesOk, inRange as inRangeOf};
+ghost use Rattle.ieee.specs.Range.{w64, inside};
+ghost use Rattle.config.specs.Ranges.{between, dbOk, maybeDbOk, levelOk, ackOk, airOk, endOk, harqOk, lengthsOk, holdsOk, thresholdOk, marksOk, pinOk, levelsOk, sizesOk, inRange as inRangeOf};
 
 fn within(x: f64, lo: f64, hi: f64) -> bool
     ensures { λ r. ⌜ r ≡ inside lo hi x ⌝ }

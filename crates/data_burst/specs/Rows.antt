@@ -8,25 +8,26 @@ use lib.ListN.{length, take, getD, replicate}
 use Rattle.laws.specs.Bytes.{overwrite}
 use Rattle.harq.specs.Held.{incrementOf}
 use Rattle.harq.specs.declared.Harq.{Harq}
-use Rattle.ledger.specs.Limits.{maxSlots, maxPieces, maxTaken, maxHeld}
 use Rattle.area.specs.Layout.{areaBytes, streamBytes}
 use Rattle.area.specs.Table.{rowAt, rowsFrom, total}
 use Rattle.area.specs.declared.table.Row.{Row}
 use Rattle.area.specs.Recut.{splitRows, mergeRows, newTable}
-use Rattle.frames.specs.Slots.{pushAll, slotsFrom, unheldSlots, incrementSlots, newPieces}
+use Rattle.frames.specs.Slots.{pushAll, slotsFrom, unheldSlots, incrementSlots, addedPieces}
 use Rattle.frames.specs.declared.slots.Added.{Added}
 use Rattle.frames.specs.declared.slots.Slot.{Slot}
 use Rattle.frames.specs.declared.slots.Slots.{Slots}
-use Rattle.frames.specs.Frames.{framesOf, Fit}
+use Rattle.frames.specs.Frames.{framesWritten, Fit}
 use Rattle.plan.specs.Planning.{CodesRange, planned}
 use Rattle.plan.specs.declared.Choice.{Choice}
 use Rattle.plan.specs.declared.Planned.{Planned}
+use Rattle.record.specs.Setters.{withLink, withCounts, withAtPeer, withLastBurst, withAwaiting, withNumber, withNext, withWaiting, withFlying, withPieces}
 use Rattle.record.specs.declared.AtPeer.{AtPeer}
 use Rattle.record.specs.declared.Counts.{Counts}
 use Rattle.record.specs.declared.LastBurst.{LastBurst}
 use Rattle.record.specs.declared.Link.{Link}
 use Rattle.record.specs.declared.Sender.{Sender}
 use Rattle.data_burst.specs.declared.sending.Sending.{Sending}
+use Rattle.limits.specs.Limits.{maxSlots, maxPieces, maxTaken, maxHeld}
 
 -- ---- the held list
 
@@ -59,7 +60,7 @@ module _ (q : Harq) (slot payload : ℕ) (s : Sender) (h : AtPeer) (pl : Planned
   -- "Parity first, then oldest pieces, then new"
   unfoldable pub picked : Added × List ℕ
   picked =
-      newPieces a n (pl .room - length olds) payload (s .counts .«next_offset») (s .counts .flying) (s .counts .waiting) slot
+      addedPieces a n (pl .room - length olds) payload (s .counts .«next_offset») (s .counts .flying) (s .counts .waiting) slot
       (pushAll (pushAll (slotsIn (s .«last_burst»)) incs) olds)
 
   -- what it needs of the numbers
@@ -78,46 +79,19 @@ module _ (q : Harq) (slot payload : ℕ) (s : Sender) (h : AtPeer) (pl : Planned
 
 -- ---- the next record
 
-abbrev pub awaited : Link → ℕ → Link
-awaited k number =
-    record {
-      connected = k .connected;
-      awaiting = true;
-      session = k .session;
-      «last_time» = k .«last_time»;
-      «burst_id» = number;
-      heard = k .heard;
-      «peer_heard» = k .«peer_heard»;
-      «peer_slot» = k .«peer_slot»;
-      «peer_doppler_hz» = k .«peer_doppler_hz»;
-      «peer_wants_turn» = k .«peer_wants_turn»;
-      «peer_wants_disc» = k .«peer_wants_disc»;
-      «peer_wave» = k .«peer_wave»;
-    }
+abbrev pub awaitingAck : Link → ℕ → Link
+awaitingAck k number = withNumber (withAwaiting k true) number
 
 abbrev pub countsOf : Counts → Added → Counts
 countsOf c p =
-    record {
-      «next_offset» = c .«next_offset» + p .bytes;
-      waiting = c .waiting - p .bytes;
-      flying = c .flying + p .bytes;
-      pieces = p .rows;
-      «bytes_acked» = c .«bytes_acked»;
-      «airtime_ms» = c .«airtime_ms»;
-    }
+    withPieces (withFlying (withWaiting (withNext c (c .«next_offset» + p .bytes)) (c .waiting - p .bytes)) (c .flying + p .bytes)) (p .rows)
 
-abbrev pub lastOf : Slots → LastBurst
-lastOf x = record { off = x .off; bits = x .bits; held = x .held; n = x .n }
+abbrev pub lastBurstOf : Slots → LastBurst
+lastBurstOf x = record { off = x .off; bits = x .bits; held = x .held; n = x .n }
 
 unfoldable pub nextOf : Sender → AtPeer → Added → ℕ → Sender
 nextOf s h p number =
-    record {
-      gear = s .gear;
-      link = awaited (s .link) number;
-      counts = countsOf (s .counts) p;
-      «at_peer» = h;
-      «last_burst» = lastOf (p .slots);
-    }
+    withLastBurst (withAtPeer (withCounts (withLink s (awaitingAck (s .link) number)) (countsOf (s .counts) p)) h) (lastBurstOf (p .slots))
 
 -- ---- put together
 
@@ -125,22 +99,22 @@ module _ (q : Harq) (c : Choice) (payload : ℕ) (merging : Bool) (s : Sender) (
   abbrev pub plan : Planned
   plan = planned q c (take (s .«at_peer» .n) (s .«at_peer» .bits))
 
-  abbrev pub kept : AtPeer
-  kept = keptHeld (s .«at_peer») (plan .parity)
+  abbrev pub heldKept : AtPeer
+  heldKept = keptHeld (s .«at_peer») (plan .parity)
 
   -- how many rows there are, and the work area
-  abbrev pub recut : ℕ × List ℕ
-  recut = cutTable (c .long) merging payload (take (kept .n) (kept .off)) (s .counts .pieces) a
+  abbrev pub tableRecut : ℕ × List ℕ
+  tableRecut = cutTable (c .long) merging payload (take (heldKept .n) (heldKept .off)) (s .counts .pieces) a
 
   abbrev pub gone : Added × List ℕ
-  gone = picked q (c .slot) payload s kept plan (recut .0) (recut .1)
+  gone = picked q (c .slot) payload s heldKept plan (tableRecut .0) (tableRecut .1)
 
-  abbrev pub frames : ℕ → List ℕ
-  frames size = framesOf size (slotsFrom (gone .0 .slots) 0 (gone .0 .slots .n)) (gone .1)
+  abbrev pub frameBytesGone : ℕ → List ℕ
+  frameBytesGone size = framesWritten size (slotsFrom (gone .0 .slots) 0 (gone .0 .slots .n)) (gone .1)
 
   -- the slots, the plan and the next record; the work area; the output
   unfoldable pub burstRows : ℕ → ℕ → List ℕ → Sending × (List ℕ × List ℕ)
-  burstRows number size out = (record { slots = gone .0 .slots; plan = plan; next = nextOf s kept (gone .0) number }, (gone .1, overwrite out 0 (frames size)))
+  burstRows number size out = (record { slots = gone .0 .slots; plan = plan; next = nextOf s heldKept (gone .0) number }, (gone .1, overwrite out 0 (frameBytesGone size)))
 
   -- what it needs of the numbers
   pub record Ready (size : ℕ) (out : List ℕ) : Type 0 where
@@ -152,8 +126,8 @@ module _ (q : Harq) (c : Choice) (payload : ℕ) (merging : Bool) (s : Sender) (
     pub bound : 1 ≤ payload
     pub cuts : c .long ≡ false → length (splitRows payload (rowsFrom a 0 (s .counts .pieces))) ≤ maxPieces
     pub ends : (i : ℕ) → i < s .counts .pieces → rowAt a i .off + rowAt a i .len ≤ maxTaken
-    pub pickable : Pickable q (c .slot) payload s kept plan (recut .0) (recut .1)
+    pub pickable : Pickable q (c .slot) payload s heldKept plan (tableRecut .0) (tableRecut .1)
     pub slots : gone .0 .slots .n ≤ maxSlots
     pub sized : 10 ≤ size
-    pub shown : length (frames size) ≤ length out
+    pub shown : length (frameBytesGone size) ≤ length out
     pub fit : Fit size (length (gone .1)) (slotsFrom (gone .0 .slots) 0 (gone .0 .slots .n))

@@ -9,6 +9,7 @@ use frames::slots::increments;
 use frames::slots::new_pieces;
 use frames::slots::old_pieces;
 use harq::Harq;
+use limits::MAX_SLOTS;
 use plan::Choice;
 use plan::Planned;
 use plan::plan;
@@ -21,12 +22,12 @@ ghost use mathlib.Core.Path.{_≡_};
 ghost use Prim.Native.Nat.{ℕ, _+_, _≤_, _<_};
 ghost use lib.ListN.{length, take};
 ghost use Rattle.frame.specs.Table.{tableOf};
-ghost use Rattle.ledger.specs.Limits.{maxPieces, maxTaken};
 ghost use Rattle.area.specs.Layout.{areaBytes, streamBytes};
 ghost use Rattle.area.specs.Table.{rowAt, rowsFrom};
-ghost use Rattle.area.specs.Flight.{Marked};
+ghost use Rattle.area.specs.Removal.{Marked};
 ghost use Rattle.area.specs.Recut.{splitRows};
 ghost use Rattle.data_burst.specs.Rows.{keptHeld, cutTable, slotsIn, Pickable, picked, nextOf, Ready, burstRows};
+ghost use Rattle.limits.specs.Limits.{maxPieces, maxTaken};
 
 // The burst's frames and its plan, and the next record.
 pub struct Sending {
@@ -83,8 +84,8 @@ fn no_slots(b: LastBurst) -> Slots
         off,
         bits,
         held,
-        start: [0; 64],
-        len: [0; 64],
+        start: [0; MAX_SLOTS],
+        len: [0; MAX_SLOTS],
         n: 0,
     }
 }

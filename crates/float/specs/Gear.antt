@@ -8,17 +8,17 @@ abbrev pub duration : Float → Float → ℕ → Float
 duration pre rate bits = add binary64 pre (div binary64 (w64 bits) rate)
 
 -- 0.3f32: `SUCCESS_WEIGHT`, and the loss above which `on_ack` steps down
-abbrev pub weight : Float
-weight = ofBits binary32 0x3e99_999a
+abbrev pub successWeight : Float
+successWeight = ofBits binary32 0x3e99_999a
 
 -- `on_ack`: the share of a level that had p, after a burst of which the share ok came through: p + SUCCESS_WEIGHT * (ok - p)
 abbrev pub share : Float → Float → Float
-share p ok = add binary32 p (mul binary32 weight (sub binary32 ok p))
+share p ok = add binary32 p (mul binary32 successWeight (sub binary32 ok p))
 
 -- `on_ack`: the share of `sent` frames that did not come through, where `got` did: 1.0 - got as f32 / sent as f32
 abbrev pub lossOf : ℕ → ℕ → Float
 lossOf got sent = sub binary32 (w32 1) (div binary32 (w32 got) (w32 sent))
 
 -- 0.99f32: the loss above which `on_ack` takes the whole burst for lost
-abbrev pub most : Float
-most = ofBits binary32 0x3f7d_70a4
+abbrev pub wholeLoss : Float
+wholeLoss = ofBits binary32 0x3f7d_70a4

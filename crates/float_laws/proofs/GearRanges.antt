@@ -4,7 +4,7 @@ use mathlib.Core.Bool.{false}
 use lib.IntN.{negsuc}
 use lib.Ieee.{Float, fin, binary32, binary64, le, lt, neg, add, sub, mul, div, ofInt, ofBits}
 use Rattle.ieee.specs.Range.{In, w32, w64}
-use Rattle.float.specs.Gear.{weight}
+use Rattle.float.specs.Gear.{successWeight}
 use Rattle.float.specs.Pick.{minF, maxF}
 use Rattle.float_laws.proofs.Intervals.{var, lit, plus, less, times, over, least, most, none, more, within}
 
@@ -34,9 +34,9 @@ unfolding le lt sub ofInt
 came-in loss i = within ((w32 0, w32 1) ∷ []) (loss ∷ []) (less binary32 (lit (w32 1)) (var 0)) (w32 0) (w32 1) (more i none) tt
 
 -- a share times 1.0 - SUCCESS_WEIGHT, of channel_failed
-pub faded-in : (p : Float) → In (w32 0) (w32 1) p → In (w32 0) (w32 1) (mul binary32 p (sub binary32 (w32 1) weight))
+pub faded-in : (p : Float) → In (w32 0) (w32 1) p → In (w32 0) (w32 1) (mul binary32 p (sub binary32 (w32 1) successWeight))
 unfolding le lt sub mul ofInt ofBits
-faded-in p i = within ((w32 0, w32 1) ∷ []) (p ∷ []) (times binary32 (var 0) (less binary32 (lit (w32 1)) (lit weight))) (w32 0) (w32 1) (more i none) tt
+faded-in p i = within ((w32 0, w32 1) ∷ []) (p ∷ []) (times binary32 (var 0) (less binary32 (lit (w32 1)) (lit successWeight))) (w32 0) (w32 1) (more i none) tt
 
 -- (pre + ack + turn) / overhead - ack - turn, of clean_burst_s before the clamp; the overhead is 0.01 at least
 abbrev hundredth : Float

@@ -12,7 +12,7 @@ use lib.Ieee.Exact.{HasValue}
 use lib.Ieee.Scale.{finite}
 use lib.Ieee.Positive.{den, den-pos, positive-of-value}
 use Rattle.ieee.specs.Range.{In, w32}
-use Rattle.float.specs.Gear.{weight, lossOf, most}
+use Rattle.float.specs.Gear.{successWeight, lossOf, wholeLoss}
 use Rattle.ieee.proofs.Value.{le-antisym, eq→le, P, N, le-trans, le-refl, lt-not-le, lt-le, finite-between}
 use Rattle.ieee.proofs.Rounds.{Rounds, rounds-same, div-rounds, P-pos}
 use Rattle.ieee.proofs.Representable.{rounds-le, rounds-ge}
@@ -83,16 +83,16 @@ module _ (got sent : ℕ) (h : got ≤ sent) (B : 0 < sent) (k : sent ≤ 64) wh
   loss-in = record { low = loss-ge one tt q-high; high = loss-le null tt q-low }
 
   -- ---- loss > 0.99: nothing came through
-  pub loss-all : got ≡ 0 → T (lt most (lossOf got sent))
+  pub loss-all : got ≡ 0 → T (lt wholeLoss (lossOf got sent))
   unfolding ofBits sub lt
-  loss-all e = lt-le most one (lossOf got sent) tt (loss-ge null tt (q-le null tt (unfold fits in tt) (omega (arith, e))))
+  loss-all e = lt-le wholeLoss one (lossOf got sent) tt (loss-ge null tt (q-le null tt (unfold fits in tt) (omega (arith, e))))
 
-  pub loss-not-all : 0 < got → T (not (lt most (lossOf got sent)))
+  pub loss-not-all : 0 < got → T (not (lt wholeLoss (lossOf got sent)))
   unfolding ofBits sub le
   loss-not-all g =
-      not-T (lt most (lossOf got sent))
-      (λ t. lt-not-le most (lossOf got sent) t
-      (le-trans (lossOf got sent) (fin false 63 (negsuc 5)) most (loss-le (fin false 1 (negsuc 5)) tt (q-ge (fin false 1 (negsuc 5)) tt (unfold fits in tt) (omega (arith, g, k)))) tt))
+      not-T (lt wholeLoss (lossOf got sent))
+      (λ t. lt-not-le wholeLoss (lossOf got sent) t
+      (le-trans (lossOf got sent) (fin false 63 (negsuc 5)) wholeLoss (loss-le (fin false 1 (negsuc 5)) tt (q-ge (fin false 1 (negsuc 5)) tt (unfold fits in tt) (omega (arith, g, k)))) tt))
 
   -- ---- loss == 0.0: all came through
   pub loss-none : got ≡ sent → T (eq (lossOf got sent) null)
@@ -106,15 +106,15 @@ module _ (got sent : ℕ) (h : got ≤ sent) (B : 0 < sent) (k : sent ≤ 64) wh
       (λ t. lt-not-le null (lossOf got sent) (lt-le null (fin false 1 (negsuc 5)) (lossOf got sent) tt (loss-ge (fin false 63 (negsuc 5)) tt (q-le (fin false 63 (negsuc 5)) tt (unfold fits in tt) (omega (arith, g, k))))) (eq→le (lossOf got sent) null t))
 
   -- ---- loss > 0.3: fewer than seven tenths came through
-  pub loss-heavy : 10 * got < 7 * sent → T (lt weight (lossOf got sent))
+  pub loss-heavy : 10 * got < 7 * sent → T (lt successWeight (lossOf got sent))
   unfolding ofBits sub lt
   loss-heavy g =
-      lt-le weight (fin false 617 (negsuc 10)) (lossOf got sent) tt
+      lt-le successWeight (fin false 617 (negsuc 10)) (lossOf got sent) tt
       (loss-ge (fin false 1431 (negsuc 10)) tt (q-le (fin false 1431 (negsuc 10)) tt (unfold fits in tt) (omega (arith, g, k))))
 
-  pub loss-light : 7 * sent ≤ 10 * got → T (not (lt weight (lossOf got sent)))
+  pub loss-light : 7 * sent ≤ 10 * got → T (not (lt successWeight (lossOf got sent)))
   unfolding ofBits sub le
   loss-light g =
-      not-T (lt weight (lossOf got sent))
-      (λ t. lt-not-le weight (lossOf got sent) t
+      not-T (lt successWeight (lossOf got sent))
+      (λ t. lt-not-le successWeight (lossOf got sent) t
       (loss-le (fin false 11744051 (negsuc 23)) tt (q-ge (fin false 11744051 (negsuc 23)) tt (unfold fits in tt) (omega (arith, g)))))

@@ -11,7 +11,7 @@ use lib.Ieee.Fits.{sub-fits, neg-fits}
 use lib.Ieee.Scale.{finite}
 use lib.Ieee.Positive.{den, den-pos, between}
 use Rattle.ieee.specs.Range.{In, w32}
-use Rattle.float.specs.Gear.{weight, share}
+use Rattle.float.specs.Gear.{successWeight, share}
 use Rattle.ieee.proofs.Value.{P, N, Under, le→Le, le-trans, le-refl, not-lt→le, lt→le, finite-no-nan, finite-between}
 use Rattle.ieee.proofs.Rounds.{add-rounds, sub-rounds, mul-rounds, neg-finite, neg-parts}
 use Rattle.ieee.proofs.Representable.{rounds-le, rounds-ge}
@@ -83,35 +83,35 @@ module _ (p ok : Float) (F : T (fits binary32 p)) (i : In (w32 0) (w32 1) p) (j 
       rounds-ge binary32 (sub binary32 ok p) (neg p) _ _ _ (mul-pos (den-pos ok) (den-pos p)) (neg-finite p p-finite) (neg-fits binary32 p F) (sub-rounds binary32 ok p ok-finite p-finite)
       (rw (neg-parts p .0, neg-parts p .1, neg-parts p .2, np, nok) (omega arith))
 
-  weight-ge : T (le null weight)
+  weight-ge : T (le null successWeight)
   unfolding ofBits le
   weight-ge = tt
 
-  weight-le : T (le weight one)
+  weight-le : T (le successWeight one)
   unfolding ofBits le
   weight-le = tt
 
-  weight-finite : T (finite weight)
+  weight-finite : T (finite successWeight)
   unfolding ofBits
   weight-finite = tt
 
   u : Float
-  u = mul binary32 weight t
+  u = mul binary32 successWeight t
 
   -- -p ≤ 0.3 * (ok - p)
   u-low : T (le (neg p) u)
   unfolding u
   u-low =
-      le-trans (neg p) (mul binary32 weight (neg p)) (mul binary32 weight t)
-      (shrink-low binary32 weight (neg p) weight-finite (neg-finite p p-finite) (neg-fits binary32 p F) weight-ge weight-le (neg-parts p .0 ∙ np))
-      (mul-mono binary32 weight (neg p) t weight-finite (neg-finite p p-finite) t-finite weight-ge t-low)
+      le-trans (neg p) (mul binary32 successWeight (neg p)) (mul binary32 successWeight t)
+      (shrink-low binary32 successWeight (neg p) weight-finite (neg-finite p p-finite) (neg-fits binary32 p F) weight-ge weight-le (neg-parts p .0 ∙ np))
+      (mul-mono binary32 successWeight (neg p) t weight-finite (neg-finite p p-finite) t-finite weight-ge t-low)
 
-  u-high : T (le u weight)
+  u-high : T (le u successWeight)
   unfolding u ofInt ofBits
-  u-high = le-trans (mul binary32 weight t) (mul binary32 weight (w32 1)) weight (mul-mono binary32 weight t (w32 1) weight-finite t-finite tt weight-ge (t-in .high)) (unfold le mul in tt)
+  u-high = le-trans (mul binary32 successWeight t) (mul binary32 successWeight (w32 1)) successWeight (mul-mono binary32 successWeight t (w32 1) weight-finite t-finite tt weight-ge (t-in .high)) (unfold le mul in tt)
 
   u-finite : T (finite u)
-  u-finite = finite-between (neg p) u weight (neg-finite p p-finite) weight-finite u-low u-high
+  u-finite = finite-between (neg p) u successWeight (neg-finite p p-finite) weight-finite u-low u-high
 
   low : T (le null (add binary32 p u))
   low =
@@ -126,8 +126,8 @@ module _ (p ok : Float) (F : T (fits binary32 p)) (i : In (w32 0) (w32 1) p) (j 
   high-small : T (le p half) → T (le (add binary32 p u) one)
   unfolding ofBits
   high-small h =
-      le-trans (add binary32 p u) (add binary32 half weight) one
-      (add-mono binary32 p half u weight p-finite tt u-finite tt h u-high) (unfold le add in tt)
+      le-trans (add binary32 p u) (add binary32 half successWeight) one
+      (add-mono binary32 p half u successWeight p-finite tt u-finite tt h u-high) (unfold le add in tt)
 
   q : Float
   q = sub binary32 one p
@@ -149,10 +149,10 @@ module _ (p ok : Float) (F : T (fits binary32 p)) (i : In (w32 0) (w32 1) p) (j 
   high-large : T (le half p) → T (le (add binary32 p u) one)
   unfolding t u q ofInt
   high-large h =
-      let w-q = mul binary32 weight q in
+      let w-q = mul binary32 successWeight q in
       let u-le : T (le u q) = le-trans u w-q q
-      (mul-mono binary32 weight t q weight-finite t-finite q-finite weight-ge (sub-mono binary32 ok one p p ok-finite tt p-finite p-finite (j .high) (le-refl p (finite-no-nan p p-finite))))
-      (shrink-high binary32 weight q weight-finite q-finite (sub-fits binary32 one p) weight-ge weight-le (q-in .low)) in
+      (mul-mono binary32 successWeight t q weight-finite t-finite q-finite weight-ge (sub-mono binary32 ok one p p ok-finite tt p-finite p-finite (j .high) (le-refl p (finite-no-nan p p-finite))))
+      (shrink-high binary32 successWeight q weight-finite q-finite (sub-fits binary32 one p) weight-ge weight-le (q-in .low)) in
       le-trans (add binary32 p u) (add binary32 p q) one
       (add-mono binary32 p p u q p-finite p-finite u-finite q-finite (le-refl p (finite-no-nan p p-finite)) u-le)
       (rounds-le binary32 (add binary32 p q) one _ _ _ (mul-pos (den-pos p) (den-pos q)) tt (unfold fits in tt) (add-rounds binary32 p q p-finite q-finite)

@@ -17,12 +17,12 @@ shifts zero c = c
 shifts (suc n) c = shifts n (shift c)
 
 -- the register after bytes
-unfoldable pub feed : ℕ → List ℕ → ℕ
+unfoldable pub feedBytes : ℕ → List ℕ → ℕ
 unfolding shifts
-feed c [] = c
-feed c (b ∷ bs) = feed (shifts 8 (bitXor c b)) bs
+feedBytes c [] = c
+feedBytes c (b ∷ bs) = feedBytes (shifts 8 (bitXor c b)) bs
 
 -- all ones at first, and the complement at the end
 unfoldable pub crc32 : List ℕ → ℕ
-unfolding feed
-crc32 bs = 4294967295 - feed 4294967295 bs
+unfolding feedBytes
+crc32 bs = 4294967295 - feedBytes 4294967295 bs

@@ -5,13 +5,13 @@ use Rattle.laws.specs.Span.{upto}
 use Rattle.frame.specs.Crc.{shifts}
 
 -- table k: each half byte after 4 (k + 1) shifts
-abbrev pub row : ℕ → List ℕ
-row k = map (shifts (4 * (k + 1))) (upto 0 16)
+abbrev pub halfByteTable : ℕ → List ℕ
+halfByteTable k = map (shifts (4 * (k + 1))) (upto 0 16)
 
 -- n tables from number k on, one after the other
 abbrev pub tables : ℕ → ℕ → List ℕ
 tables k zero = []
-tables k (suc n) = row k ++ tables (k + 1) n
+tables k (suc n) = halfByteTable k ++ tables (k + 1) n
 
 unfoldable pub tableOf : List ℕ
 tableOf = tables 0 16

@@ -4,7 +4,7 @@ ghost use mathlib.Core.Path.{_≡_};
 ghost use Prim.Native.Nat.{_+_, _*_, _%_, _≤_, _<_};
 ghost use lib.Bits.{bitXor};
 ghost use lib.ListN.{length, drop};
-ghost use Rattle.frame.specs.Crc.{shifts, feed, crc32 as crc32Of};
+ghost use Rattle.frame.specs.Crc.{shifts, feedBytes, crc32 as crc32Of};
 ghost use Rattle.frame.specs.Table.{tableOf};
 
 // Sixteen tables of 16, one after the other.
@@ -318,7 +318,7 @@ fn one(t: &[u32; 256], c: u32, b: u8) -> u32
 // The bytes from `from` on, one by one.
 fn rest(t: &[u32; 256], start: u32, bytes: &[u8], from: usize) -> u32
     requires { ⌜ (now t ≡ tableOf) × (from ≤ length (now bytes)) ⌝ }
-    ensures { λ r. ⌜ r ≡ feed start (drop from (now (bytes .entry))) ⌝ }
+    ensures { λ r. ⌜ r ≡ feedBytes start (drop from (now (bytes .entry))) ⌝ }
 {
     let mut c = start;
     let mut i = from;

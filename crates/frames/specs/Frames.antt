@@ -6,9 +6,9 @@ use Rattle.frame.specs.Frame.{frameOf, maxPayload}
 use Rattle.frames.specs.declared.slots.Slot.{Slot}
 
 -- each slot's frame of `size` bytes, with the piece's bytes out of the work area
-unfoldable pub framesOf : ℕ → List Slot → List ℕ → List ℕ
-framesOf size [] a = []
-framesOf size (x ∷ xs) a = frameOf size (x .off) (part a (x .start) (x .len)) ++ framesOf size xs a
+unfoldable pub framesWritten : ℕ → List Slot → List ℕ → List ℕ
+framesWritten size [] a = []
+framesWritten size (x ∷ xs) a = frameOf size (x .off) (part a (x .start) (x .len)) ++ framesWritten size xs a
 
 -- each slot's bytes lie within n bytes, and fit a frame
 abbrev pub Fit : ℕ → ℕ → List Slot → Type 0

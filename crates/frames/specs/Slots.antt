@@ -6,7 +6,6 @@ use lib.ListN.{length, getD, set, replicate}
 use Rattle.laws.specs.Lists.{listed}
 use Rattle.harq.specs.Held.{incrementOf}
 use Rattle.harq.specs.declared.Harq.{Harq}
-use Rattle.ledger.specs.Limits.{maxSlots}
 use Rattle.area.specs.Table.{withRows, total}
 use Rattle.area.specs.declared.table.Row.{Row}
 use Rattle.area.specs.Find.{findFrom}
@@ -14,12 +13,13 @@ use Rattle.area.specs.declared.lookup.Found.{Found}
 use Rattle.frames.specs.declared.slots.Slot.{Slot}
 use Rattle.frames.specs.declared.slots.Slots.{Slots}
 use Rattle.frames.specs.declared.slots.Added.{Added}
+use Rattle.limits.specs.Limits.{maxSlots}
 
 -- ---- arrays with a count
 
 -- `slots.push(x)`
-unfoldable pub pushed : Slots → Slot → Slots
-pushed s x = record {
+unfoldable pub slotPushed : Slots → Slot → Slots
+slotPushed s x = record {
   off = set (s .off) (s .n) (x .off);
   bits = set (s .bits) (s .n) (x .bits);
   held = set (s .held) (s .n) (x .held);
@@ -31,19 +31,19 @@ pushed s x = record {
 -- pushed one after the other
 unfoldable pub pushAll : Slots → List Slot → Slots
 pushAll s [] = s
-pushAll s (x ∷ xs) = pushAll (pushed s x) xs
+pushAll s (x ∷ xs) = pushAll (slotPushed s x) xs
 
 -- no slot
 abbrev pub noSlots : Slots
 noSlots = record { off = replicate maxSlots 0; bits = replicate maxSlots 0; held = replicate maxSlots 0; start = replicate maxSlots 0; len = replicate maxSlots 0; n = 0 }
 
-abbrev pub slotAt : Slots → ℕ → Slot
-slotAt s i = record { off = getD (s .off) i 0; bits = getD (s .bits) i 0; held = getD (s .held) i 0; start = getD (s .start) i 0; len = getD (s .len) i 0 }
+abbrev pub nthSlot : Slots → ℕ → Slot
+nthSlot s i = record { off = getD (s .off) i 0; bits = getD (s .bits) i 0; held = getD (s .held) i 0; start = getD (s .start) i 0; len = getD (s .len) i 0 }
 
 -- k slots from place i on
 abbrev pub slotsFrom : Slots → ℕ → ℕ → List Slot
 slotsFrom s i zero = []
-slotsFrom s i (suc k) = slotAt s i ∷ slotsFrom s (i + 1) k
+slotsFrom s i (suc k) = nthSlot s i ∷ slotsFrom s (i + 1) k
 
 -- ---- whole pieces
 
@@ -63,8 +63,8 @@ chunkRows (suc k) m o zero = []
 chunkRows (suc k) m o (suc w) = record { off = o; len = min m (suc w) } ∷ chunkRows k m (o + min m (suc w)) (suc w - min m (suc w))
 
 -- new rows behind the first n, of the w waiting bytes that lie from `at` on: the slots with them, how many rows there are and how many bytes went, and the work area
-unfoldable pub newPieces : List ℕ → ℕ → ℕ → ℕ → ℕ → ℕ → ℕ → ℕ → Slots → Added × List ℕ
-newPieces a n room max next at w bits s = (
+unfoldable pub addedPieces : List ℕ → ℕ → ℕ → ℕ → ℕ → ℕ → ℕ → ℕ → Slots → Added × List ℕ
+addedPieces a n room max next at w bits s = (
   record {
     slots = pushAll s (unheldSlots [] bits at (chunkRows room max next w));
     rows = n + length (chunkRows room max next w);

@@ -5,16 +5,16 @@ use area::table::Row;
 use area::table::load_row;
 use area::table::store_row;
 use harq::Harq;
-use harq::MAX_SLOTS;
+use limits::MAX_SLOTS;
 ghost use mathlib.Core.Path.{_≡_};
 ghost use Prim.Native.Nat.{ℕ, _+_, _≤_, _<_, min};
 ghost use lib.ListN.{length, take, getD};
 ghost use Rattle.harq.specs.Held.{incrementOf};
-ghost use Rattle.ledger.specs.Limits.{maxPieces, maxSlots, maxHeld, maxTaken};
 ghost use Rattle.area.specs.Layout.{areaBytes, streamBytes};
 ghost use Rattle.area.specs.Table.{rowsFrom, total};
-ghost use Rattle.area.specs.Flight.{Marked};
-ghost use Rattle.frames.specs.Slots.{pushAll, incrementSlots, unheldSlots, newPieces};
+ghost use Rattle.area.specs.Removal.{Marked};
+ghost use Rattle.frames.specs.Slots.{pushAll, incrementSlots, unheldSlots, addedPieces};
+ghost use Rattle.limits.specs.Limits.{maxPieces, maxSlots, maxHeld, maxTaken};
 
 // A frame: the piece's offset, the bits that go, the bits that the peer then holds, and where the bytes lie in the stream.
 pub struct Slot {
@@ -135,7 +135,7 @@ pub fn new_pieces(
     given: Slots,
 ) -> Added
     requires { ⌜ (n + room ≤ maxPieces) × (areaBytes ≤ length (now a)) × (given .n + room ≤ maxSlots) × (1 ≤ max) × (next + w ≤ maxTaken) × (at + w ≤ streamBytes) ⌝ }
-    ensures { λ r. ⌜ (r, now (a .exit)) ≡ newPieces (now (a .entry)) n room max next at w bits given ⌝ }
+    ensures { λ r. ⌜ (r, now (a .exit)) ≡ addedPieces (now (a .entry)) n room max next at w bits given ⌝ }
 {
     let mut s = given;
     let mut left = room;

@@ -15,7 +15,7 @@ use Rattle.config.specs.declared.Marks.{Marks}
 use Rattle.config.specs.declared.Profile.{Profile}
 use Rattle.laws.specs.Span.{upto, fold}
 use Rattle.level.specs.Ladder.{waveRank, longFrame}
-use Rattle.levels.specs.Ladders.{airDb, heeded, familyOk, usableBelow}
+use Rattle.levels.specs.Usable.{airDb, heeded, familyOk, usableBelow}
 use Rattle.levels.specs.Rates.{levelRate}
 use Rattle.gear.specs.declared.goodput.Best.{Best}
 use Rattle.levels.specs.declared.memory.Tries.{Tries}

@@ -8,7 +8,7 @@ use Rattle.ieee.specs.Range.{w32}
 use Rattle.config.specs.declared.Marks.{Marks}
 use Rattle.config.specs.declared.Profile.{Profile}
 use Rattle.level.specs.Ladder.{waveRank}
-use Rattle.levels.specs.Ladders.{airDb, heeded, familyOk}
+use Rattle.levels.specs.Usable.{airDb, heeded, familyOk}
 use Rattle.levels.specs.declared.memory.Tries.{Tries}
 use Rattle.levels.specs.declared.rates.Pace.{Pace}
 use Rattle.levels.specs.Paces.{paceRate}

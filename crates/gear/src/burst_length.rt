@@ -8,7 +8,7 @@ ghost use mathlib.Core.Bool.{false};
 ghost use Prim.Native.Nat.{_<_};
 ghost use lib.Ieee.{inf};
 ghost use Rattle.config.specs.Ranged.{Ranged};
-ghost use Rattle.gear.specs.Bursts.{cleanBurst, burstLen, nextEntry, steady, far, adapted};
+ghost use Rattle.gear.specs.BurstLength.{cleanBurst, burstLen, nextEntry, steady, far, adapted};
 
 // f32::INFINITY
 fn infinity() -> f32

@@ -14,7 +14,7 @@ use report::ChanClass;
 ghost use mathlib.Core.Path.{_≡_};
 ghost use Prim.Native.Nat.{_<_};
 ghost use Rattle.config.specs.Ranged.{Ranged};
-ghost use Rattle.gear.specs.Meeting.{startLevel, connected, turned, onTurn};
+ghost use Rattle.gear.specs.OtherReplies.{startLevel, connected, atTurn, onTurn};
 
 // The level after a connect answer: what the report less start_margin_db allows, and without that margin the floor.
 fn start_level(g: Gear, cfg: Profile, aim: f32, now: f64) -> usize
@@ -72,7 +72,7 @@ pub fn connect(
 
 // No faster than the turn reached us, and from the usual burst length again.
 fn turn(mut g: Gear, cfg: Profile, w: u8) -> Gear
-    ensures { λ r. ⌜ r ≡ turned cfg g w ⌝ }
+    ensures { λ r. ⌜ r ≡ atTurn cfg g w ⌝ }
 {
     let l = smaller(g.level, level::top_level_in(w));
     g.level = l;

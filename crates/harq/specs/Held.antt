@@ -3,6 +3,7 @@ use mathlib.Core.Bool.{cond, _&&_, _||_}
 use mathlib.Core.List.{List, [], _∷_}
 use Prim.Native.Nat.{ℕ, _+_, _-_, _*_, _%_, min}
 use lib.Dec.{ltb, eqb}
+use Rattle.limits.specs.Limits.{partialMax}
 use Rattle.harq.specs.declared.Harq.{Harq}
 
 -- the rate ends above h
@@ -35,13 +36,6 @@ startOf q h = h % q .mother
 -- H_MAX: a piece is held only while its bits are below twice the mother length
 abbrev pub hMax : Harq → ℕ
 hMax q = 2 * q .mother
-
--- MAX_SLOTS, and the most that the partial field counts (PARTIAL_MAX)
-abbrev pub maxSlots : ℕ
-maxSlots = 64
-
-abbrev pub partialMax : ℕ
-partialMax = 62
 
 -- the partial field: 0 where parity = stored, else min(parity, 62) + 1
 unfoldable pub partialField : ℕ → ℕ → ℕ

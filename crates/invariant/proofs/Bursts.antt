@@ -10,7 +10,6 @@ use Rattle.laws.proofs.Little.{Bytes}
 use Rattle.config.specs.declared.Profile.{Profile}
 use Rattle.config.specs.Ranged.{Ranged}
 use Rattle.config.specs.Ranges.{inOrder}
-use Rattle.ledger.specs.Limits.{Sizes, SizeRange}
 use Rattle.ledger.specs.Ledger as L
 use Rattle.ledger.specs.Ledger.{Piece, Plan, bytesOf, dataBurst}
 use Rattle.ledger.specs.Sound.{Fits}
@@ -23,12 +22,13 @@ use Rattle.record.specs.Profiles.{sizesOf}
 use Rattle.record.specs.View.{view, store, storeArea}
 use Rattle.record.specs.declared.Sender.{Sender}
 use Rattle.outgoing.specs.Choosing.{choice}
-use Rattle.outgoing.specs.Outgoing.{after, withAirtime}
+use Rattle.outgoing.specs.Outgoing.{after, countedAir}
 use Rattle.outgoing.proofs.Choices.{choice-ranged, choice-long}
-use Rattle.replies.specs.Answers.{Answerable}
+use Rattle.replies.specs.Replies.{ReplyReady}
 use Rattle.soundness.proofs.fields.Sound.{profile-sizes, sound-level, sound-settling}
 use Rattle.invariant.proofs.Ledgers.{Kept, PieceBytes, bytes-append, bytes-of}
 use Rattle.invariant.proofs.Well.{Well, well-gear, well-kept, stored-well}
+use Rattle.ledger.specs.Sizes.{Sizes, SizeRange}
 
 -- ---- bytes: a burst moves none
 
@@ -56,7 +56,7 @@ burst-kept z zr l g fit k =
 
 module _ (p : Profile) where
   -- the airtime alone is other: no test reads it
-  airtime-well : (s : Sender) (a : List ℕ) (q : Sender) (b : List ℕ) → Well p q b → Well p (withAirtime p s a q) b
+  airtime-well : (s : Sender) (a : List ℕ) (q : Sender) (b : List ℕ) → Well p q b → Well p (countedAir p s a q) b
   unfolding view
   airtime-well s a q b w =
       let so = w .sound in
@@ -73,7 +73,7 @@ module _ (p : Profile) where
   choice-fits rg s a w six = planned-fits (sizesOf p) (choice p s) (view s a) (w .sound .ledger) (choice-ranged p rg s (sound-level p s a (w .sound)) six)
 
   -- what `burstOf` leaves
-  pub bursted-well : Ranged p → inOrder p ≡ true → (s : Sender) (a : List ℕ) → Well p s a → length (p .codes .ends) ≤ 6 → Well p (withAirtime p s a (store (after p s a) s)) (storeArea (after p s a) a)
+  pub bursted-well : Ranged p → inOrder p ≡ true → (s : Sender) (a : List ℕ) → Well p s a → length (p .codes .ends) ≤ 6 → Well p (countedAir p s a (store (after p s a) s)) (storeArea (after p s a) a)
   bursted-well rg io s a w six =
       let zr = profile-sizes p rg io in
       let k = burst-kept (sizesOf p) zr (view s a) (planOf (sizesOf p) (choice p s) (view s a)) (choice-fits rg s a w six) (well-kept p s a w) in
@@ -86,5 +86,5 @@ module _ (p : Profile) where
       keeps-air (sizesOf p) (choice p s) (view s a) (w .sound .ledger) (choice-ranged p rg s l six) (choice-long p rg s l)
 
   -- what replies ask of the record
-  pub well-answerable : (s : Sender) (a : List ℕ) → Well p s a → Answerable p s a
+  pub well-answerable : (s : Sender) (a : List ℕ) → Well p s a → ReplyReady p s a
   well-answerable s a w = record { level = sound-level p s a (w .sound); settling = sound-settling p s a (w .sound) (w .arrays); sound = w .sound .ledger }

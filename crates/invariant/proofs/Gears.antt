@@ -6,7 +6,7 @@ use lib.Dec.{T, eqb}
 use lib.ListN.{getD}
 use lib.Ieee.{Float, nan, sub, binary32, le, lt, eq}
 use Rattle.ieee.specs.Range.{In, w32, w64}
-use Rattle.float.specs.Gear.{lossOf, weight, most}
+use Rattle.float.specs.Gear.{lossOf, successWeight, wholeLoss}
 use Rattle.laws.proofs.Picks.{either}
 use Rattle.laws.proofs.Span.{fold-keep}
 use Rattle.config.specs.declared.Profile.{Profile}
@@ -15,17 +15,16 @@ use Rattle.report.specs.declared.ChanClass.{ChanClass}
 use Rattle.levels.specs.declared.memory.Tries.{Tries}
 use Rattle.levels.specs.Memory.{pushed, noted, failed, cleared, hits, marked, channelFailed}
 use Rattle.gear.specs.declared.goodput.Gear.{Gear}
-use Rattle.gear.specs.Setters.{withTries, withBurst}
-use Rattle.gear.specs.Bursts.{adapted}
+use Rattle.gear.specs.Setters.{withTries, withBurst, withClass}
+use Rattle.gear.specs.BurstLength.{adapted}
 use Rattle.gear.specs.declared.Outcome.{Outcome}
-use Rattle.gear.specs.Judging.{aimed, capped, incrementsOnly, blamed, counted, byGoodput, worthKeeping, held, byLadder, judged, arrived, onAck}
-use Rattle.gear.specs.Meeting.{connected, turned, missed, onTurn}
+use Rattle.gear.specs.Judging.{aimed, capped, incrementsOnly, blamed, failuresCounted, byGoodput, worthKeeping, held, byLadder, judged, arrived, onAck}
+use Rattle.gear.specs.OtherReplies.{connected, atTurn, unmatchedOutcome, onTurn}
 use Rattle.gear_laws.specs.Sound as G
 use Rattle.gear_laws.specs.Sound.{Counts, Report, Time}
 use Rattle.gear_laws.proofs.SoundLaws.{kept-by-set, on-ack-sound, connected-sound, on-turn-sound}
-use Rattle.replies.specs.Answers.{withClass}
-use Rattle.soundness.specs.Checked.{SoundGear}
-use Rattle.invariant.specs.Keeping.{TypedGear}
+use Rattle.soundness.specs.Soundness.{SoundGear}
+use Rattle.invariant.specs.Invariant.{TypedGear}
 
 -- ---- success times
 
@@ -56,10 +55,10 @@ module _ (at : ℕ) (now : Float) (n : Past now) where
   unfolding channelFailed
   channel-times t s = fold-keep Times (marked at now) t 0 17 (λ k x h q. marked-times k x q) s
 
-  counted-times : (loss : Float) (channel : Bool) (t : Tries) → Times t → Times (counted at loss channel now t)
-  unfolding counted
+  counted-times : (loss : Float) (channel : Bool) (t : Tries) → Times t → Times (failuresCounted at loss channel now t)
+  unfolding failuresCounted
   counted-times loss channel t s =
-      either Times (lt most loss) _ _ (either Times channel _ _ (channel-times (failed t at) (failed-times t s)) (failed-times t s))
+      either Times (lt wholeLoss loss) _ _ (either Times channel _ _ (channel-times (failed t at) (failed-times t s)) (failed-times t s))
       (either Times (eq loss (w32 0)) _ _ (cleared-times t s) s)
 
 -- ---- transitions: success times, and the count of reports
@@ -83,11 +82,11 @@ module _ (p : Profile) (now : Float) (n : Past now) where
   held-dated : (at : ℕ) (loss snr : Float) (g : Gear) → Dated g → Dated (held p at loss snr now g)
   unfolding held
   held-dated at loss snr g d =
-      either Dated (lt most loss) _ _ (d .0, failed-times at now n (g .tries) (d .1)) (either Dated (lt weight loss) _ _ d (d .0, cleared-times at now n (g .tries) (d .1)))
+      either Dated (lt wholeLoss loss) _ _ (d .0, failed-times at now n (g .tries) (d .1)) (either Dated (lt successWeight loss) _ _ d (d .0, cleared-times at now n (g .tries) (d .1)))
 
   ladder-dated : (at : ℕ) (loss snr : Float) (g : Gear) → Dated g → Dated (byLadder p at loss snr now g)
   unfolding byLadder
-  ladder-dated at loss snr g d = either Dated (lt weight loss && worthKeeping p g at now) _ _ d (held-dated at loss snr g d)
+  ladder-dated at loss snr g d = either Dated (lt successWeight loss && worthKeeping p g at now) _ _ d (held-dated at loss snr g d)
 
   judged-dated : (at : ℕ) (loss snr : Float) (g : Gear) → Dated g → Dated (judged p at loss snr now g)
   unfolding judged adapted
@@ -104,8 +103,8 @@ module _ (p : Profile) (now : Float) (n : Past now) where
       (either Dated (not (o .fresh) && o .matched) _ _ (increments-dated (aimed p g snr) e) (judged-dated (g .level) (lossOf (arrived o) (o .sent)) snr (aimed p g snr) e))
 
   turn-dated : (g : Gear) (o : Outcome) (snr : Float) (w : ℕ) → Dated g → Dated (onTurn p g o snr w now)
-  unfolding onTurn turned
-  turn-dated g o snr w d = either Dated (o .empty) g _ d (ack-dated g (missed o) snr d)
+  unfolding onTurn atTurn
+  turn-dated g o snr w d = either Dated (o .empty) g _ d (ack-dated g (unmatchedOutcome o) snr d)
 
 -- ---- typed and sound
 

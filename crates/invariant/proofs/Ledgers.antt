@@ -12,10 +12,9 @@ use Rattle.laws.specs.Little.{le}
 use Rattle.laws.proofs.Bytes.{length-over}
 use Rattle.laws.proofs.Little.{Bytes, bytes-take, bytes-drop, bytes-part}
 use Rattle.laws.proofs.Picks.{either}
-use Rattle.ledger.specs.Limits.{Sizes, SizeRange}
 use Rattle.ledger.specs.Reply.{Reply}
 use Rattle.ledger.specs.Ledger as L
-use Rattle.ledger.specs.Ledger.{Piece, Sent, bytesOf, remove, remaining, settles, settleBurst, clearBurst, queue, onAck}
+use Rattle.ledger.specs.Ledger.{Piece, Sent, bytesOf, remove, remaining, settles, settleBurst, clearBurst, queue, hearAck}
 use Rattle.ledger.specs.Sound.{Sound}
 use Rattle.ledger.specs.Calls.{Allowed, queues, hears, turns}
 use Rattle.ledger.proofs.Kept.{step-sound}
@@ -29,6 +28,7 @@ use Rattle.pieces.proofs.Room.{ascend-small}
 use Rattle.record.specs.View.{view, rowsOf, storeArea, storeHeld, storeSent, store}
 use Rattle.record.specs.declared.Sender.{Sender}
 use Rattle.record.proofs.View.{Fits, Holds, Arrays}
+use Rattle.ledger.specs.Sizes.{Sizes, SizeRange}
 
 -- ---- room
 
@@ -122,8 +122,8 @@ store-bytes z l a by k =
     (bytes-over a 0 st by (bytes-append (bytesOf (l .pieces)) (l .waiting) (bytes-of (l .pieces) (k .pieces)) (k .waiting))) (bytes-table (rowsOf (l .pieces)))
 
 module _ (z : Sizes) (zr : SizeRange z) (l : L.Sender) (k : Kept z l) where
-  pub on-ack-kept : (r : Reply) (keep : Bool) → Kept z (onAck (z .top) r keep l)
-  unfolding onAck settleBurst clearBurst
+  pub on-ack-kept : (r : Reply) (keep : Bool) → Kept z (hearAck (z .top) r keep l)
+  unfolding hearAck settleBurst clearBurst
   on-ack-kept r keep =
       record {
         sound = step-sound z zr (hears r keep) l tt (k .sound);

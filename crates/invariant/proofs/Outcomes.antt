@@ -8,13 +8,13 @@ use lib.ListN.{length}
 use borrow.Author.Tests.{eqb-false, ltb-true}
 use Rattle.laws.specs.Lists.{one}
 use Rattle.laws.proofs.Picks.{by, test}
-use Rattle.ledger.specs.Limits.{maxSlots}
 use Rattle.ledger.specs.Reply.{Reply}
 use Rattle.ledger.specs.Ledger as L
 use Rattle.ledger.specs.Ledger.{Sent}
 use Rattle.gear_laws.specs.Sound.{Counts}
 use Rattle.settle.specs.Outcomes.{isFresh, freshSent, freshGot, allGot, outcomeOf}
 use Rattle.settle.proofs.outcome.Counts.{one-few}
+use Rattle.limits.specs.Limits.{maxSlots}
 
 one-both : (a b : Bool) → one (a && b) ≤ one a
 one-both true b = one-few b

@@ -25,7 +25,6 @@ use Rattle.config.specs.Ranged.{Ranged}
 use Rattle.config.specs.Ranges.{inOrder}
 use Rattle.gear.specs.Setters.{withBurst}
 use Rattle.gear_laws.specs.Sound.{Counts, Report, Time}
-use Rattle.ledger.specs.Limits.{SizeRange, maxNumber}
 use Rattle.ledger.specs.Reply.{Reply, shortAck, longAck}
 use Rattle.ledger.specs.Ledger.{settles, queue}
 use Rattle.ledger.specs.Calls.{Allowed, queues}
@@ -34,20 +33,22 @@ use Rattle.record.specs.View.{view, store, storeArea}
 use Rattle.record.specs.declared.Link.{Link}
 use Rattle.record.specs.declared.Sender.{Sender}
 use Rattle.settle.specs.Outcomes.{outcomeOf}
-use Rattle.settle.specs.Replies.{keeps, ackIn}
+use Rattle.settle.specs.AckIn.{keeps, ackIn}
 use Rattle.replies.specs.declared.Heard.{Heard}
 use Rattle.replies.specs.declared.ConnAck.{ConnAck}
 use Rattle.replies.specs.declared.Ack.{Ack}
 use Rattle.replies.specs.declared.LongAck.{LongAck}
 use Rattle.replies.specs.declared.Turn.{Turn}
-use Rattle.replies.specs.Answers.{noted, longDb, shortAcked, longAcked, turnDb, nothingHeard, turned, connectedTo}
-use Rattle.soundness.specs.Checked.{SoundLink}
+use Rattle.replies.specs.Replies.{ackNoted, longDb, shortAcked, longAcked, turnDb, nothingHeard, turned, connectedTo}
+use Rattle.soundness.specs.Soundness.{SoundLink}
 use Rattle.soundness.proofs.fields.Sound.{profile-sizes}
-use Rattle.invariant.specs.Keeping.{AckIn, LongAckIn, TurnIn, ConnAckIn}
+use Rattle.invariant.specs.Invariant.{AckIn, LongAckIn, TurnIn, ConnAckIn}
 use Rattle.invariant.proofs.Gears.{class-well, burst-well, ack-gear-well, connected-gear-well, turn-gear-well}
 use Rattle.invariant.proofs.Outcomes.{outcome-counts}
 use Rattle.invariant.proofs.Ledgers.{on-ack-kept, clear-kept, queue-kept}
 use Rattle.invariant.proofs.Well.{Well, well-gear, well-kept, given-well, stored-well}
+use Rattle.limits.specs.Limits.{maxNumber}
+use Rattle.ledger.specs.Sizes.{SizeRange}
 
 -- the record and the work area that a reply leaves
 abbrev pub WellBoth : Profile → Sender × List ℕ → Type 0
@@ -79,7 +80,7 @@ module _ (p : Profile) (rg : Ranged p) (io : inOrder p ≡ true) where
         notAbove = k .notAbove;
       })
 
-  noted-sound : (k : Link) (now : Float) (turn disc : Bool) (n : ℕ) → Time now → n ≤ maxNumber → SoundLink k → SoundLink (noted k now turn disc n)
+  noted-sound : (k : Link) (now : Float) (turn disc : Bool) (n : ℕ) → Time now → n ≤ maxNumber → SoundLink k → SoundLink (ackNoted k now turn disc n)
   noted-sound k now turn disc n t h s = record { time = t; number = s .number; heard = h; slot = s .slot; wave = s .wave; notBelow = s .notBelow; notAbove = s .notAbove }
 
   pub short-well : (h : Heard) (r : Ack) (s : Sender) (a : List ℕ) → AckIn h r → Well p s a → WellBoth p (shortAcked p h r s a)

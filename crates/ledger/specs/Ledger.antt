@@ -38,8 +38,8 @@ pub record Sender : Type 0 where
   pub number : ℕ
 
 -- `Station::new`
-abbrev pub fresh : Sender
-fresh = record { waiting = []; next = 0; acked = 0; pieces = []; held = []; rest = []; sent = []; awaited = false; number = 0 }
+abbrev pub freshLedger : Sender
+freshLedger = record { waiting = []; next = 0; acked = 0; pieces = []; held = []; rest = []; sent = []; awaited = false; number = 0 }
 
 abbrev pub len : Piece → ℕ
 len p = length (p .bytes)
@@ -274,5 +274,5 @@ abbrev pub settles : Reply → Sender → Bool
 settles r s = eqb (r .number) (s .number) && ltb 0 (length (s .sent))
 
 -- "An ack not awaited updates only the turn and disconnect wishes and the number last heard"
-unfoldable pub onAck : ℕ → Reply → Bool → Sender → Sender
-onAck top r keep s = cond (s .awaited) (cond (settles r s) (settleBurst top r keep s) (clearBurst s)) s
+unfoldable pub hearAck : ℕ → Reply → Bool → Sender → Sender
+hearAck top r keep s = cond (s .awaited) (cond (settles r s) (settleBurst top r keep s) (clearBurst s)) s

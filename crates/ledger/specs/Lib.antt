@@ -1,4 +1,4 @@
-pub mod Limits
+pub mod Sizes
 pub mod Reply
 pub mod Ledger
 pub mod LeftOut

@@ -5,7 +5,7 @@ use lib.ListN.{getD, set}
 use lib.Dec.{ltb, leb, eqb}
 use lib.Ieee.{Float, nan, binary32, sub, mul, lt}
 use Rattle.ieee.specs.Range.{w32}
-use Rattle.float.specs.Gear.{weight, share}
+use Rattle.float.specs.Gear.{successWeight, share}
 use Rattle.float.specs.Pick.{minF, maxF}
 use Rattle.float.specs.Total.{medianF}
 use Rattle.laws.specs.Span.{upto, fold, count}
@@ -47,7 +47,7 @@ hits at k = leb 3 (waveRank k) && not (eqb k at) && (eqb (waveRank k) (waveRank 
 
 -- p * (1 - SUCCESS_WEIGHT), or 0
 unfoldable pub faded : Bool → Float → Float
-faded tried p = cond tried (mul binary32 p (sub binary32 (w32 1) weight)) (w32 0)
+faded tried p = cond tried (mul binary32 p (sub binary32 (w32 1) successWeight)) (w32 0)
 
 unfoldable pub marked : ℕ → Float → Tries → ℕ → Tries
 marked at now t k =

@@ -10,7 +10,7 @@ use Rattle.float.specs.Floor.{floorF, countOf}
 use Rattle.level.specs.Ladder.{longFrame}
 use Rattle.config.specs.declared.Profile.{Profile}
 use Rattle.levels.specs.declared.rates.Pace.{Pace}
-use Rattle.levels.specs.Rates.{thousandth, framesOf}
+use Rattle.levels.specs.Rates.{thousandth, framesPerBurst}
 
 -- the numbers are in the ranges of a profile
 pub record Paced (q : Pace) : Type 0 where
@@ -46,6 +46,6 @@ unfoldable pub paceRate : Pace → ℕ → Bool → Float
 paceRate q l cue =
     let one = paceS q (q .slot) cue in
     let two = paceS q (2 * q .slot) cue in
-    let frames = framesOf (q .usual) one two in
+    let frames = framesPerBurst (q .usual) one two in
     let burst = paceS q (countOf frames * q .slot) cue in
     div binary64 (mul binary64 (maxF (floorF frames) (w64 1)) (w64 (paceBits q l))) (maxF burst thousandth)

@@ -18,8 +18,8 @@ abbrev pub thousandth : Float
 thousandth = ofBits binary64 0x3f50_624d_d2f1_a9fc
 
 -- (max_burst_s - fixed) / frame.max(1e-3)
-unfoldable pub framesOf : Float → Float → Float → Float
-framesOf burst one two =
+unfoldable pub framesPerBurst : Float → Float → Float → Float
+framesPerBurst burst one two =
     let frame = sub binary64 two one in
     let fixed = sub binary64 one frame in
     div binary64 (sub binary64 burst fixed) (maxF frame thousandth)
@@ -30,6 +30,6 @@ levelRate p l cue =
     let slot = slotAt (p .air) l in
     let one = dataS (p .air) l slot cue in
     let two = dataS (p .air) l (2 * slot) cue in
-    let frames = framesOf (p .lengths .«max_burst_s») one two in
+    let frames = framesPerBurst (p .lengths .«max_burst_s») one two in
     let burst = dataS (p .air) l (countOf frames * slot) cue in
     div binary64 (mul binary64 (maxF (floorF frames) (w64 1)) (w64 (payloadBits p l))) (maxF burst thousandth)

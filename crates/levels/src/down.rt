@@ -5,7 +5,7 @@ use level::FLOOR;
 use report::ChanClass;
 ghost use mathlib.Core.Path.{_≡_};
 ghost use Prim.Native.Nat.{_<_};
-ghost use Rattle.levels.specs.Ladders.{allowedBelow, lowestLong, nthBelow, stepDown};
+ghost use Rattle.levels.specs.Usable.{allowedBelow, lowestLong, nthBelow, stepDown};
 
 // The highest level below `at` whose waveform the class allows, or the floor.
 fn allowed_below(class: ChanClass, at: usize) -> usize

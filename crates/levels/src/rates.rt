@@ -3,7 +3,7 @@ use config::Profile;
 ghost use mathlib.Core.Path.{_≡_};
 ghost use Prim.Native.Nat.{_<_};
 ghost use Rattle.config.specs.Ranged.{Ranged};
-ghost use Rattle.levels.specs.Rates.{framesOf, levelRate};
+ghost use Rattle.levels.specs.Rates.{framesPerBurst, levelRate};
 ghost use Rattle.levels.specs.Paces.{Paced, paceS, paceBits, paceRate};
 
 // What a level's rate goes by: the seconds of a usual burst, pre_s + bits / rate seconds for a burst at the level, those of a
@@ -20,7 +20,7 @@ pub struct Pace {
 
 // How many frames, as a fraction, go into a burst of about `usual` seconds: `one` is the seconds of a burst of one frame, `two` of one of two.
 fn frames_of(usual: f64, one: f64, two: f64) -> f64
-    ensures { λ r. ⌜ r ≡ framesOf usual one two ⌝ }
+    ensures { λ r. ⌜ r ≡ framesPerBurst usual one two ⌝ }
 {
     let frame = two - one;
     let fixed = one - frame;

@@ -6,7 +6,7 @@ use level::FLOOR;
 use report::ChanClass;
 ghost use mathlib.Core.Path.{_≡_};
 ghost use Prim.Native.Nat.{_<_, min, max};
-ghost use Rattle.levels.specs.Ladders.{enough, levelFor};
+ghost use Rattle.levels.specs.Usable.{enough, levelFor};
 
 // Whether an SNR, moved to what level l would see, is enough for it.
 fn enough(marks: Marks, power: u8, class: ChanClass, l: usize, snr_db: f32) -> bool

@@ -1,7 +1,7 @@
 // Which levels may be used: channel class, holds, steps up and down.
 ghost use mathlib.Core.Path.{_≡_};
 ghost use Prim.Native.Nat.{_<_};
-ghost use Rattle.levels.specs.Ladders.{airDb, heeded, familyOk, passes, usable, usableBelow, climbs, climbAbove};
+ghost use Rattle.levels.specs.Usable.{airDb, heeded, familyOk, passes, usable, usableBelow, climbs, climbAbove};
 use config::MaybeLevel;
 use level::FLOOR;
 use report::ChanClass;

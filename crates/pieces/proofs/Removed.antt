@@ -9,7 +9,7 @@ use lib.Seq.{take-at, drop-at}
 use Rattle.laws.specs.Lists.{listed}
 use Rattle.area.specs.declared.table.Row.{Row}
 use Rattle.area.specs.Table.{total}
-use Rattle.area.specs.Flight.{keptRows, keptBytes}
+use Rattle.area.specs.Removal.{keptRows, keptBytes}
 use Rattle.ledger.specs.Ledger.{Piece}
 use Rattle.pieces.specs.Pieces.{piecesOf, unlistedPieces}
 use Rattle.pieces.proofs.Sound.{head-length}

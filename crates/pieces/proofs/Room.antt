@@ -16,7 +16,6 @@ use Rattle.area.specs.Table.{rowAt, rowsFrom, total, Small}
 use Rattle.area.specs.Recut.{splitRows}
 use Rattle.frames.specs.Slots.{incrementSlots}
 use Rattle.frames.proofs.slots.Laws.{increments-length}
-use Rattle.ledger.specs.Limits.{Sizes, SizeRange, maxPieces, maxSlots, maxTaken}
 use Rattle.ledger.specs.Ledger.{Piece, Plan, Sender, end, heldOffs, unheld, split, kept, recut, oldOffs, newPieces, dataBurst}
 use Rattle.ledger.specs.Cover.{Ascend, shortFrames}
 use Rattle.ledger.specs.Sound.{Sound, Fits}
@@ -31,6 +30,8 @@ use Rattle.pieces.proofs.Sound.{head-length, length-pieces}
 use Rattle.pieces.proofs.Lists.{held-length}
 use Rattle.pieces.proofs.Recut.{split-pieces}
 use Rattle.pieces.proofs.Burst.{burst-old-count}
+use Rattle.limits.specs.Limits.{maxPieces, maxSlots, maxTaken}
+use Rattle.ledger.specs.Sizes.{Sizes, SizeRange}
 
 -- ---- u32 fields
 

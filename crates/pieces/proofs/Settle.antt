@@ -13,7 +13,7 @@ use Rattle.laws.specs.Lists.{listed}
 use Rattle.laws.proofs.Picks.{by, by₂}
 use Rattle.area.specs.declared.table.Row.{Row}
 use Rattle.area.specs.Table.{total, Small}
-use Rattle.area.specs.Flight.{keptRows, keptBytes}
+use Rattle.area.specs.Removal.{keptRows, keptBytes}
 use Rattle.ledger.specs.Ledger.{Piece, Sent, end, size, remove, remaining, ackedBytes}
 use Rattle.ledger.specs.Cover.{Ascend}
 use Rattle.ledger.proofs.Offsets.{ascend-remove}

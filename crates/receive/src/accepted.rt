@@ -13,8 +13,8 @@ use report::ack::AckRead;
 ghost use mathlib.Core.Path.{_≡_};
 ghost use Rattle.report.specs.Ack.{ackOf};
 ghost use Rattle.config.specs.Ranged.{Ranged};
-ghost use Rattle.replies.specs.Answers.{Answerable};
-ghost use Rattle.receive.specs.Answering.{longRead, answered};
+ghost use Rattle.replies.specs.Replies.{ReplyReady};
+ghost use Rattle.receive.specs.Accepted.{longRead, acceptedReply};
 
 // A long ack, by what AckInfo::from_bytes reads of its payload.
 pub fn hear_payload(
@@ -25,7 +25,7 @@ pub fn hear_payload(
     r: LongAck,
     payload: &[u8],
 ) -> Sender
-    requires { ⌜ Ranged p ⌝ ∗ ⌜ Answerable p s (now a) ⌝ }
+    requires { ⌜ Ranged p ⌝ ∗ ⌜ ReplyReady p s (now a) ⌝ }
     ensures { λ q. ⌜ (q, now (a .exit)) ≡ longRead p h r (ackOf (now (payload .entry))) s (now (a .entry)) ⌝ }
 {
     let i = AckInfo::from_bytes(payload);
@@ -37,8 +37,8 @@ pub fn hear_payload(
 
 // A reply that is accepted.
 pub fn answer(p: Profile, s: Sender, a: &mut [u8], h: Heard, r: Reply, payload: &[u8]) -> Sender
-    requires { ⌜ Ranged p ⌝ ∗ ⌜ Answerable p s (now a) ⌝ }
-    ensures { λ q. ⌜ (q, now (a .exit)) ≡ answered p h r (now (payload .entry)) s (now (a .entry)) ⌝ }
+    requires { ⌜ Ranged p ⌝ ∗ ⌜ ReplyReady p s (now a) ⌝ }
+    ensures { λ q. ⌜ (q, now (a .exit)) ≡ acceptedReply p h r (now (payload .entry)) s (now (a .entry)) ⌝ }
 {
     match r {
         Reply::ConnAck(c) => hear_connect(p, s, h, c),

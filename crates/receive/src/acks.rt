@@ -12,11 +12,12 @@ use report::ack::AckInfo;
 use settle::outcome::bits_for;
 ghost use mathlib.Core.Path.{_≡_};
 ghost use Rattle.config.specs.Ranged.{Ranged};
-ghost use Rattle.replies.specs.Answers.{noted, withClass, longDb, Answerable, shortAcked, longAcked};
+ghost use Rattle.replies.specs.Replies.{ackNoted, longDb, ReplyReady, shortAcked, longAcked};
+ghost use Rattle.gear.specs.Setters.{withClass};
 
 // The wishes, the number last heard, and the time.
 fn note(k: Link, time: f64, turn: bool, disc: bool, number: u8) -> Link
-    ensures { λ r. ⌜ r ≡ noted k time turn disc number ⌝ }
+    ensures { λ r. ⌜ r ≡ ackNoted k time turn disc number ⌝ }
 {
     let mut q = k;
     q.last_time = time;
@@ -47,7 +48,7 @@ fn long_db(p: Profile, i: AckInfo) -> f32
 
 // A short ack. One that is not awaited leaves only its wishes, its number and its time.
 pub fn hear_short(p: Profile, s: Sender, a: &mut [u8], h: Heard, r: Ack) -> Sender
-    requires { ⌜ Ranged p ⌝ ∗ ⌜ Answerable p s (now a) ⌝ }
+    requires { ⌜ Ranged p ⌝ ∗ ⌜ ReplyReady p s (now a) ⌝ }
     ensures { λ q. ⌜ (q, now (a .exit)) ≡ shortAcked p h r s (now (a .entry)) ⌝ }
 {
     let k = note(s.link, h.time, r.want_turn, r.want_disc, r.burst);
@@ -74,7 +75,7 @@ pub fn hear_short(p: Profile, s: Sender, a: &mut [u8], h: Heard, r: Ack) -> Send
 
 // A long ack, as AckInfo::from_bytes read it.
 pub fn hear_long(p: Profile, s: Sender, a: &mut [u8], h: Heard, r: LongAck, i: AckInfo) -> Sender
-    requires { ⌜ Ranged p ⌝ ∗ ⌜ Answerable p s (now a) ⌝ }
+    requires { ⌜ Ranged p ⌝ ∗ ⌜ ReplyReady p s (now a) ⌝ }
     ensures { λ q. ⌜ (q, now (a .exit)) ≡ longAcked p h r i s (now (a .entry)) ⌝ }
 {
     let k = note(s.link, h.time, r.want_turn, r.want_disc, i.burst);

@@ -9,7 +9,7 @@ ghost use mathlib.Core.Path.{_≡_};
 ghost use Prim.Native.Nat.{_<_};
 ghost use Rattle.config.specs.Ranged.{Ranged};
 ghost use Rattle.settle.specs.Settle.{Settling};
-ghost use Rattle.settle.specs.Replies.{ackedBy};
+ghost use Rattle.settle.specs.AckIn.{ackedBy};
 
 // ack_in: an ack that is awaited.
 pub fn ack_in(

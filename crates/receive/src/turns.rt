@@ -10,9 +10,9 @@ use settle::outcome::clear_burst;
 use settle::outcome::outcome;
 ghost use mathlib.Core.Path.{_≡_};
 ghost use Prim.Native.Nat.{_≤_, _<_};
-ghost use Rattle.ledger.specs.Limits.{maxSlots};
 ghost use Rattle.config.specs.Ranged.{Ranged};
-ghost use Rattle.replies.specs.Answers.{turnDb, turnedTo, connectedTo};
+ghost use Rattle.replies.specs.Replies.{turnDb, turnedTo, connectedTo};
+ghost use Rattle.limits.specs.Limits.{maxSlots};
 
 fn turn_db(h: Heard, r: Turn) -> f32
     ensures { λ q. ⌜ q ≡ turnDb h r ⌝ }

@@ -9,7 +9,6 @@ use lib.Seq.{take-at, drop-at, take-add, take-length, take-append-seam, drop-app
 use Rattle.laws.specs.Bytes.{overwrite, part}
 use Rattle.laws.proofs.Bytes.{length-over, over-part, part-add, take-over, part-inside, length-part}
 use Rattle.laws.proofs.Little.{Bytes}
-use Rattle.ledger.specs.Limits.{maxPieces, maxSlots}
 use Rattle.ledger.specs.Ledger as L
 use Rattle.ledger.specs.Ledger.{Piece, Held, Sent, size, bytesOf, heldOffs, sentOffs}
 use Rattle.ledger.proofs.Stream.{length-bytesOf}
@@ -27,6 +26,7 @@ use Rattle.record.specs.declared.LastBurst.{LastBurst}
 use Rattle.record.specs.declared.Sender.{Sender}
 use Rattle.record.specs.Fresh.{fresh}
 use Rattle.record.specs.View.{heldIn, restIn, sentIn, view, rowsOf, storeArea, storeHeld, storeSent, storeCounts, storeLink, store}
+use Rattle.limits.specs.Limits.{maxPieces, maxSlots}
 
 -- ---- rows and pieces
 
@@ -269,6 +269,6 @@ module _ (s : Sender) (a : List ℕ) (c : Counted s a) (ar : Arrays s) where
       ∙ ap (λ (x : LastBurst). record { gear = s .gear; link = s .link; counts = s .counts; «at_peer» = h; «last_burst» = x }) sent-kept
 
 -- a fresh record shows a fresh sender, whatever the work area has
-pub view-fresh : (a : List ℕ) → view fresh a ≡ L.fresh
+pub view-fresh : (a : List ℕ) → view fresh a ≡ L.freshLedger
 unfolding view
 view-fresh a = refl

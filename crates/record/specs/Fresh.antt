@@ -6,12 +6,12 @@ use lib.ListN.{replicate}
 use Rattle.ieee.specs.Range.{w32, w64}
 use Rattle.config.specs.declared.MaybeDb.{MaybeDb}
 use Rattle.gear.specs.declared.goodput.Gear.{Gear}
-use Rattle.ledger.specs.Limits.{maxSlots}
 use Rattle.record.specs.declared.Link.{Link}
 use Rattle.record.specs.declared.Counts.{Counts}
 use Rattle.record.specs.declared.AtPeer.{AtPeer}
 use Rattle.record.specs.declared.LastBurst.{LastBurst}
 use Rattle.record.specs.declared.Sender.{Sender}
+use Rattle.limits.specs.Limits.{maxSlots}
 
 abbrev pub levels : ℕ
 levels = 17

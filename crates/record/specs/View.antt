@@ -12,6 +12,7 @@ use Rattle.pieces.specs.Pieces.{piecesOf}
 use Rattle.pieces.specs.Lists.{heldOf, sentOf}
 use Rattle.record.specs.declared.Link.{Link}
 use Rattle.record.specs.declared.Counts.{Counts}
+use Rattle.record.specs.Setters.{withAwaiting, withNumber}
 use Rattle.record.specs.declared.AtPeer.{AtPeer}
 use Rattle.record.specs.declared.LastBurst.{LastBurst}
 use Rattle.record.specs.declared.Sender.{Sender}
@@ -82,21 +83,7 @@ storeSent l s =
     }
 
 unfoldable pub storeLink : L.Sender → Link → Link
-storeLink l k =
-    record {
-      connected = k .connected;
-      awaiting = l .awaited;
-      session = k .session;
-      «last_time» = k .«last_time»;
-      «burst_id» = l .number;
-      heard = k .heard;
-      «peer_heard» = k .«peer_heard»;
-      «peer_slot» = k .«peer_slot»;
-      «peer_doppler_hz» = k .«peer_doppler_hz»;
-      «peer_wants_turn» = k .«peer_wants_turn»;
-      «peer_wants_disc» = k .«peer_wants_disc»;
-      «peer_wave» = k .«peer_wave»;
-    }
+storeLink l k = withNumber (withAwaiting k (l .awaited)) (l .number)
 
 -- the record, where the rest of it is as in s
 unfoldable pub store : L.Sender → Sender → Sender

@@ -12,7 +12,6 @@ use lib.Dec.{ltb, eqb}
 use borrow.Author.Tests.{eq-eqb, ne-eqb}
 use Rattle.laws.specs.Bytes.{overwrite}
 use Rattle.laws.proofs.Bytes.{set-over, over-cat, over-nil, length-over, part-inside}
-use Rattle.ledger.specs.Limits.{maxSlots}
 use Rattle.ledger.specs.Ledger.{Held, heldOffs}
 use Rattle.pieces.specs.Lists.{heldOf}
 use Rattle.pieces.proofs.Lists.{held-drop}
@@ -21,9 +20,10 @@ use Rattle.record.specs.declared.AtPeer.{AtPeer}
 use Rattle.record.specs.declared.LastBurst.{LastBurst}
 use Rattle.record.specs.declared.Sender.{Sender}
 use Rattle.area.specs.declared.removal.Kept.{Kept}
-use Rattle.area.specs.Flight.{removedPieces}
+use Rattle.area.specs.Removal.{removedPieces}
 use Rattle.settle.specs.declared.Offsets.{Offsets}
 use Rattle.settle.specs.Settle.{ackedIn, offsetsOf, missedIn, heldMore, heldNone, newHeld, unawaited, withFlight, settled}
+use Rattle.limits.specs.Limits.{maxSlots}
 
 step : (l : List ℕ) (i : ℕ) → i < length l → drop i l ≡ getD l i 0 ∷ drop (i + 1) l
 step l i h = drop-cons l i 0 h ∙ ap (λ (k : ℕ). getD l i 0 ∷ drop k l) (sym (add-one i))

@@ -12,7 +12,6 @@ use lib.Seq.{take-take, take-add, drop-at, length-take-le}
 use Rattle.laws.specs.Bytes.{overwrite, part}
 use Rattle.laws.proofs.Bytes.{over-nil, length-part}
 use Rattle.laws.proofs.Little.{Bytes}
-use Rattle.ledger.specs.Limits.{Sizes}
 use Rattle.ledger.specs.Reply.{Reply, bitAt}
 use Rattle.ledger.specs.Ledger as L
 use Rattle.ledger.specs.Ledger.{Piece, Held, Sent, size, bytesOf, heldOffs, sentOffs, remaining, ackedBytes, missed, settleBurst}
@@ -21,7 +20,7 @@ use Rattle.ledger.specs.Cover.{Ascend}
 use Rattle.area.specs.Layout.{place, streamBytes}
 use Rattle.area.specs.Table.{rowsFrom, tableBytes, total}
 use Rattle.area.specs.declared.table.Row.{Row}
-use Rattle.area.specs.Flight.{keptRows, keptBytes, removedPieces}
+use Rattle.area.specs.Removal.{keptRows, keptBytes, removedPieces}
 use Rattle.pieces.specs.Pieces.{piecesOf}
 use Rattle.pieces.specs.Lists.{heldOf, sentOf, ackedOffs}
 use Rattle.pieces.proofs.Settle.{kept-total, kept-waiting, kept-length, settled-pieces, settled-size, settled-bytes}
@@ -36,6 +35,7 @@ use Rattle.record.specs.View.{heldIn, restIn, sentIn, view, rowsOf, storeArea, 
 use Rattle.record.proofs.View.{Counted, Arrays, rows-pieces, bytes-pieces}
 use Rattle.settle.specs.Settle.{ackedIn, missedIn, heldMore, heldNone, newHeld, settled}
 use Rattle.settle.proofs.Laws.{held-more}
+use Rattle.ledger.specs.Sizes.{Sizes}
 
 -- ---- bits
 

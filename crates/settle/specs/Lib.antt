@@ -1,3 +1,3 @@
 pub mod Settle
 pub mod Outcomes
-pub mod Replies
+pub mod AckIn

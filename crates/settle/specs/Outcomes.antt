@@ -44,13 +44,13 @@ outcomeOf r l =
 
 -- ---- as the code counts: the bitmap's lowest bit is the first frame's
 
-abbrev pub counted : Came → Bool → Bool → Came
-counted t fresh got = record { fresh = t .fresh + one fresh; «fresh_got» = t .«fresh_got» + one (fresh && got); got = t .got + one got }
+abbrev pub oneMoreCame : Came → Bool → Bool → Came
+oneMoreCame t fresh got = record { fresh = t .fresh + one fresh; «fresh_got» = t .«fresh_got» + one (fresh && got); got = t .got + one got }
 
 unfoldable pub talliedFrom : Came → ℕ → List ℕ → List ℕ → Came
 talliedFrom t m [] hs = t
 talliedFrom t m (b ∷ bs) [] = t
-talliedFrom t m (b ∷ bs) (h ∷ hs) = talliedFrom (counted t (eqb b h) (eqb (m % 2) 1)) (m / 2) bs hs
+talliedFrom t m (b ∷ bs) (h ∷ hs) = talliedFrom (oneMoreCame t (eqb b h) (eqb (m % 2) 1)) (m / 2) bs hs
 
 abbrev pub tallied : ℕ → List ℕ → List ℕ → Came
 tallied m bs hs = talliedFrom (record { fresh = 0; «fresh_got» = 0; got = 0 }) m bs hs

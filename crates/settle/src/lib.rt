@@ -1,6 +1,7 @@
 // settle_burst of sender.rs: what an ack leaves of the outstanding burst; and what it says of the burst to the gear.
 use area::removal::mark;
 use area::removal::remove_pieces;
+use limits::MAX_SLOTS;
 use record::AtPeer;
 use record::Counts;
 use record::LastBurst;
@@ -9,15 +10,15 @@ ghost use mathlib.Core.Path.{_≡_};
 ghost use mathlib.Core.List.{_∷_, []};
 ghost use Prim.Native.Nat.{_+_, _≤_, _<_};
 ghost use lib.ListN.{length, drop};
-ghost use Rattle.ledger.specs.Limits.{maxSlots};
 ghost use Rattle.pieces.specs.Lists.{heldOf};
 ghost use Rattle.settle.specs.Settle.{ackedIn, offsetsOf, missedIn, heldMore, newHeld, Settling, settled};
+ghost use Rattle.limits.specs.Limits.{maxSlots};
 
 pub mod outcome;
 
 // A list of offsets.
 struct Offsets {
-    off: [u32; 64],
+    off: [u32; MAX_SLOTS],
     n: usize,
 }
 
@@ -26,7 +27,7 @@ fn acked(offs: &[u32], bitmap: u64) -> Offsets
     requires { ⌜ length (now offs) ≤ maxSlots ⌝ }
     ensures { λ r. ⌜ r ≡ offsetsOf (ackedIn bitmap (now (offs .entry))) ⌝ }
 {
-    let mut off = [0u32; 64];
+    let mut off = [0u32; MAX_SLOTS];
     let mut n = 0;
     let mut b = bitmap;
     let mut i = 0;

@@ -7,12 +7,11 @@ use levels::usable::Holds;
 use record::Link;
 ghost use mathlib.Core.Path.{_≡_};
 ghost use mathlib.Core.List.{[], _∷_};
-ghost use mathlib.Core.Bool.{_&&_};
 ghost use lib.Ieee.{le};
 ghost use Rattle.laws.specs.Tests.{all};
 ghost use Rattle.laws.specs.Span.{every, upto};
-ghost use Rattle.ieee.specs.Range.{w32, w64};
-ghost use Rattle.soundness.specs.Checked.{keptOk, keptIfOk, reportsOk, levelOk, gearOk, linkOk};
+ghost use Rattle.ieee.specs.Range.{inside, w32, w64};
+ghost use Rattle.soundness.specs.Soundness.{keptOk, keptIfOk, reportsOk, rememberedOk, gearOk, linkOk};
 
 // A kept dB.
 fn kept_ok(x: f32) -> bool
@@ -35,13 +34,13 @@ fn reports_ok(r: Reports) -> bool
 
 // What is remembered of a level: its share, the time of it, and the end of its hold.
 fn level_ok(share: f32, at: f64, until: f64) -> bool
-    ensures { λ r. ⌜ r ≡ all ((le (w32 0) share && le share (w32 1)) ∷ le at (w64 1000000000) ∷ le until (w64 1001000000) ∷ []) ⌝ }
+    ensures { λ r. ⌜ r ≡ all (inside (w32 0) (w32 1) share ∷ le at (w64 1000000000) ∷ le until (w64 1001000000) ∷ []) ⌝ }
 {
     ((0.0 <= share) & (share <= 1.0)) & ((at <= 1000000000.0) & (until <= 1001000000.0))
 }
 
 fn levels_ok(t: Tries, h: Holds) -> bool
-    ensures { λ r. ⌜ r ≡ every (levelOk t h) (upto 0 17) ⌝ }
+    ensures { λ r. ⌜ r ≡ every (rememberedOk t h) (upto 0 17) ⌝ }
 {
     let mut k: usize = 0;
     while k < 17 {

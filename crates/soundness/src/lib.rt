@@ -5,10 +5,11 @@ use crate::lists::counts_ok;
 use crate::lists::lists_ok;
 use area_check::rows::table_ok;
 use config::Profile;
+use limits::AREA_BYTES;
 use record::Sender;
 ghost use mathlib.Core.Path.{_≡_};
 ghost use Rattle.config.specs.Ranged.{Ranged};
-ghost use Rattle.soundness.specs.Checked.{soundOk};
+ghost use Rattle.soundness.specs.Soundness.{soundOk};
 
 pub mod fields;
 pub mod lists;
@@ -25,7 +26,7 @@ pub fn is_sound(p: Profile, s: Sender, a: &[u8]) -> bool
     let short = frame::max_payload(p.short_bytes as usize) as u32;
     let long = frame::max_payload(p.long_bytes as usize) as u32;
     let top = p.codes.h_max();
-    if a.len() < 49152 {
+    if a.len() < AREA_BYTES {
         return false;
     }
     if !counts_ok(s) {

@@ -3,6 +3,11 @@ use area_check::flying::all_flying;
 use area_check::rows::held_bits_ok;
 use area_check::rows::sent_bits_ok;
 use area_check::unlisted::none_listed;
+use limits::MAX_FLYING;
+use limits::MAX_PIECES;
+use limits::MAX_SLOTS;
+use limits::MAX_TAKEN;
+use limits::MAX_WAITING;
 use record::Sender;
 ghost use mathlib.Core.Path.{_≡_};
 ghost use mathlib.Core.Bool.{true};
@@ -10,8 +15,8 @@ ghost use Prim.Native.Nat.{_≤_};
 ghost use lib.ListN.{length};
 ghost use Rattle.area.specs.Layout.{areaBytes};
 ghost use Rattle.area.specs.Table.{rowsFrom};
-ghost use Rattle.area_check.specs.Sound.{ascends, rowOffs};
-ghost use Rattle.soundness.specs.Checked.{countsOk, listsOk};
+ghost use Rattle.area_check.specs.Rows.{ascends, rowOffs};
+ghost use Rattle.soundness.specs.Soundness.{countsOk, listsOk};
 
 pub fn counts_ok(s: Sender) -> bool
     ensures { λ r. ⌜ r ≡ countsOk s ⌝ }
@@ -19,14 +24,14 @@ pub fn counts_ok(s: Sender) -> bool
     let h = s.at_peer;
     let b = s.last_burst;
     let c = s.counts;
-    if !((h.n <= 64) & (h.rest <= h.n) & (b.n <= 64)) {
+    if !((h.n <= MAX_SLOTS) & (h.rest <= h.n) & (b.n <= MAX_SLOTS)) {
         return false;
     }
-    (b.n + h.rest <= 64)
-        & ((c.waiting <= 16384)
-            & ((c.flying <= 16320)
-                & ((c.pieces <= 2048)
-                    & ((c.next_offset as u64 + c.waiting as u64 <= 4294967295)
+    (b.n + h.rest <= MAX_SLOTS)
+        & ((c.waiting <= MAX_WAITING)
+            & ((c.flying <= MAX_FLYING)
+                & ((c.pieces <= MAX_PIECES)
+                    & ((c.next_offset as u64 + c.waiting as u64 <= MAX_TAKEN as u64)
                         & (c.bytes_acked as u64 + c.flying as u64 == c.next_offset as u64)))))
 }
 

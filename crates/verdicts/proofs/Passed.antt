@@ -12,14 +12,13 @@ use Rattle.laws.proofs.Picks.{test, cond-no, and-first, and-second}
 use Rattle.laws.proofs.Tests.{all-at}
 use Rattle.config.specs.declared.Profile.{Profile}
 use Rattle.config.specs.Ranges.{inRange, inOrder}
-use Rattle.ledger.specs.Limits.{maxSlots, maxWaiting, maxTaken, maxPieces}
 use Rattle.area.specs.Layout.{areaBytes, streamBytes}
 use Rattle.area.specs.Table.{rowsFrom, total}
 use Rattle.pieces.proofs.Sound.{table-total}
-use Rattle.area.specs.Queued.{queueRefusal}
+use Rattle.area.specs.Room.{queueRefusal}
 use Rattle.area.proofs.room.Laws.{full, over, room, not-refused, queue-fits}
 use Rattle.record.specs.declared.Sender.{Sender}
-use Rattle.soundness.specs.Checked.{countsOk, soundOk}
+use Rattle.soundness.specs.Soundness.{countsOk, soundOk}
 use Rattle.soundness.proofs.fields.Counts.{flying-few, pieces-few, taken-few}
 use Rattle.replies.specs.declared.Heard.{Heard}
 use Rattle.refusals.specs.declared.Verdict.{Verdict}
@@ -27,6 +26,7 @@ use Rattle.refusals.specs.declared.Verdict.the-variants.{Accepted, AllTaken, Ba
 use Rattle.refusals.specs.declared.Reply.{Reply}
 use Rattle.refusals.specs.Refusals.{numberOf, kindOf, timeOk, heardOk, replyOk}
 use Rattle.verdicts.specs.Verdicts.{passed, firstOf, standing, roomVerdict, replyVerdict, outputVerdict, queueVerdict, receiveVerdict, burstVerdict}
+use Rattle.limits.specs.Limits.{maxSlots, maxWaiting, maxTaken, maxPieces}
 
 -- the number that a call reads says whether it is refused
 pub not-passed : (v u : Verdict) (n : ℕ) → v ≡ u → n ≡ numberOf v → (n ≡ 0 → ⊥) → passed u ≡ false

@@ -3,6 +3,7 @@ use area::room::queue_refusal;
 use config::Profile;
 use config::ranges::in_order;
 use config::ranges::in_range;
+use limits::MAX_SLOTS;
 use record::Counts;
 use record::Sender;
 use refusals::Reply;
@@ -17,8 +18,8 @@ use soundness::is_sound;
 ghost use mathlib.Core.Path.{_≡_};
 ghost use mathlib.Core.Bool.{true};
 ghost use Prim.Native.Nat.{_+_, _≤_};
-ghost use Rattle.ledger.specs.Limits.{maxTaken};
 ghost use Rattle.verdicts.specs.Verdicts.{passed, firstOf, standing as standingOf, replyVerdict, roomVerdict, outputVerdict};
+ghost use Rattle.limits.specs.Limits.{maxTaken};
 
 // Refusals 1 to 4. `connect`: the call is a connect.
 pub fn standing(p: Profile, s: Sender, a: &[u8], connect: bool) -> Verdict
@@ -84,7 +85,7 @@ pub fn burst_verdict(v: Verdict, long: u32, n: usize) -> Verdict
     if number(v) != 0 {
         return v;
     }
-    if n < 64 * (long as usize) {
+    if n < MAX_SLOTS * (long as usize) {
         return Verdict::ShortOutput;
     }
     Verdict::Accepted

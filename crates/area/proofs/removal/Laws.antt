@@ -14,15 +14,15 @@ use borrow.Author.Tests.{eq-eqb, ne-eqb, eqb-true, eqb-false}
 use Rattle.laws.specs.Bytes.{overwrite, part}
 use Rattle.laws.proofs.Bytes.{length-over, over-nil, over-cat, over-comm, part-before, part-after, part-add, over-part, length-part}
 use Rattle.laws.proofs.Little.{Bytes}
-use Rattle.ledger.specs.Limits.{maxPieces}
 use Rattle.area.specs.Layout.{place, streamBytes, areaBytes}
 use Rattle.area.specs.Table.{rowAt, rowsFrom, tableBytes, withRows, total}
 use Rattle.area.specs.declared.table.Row.{Row}
 use Rattle.area.proofs.table.Laws.{rows-turn, rows-none, rows-after, table-kept}
 use Rattle.laws.specs.Lists.{listed}
 use Rattle.laws.proofs.Picks.{test, or-left, or-right}
-use Rattle.area.specs.Flight.{markCount, markPlace, markAll, Marked, keptRows, keptBytes, removedPieces}
+use Rattle.area.specs.Removal.{markCount, markPlace, markAll, Marked, keptRows, keptBytes, removedPieces}
 use Rattle.area.specs.declared.removal.Kept.{Kept}
+use Rattle.limits.specs.Limits.{maxPieces}
 
 -- ---- marks
 

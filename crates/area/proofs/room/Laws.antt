@@ -8,11 +8,12 @@ use lib.ListN.{length}
 use lib.Dec.{ltb}
 use borrow.Author.Tests.{ltb-true, ltb-false, lt-ltb, le-ltb}
 use Rattle.laws.proofs.Picks.{test}
-use Rattle.ledger.specs.Limits.{Sizes, maxFlying, maxWaiting, maxTaken}
 use Rattle.ledger.specs.Ledger.{Sender, takenOf}
 use Rattle.ledger.specs.Calls.{Allowed, queues}
 use Rattle.area.specs.Layout.{streamBytes}
-use Rattle.area.specs.Queued.{queueRefusal}
+use Rattle.area.specs.Room.{queueRefusal}
+use Rattle.limits.specs.Limits.{maxFlying, maxWaiting, maxTaken}
+use Rattle.ledger.specs.Sizes.{Sizes}
 
 -- what flies and what waits fit the stream together
 pub stream-holds : maxFlying + maxWaiting ≤ streamBytes

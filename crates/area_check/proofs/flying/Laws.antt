@@ -17,7 +17,7 @@ use Rattle.area.proofs.table.Laws.{rows-turn, rows-add}
 use Rattle.laws.specs.Lists.{one, occurs, listed}
 use Rattle.laws.proofs.Picks.{and-first, and-second}
 use Rattle.laws.proofs.Lists.{occurs-listed, occurs-unlisted}
-use Rattle.area_check.specs.Sound.{ascends, rowOffs, allFlying}
+use Rattle.area_check.specs.Rows.{ascends, rowOffs, allFlying}
 
 -- ---- the search by halves
 

@@ -15,9 +15,9 @@ use Rattle.area.specs.Table.{rowAt, rowsFrom, total}
 use Rattle.area.specs.declared.table.Row.{Row}
 use Rattle.area.proofs.table.Laws.{rows-turn}
 use Rattle.laws.proofs.Picks.{and-first, and-second}
-use Rattle.ledger.specs.Limits.{maxBits, maxHeld}
 use Rattle.ledger.specs.Cover.{ceil}
-use Rattle.area_check.specs.Sound.{ascends, shortFramesOf, heldBitsOk, sentBitsOk}
+use Rattle.area_check.specs.Rows.{ascends, shortFramesOf, heldBitsOk, sentBitsOk}
+use Rattle.limits.specs.Limits.{maxBits, maxHeld}
 
 -- ---- a turn of the loop over the rows
 module _ (a : List ℕ) (i n : ℕ) (r : Row) (h : i < n) (e : r ≡ rowAt a i) where

@@ -9,7 +9,7 @@ use native.Mathlib.Numerals.{add-one}
 use lib.ListN.{length, drop, getD, drop-of-length-le}
 use lib.Seq.{drop-cons}
 use Rattle.laws.specs.Lists.{listed}
-use Rattle.area_check.specs.Sound.{noneListed}
+use Rattle.area_check.specs.Rows.{noneListed}
 
 unlisted-turn : (xs ys : List ℕ) (i : ℕ) → i < length xs → noneListed (drop i xs) ys ≡ (not (listed (getD xs i 0) ys) && noneListed (drop (i + 1) xs) ys)
 unfolding noneListed

@@ -1,6 +1,6 @@
 -- `bench_area::vanitycrow_merge` meets its contract.
 use denote.Ref.{now}
-use Rattle.area.specs.Flight.{Marked}
+use Rattle.area.specs.Removal.{Marked}
 use Rattle.area.proofs.removal.Laws.{marked-all}
 use Prim.Native.Nat.{ℕ, _-_}
 use mathlib.Core.Path.{sym, subst}

@@ -1,6 +1,6 @@
 -- `bench_area::vanitycrow_remove` meets its contract.
 use denote.Ref.{now}
-use Rattle.area.specs.Flight.{Marked}
+use Rattle.area.specs.Removal.{Marked}
 use Rattle.area.specs.declared.removal.Kept.{Kept}
 use Rattle.area.proofs.removal.Laws.{marked-all}
 use Prim.Native.Nat.{ℕ, _-_}

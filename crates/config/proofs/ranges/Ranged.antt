@@ -12,9 +12,10 @@ use Rattle.laws.proofs.Tests.{all-at, all-none, all-more}
 use Rattle.laws.proofs.Span.{every-all, all-every}
 use Rattle.config.specs.Durations.{ackAt}
 use Rattle.config.specs.declared.MaybeLevel.{MaybeLevel}
-use Rattle.ieee.specs.Range.{In, w64}
+use Rattle.ieee.proofs.Range.{from-inside, to-inside}
+use Rattle.ieee.specs.Range.{In, w64, inside}
 use Rattle.harq.specs.declared.Harq.{Harq}
-use Rattle.config.specs.Ranges.{inside, between, dbOk, maybeDbOk, levelOk, ackOk, airOk, endOk, harqOk, lengthsOk, holdsOk, thresholdOk, marksOk, pinOk, levelsOk, sizesOk, inRange}
+use Rattle.config.specs.Ranges.{between, dbOk, maybeDbOk, levelOk, ackOk, airOk, endOk, harqOk, lengthsOk, holdsOk, thresholdOk, marksOk, pinOk, levelsOk, sizesOk, inRange}
 use Rattle.config.specs.Ranged.{Db, LevelRanged, AirRanged, HarqRanged, LengthsRanged, HoldsRanged, MarksRanged, Ranged}
 use Rattle.config.specs.declared.Air.{Air}
 use Rattle.config.specs.declared.Marks.{Marks}
@@ -24,21 +25,6 @@ use Rattle.config.specs.declared.HoldTimes.{HoldTimes}
 use Rattle.config.specs.declared.Profile.{Profile}
 
 -- ---- one number
-
-yes : (b : Bool) → b ≡ true → T b
-yes b e = subst T (sym e) tt
-
-so : (b : Bool) → T b → b ≡ true
-so true t = refl
-so false t = absurd t
-
-from-inside : (lo hi x : Float) → inside lo hi x ≡ true → In lo hi x
-unfolding inside
-from-inside lo hi x e = record { low = yes _ (and-first (le lo x) _ e); high = yes _ (and-second (le lo x) _ e) }
-
-to-inside : (lo hi x : Float) → In lo hi x → inside lo hi x ≡ true
-unfolding inside
-to-inside lo hi x i = and-yes (le lo x) (le x hi) (so _ (i .low)) (so _ (i .high))
 
 from-between : (lo hi n : ℕ) → between lo hi n ≡ true → (lo ≤ n) × (n ≤ hi)
 unfolding between

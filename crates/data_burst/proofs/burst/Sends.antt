@@ -15,7 +15,6 @@ use Rattle.config.specs.Durations.{frameBytes}
 use Rattle.config.specs.declared.Profile.{Profile}
 use Rattle.config.specs.Ranged.{Ranged}
 use Rattle.config.specs.Ranges.{inOrder}
-use Rattle.ledger.specs.Limits.{SizeRange, maxSlots, maxBits, maxNumber}
 use Rattle.ledger.specs.Ledger.{Sent, Plan, Held, sentOffs, find, frames}
 use Rattle.ledger.specs.Plan.{planOf}
 use Rattle.ledger.proofs.Planned.{planned-fits}
@@ -32,10 +31,10 @@ use Rattle.record.specs.Profiles.{sizesOf}
 use Rattle.record.specs.View.{view, store, storeArea}
 use Rattle.record.specs.declared.Sender.{Sender}
 use Rattle.record.proofs.View.{Arrays, Counted}
-use Rattle.soundness.specs.Checked.{SoundRecord}
+use Rattle.soundness.specs.Soundness.{SoundRecord}
 use Rattle.soundness.proofs.fields.Sound.{sound-counted, sound-level, profile-sizes}
 use Rattle.outgoing.specs.Choosing.{chosen, choice, nextNumber}
-use Rattle.outgoing.specs.Outgoing.{framesIn, headed, burstBits, airtimeOf, after, outgoing, airtime, output, burstOf}
+use Rattle.outgoing.specs.Outgoing.{slotFrames, headed, burstBits, airtimeOf, after, outgoing, airtime, output, burstOf}
 use Rattle.outgoing.specs.declared.Frames.{Frames}
 use Rattle.outgoing.specs.declared.Outgoing.{Outgoing}
 use Rattle.outgoing.proofs.Laws.{slots-length}
@@ -45,6 +44,8 @@ use Rattle.data_burst.specs.Rows.{burstRows, Ready}
 use Rattle.data_burst.specs.declared.sending.Sending.{Sending}
 use Rattle.data_burst.proofs.sending.Bursts as B
 use Rattle.data_burst.proofs.burst.Told.{sent-told, frames-told}
+use Rattle.limits.specs.Limits.{maxSlots, maxBits, maxNumber}
+use Rattle.ledger.specs.Sizes.{SizeRange}
 
 pub frame-least : (p : Profile) → Ranged p → (l : ℕ) → 10 ≤ frameBytes p l
 unfolding frameBytes
@@ -179,12 +180,12 @@ module _ (p : Profile) (r : Ranged p) (o : inOrder p ≡ true) (s : Sender) (a :
       pub parity-few : b .plan .parity ≤ b .slots .n
       parity-few = omega (arith, ap (λ (x : Planned). x .parity) plan-is, ap (λ (x : Slots). x .n) slots-are, planned-parity p s a bs held xs sent, xs-count)
 
-      module _ (f : Frames) (fe : f ≡ framesIn (p .codes) (slotsFrom (b .slots) 0 (b .slots .n)))
+      module _ (f : Frames) (fe : f ≡ slotFrames (p .codes) (slotsFrom (b .slots) 0 (b .slots .n)))
           (h : Outgoing) (he : h ≡ headed p (s .gear) (s .link) (b .plan .parity) (b .plan .stored) k f)
           (v : ℕ) (ve : v ≡ burstBits (b .plan) (d .slot) (b .slots .n))
           (ms : ℕ) (mse : ms ≡ airtimeOf p (s .gear .level) (s .counts .«airtime_ms») (b .slots .n) v) where
-        frames-are : f ≡ framesIn (p .codes) xs
-        frames-are = fe ∙ ap (λ (x : Slots). framesIn (p .codes) (slotsFrom x 0 (x .n))) slots-are
+        frames-are : f ≡ slotFrames (p .codes) xs
+        frames-are = fe ∙ ap (λ (x : Slots). slotFrames (p .codes) (slotsFrom x 0 (x .n))) slots-are
 
         answered : h ≡ outgoing p s a
         answered =

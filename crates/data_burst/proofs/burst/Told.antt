@@ -6,10 +6,9 @@ use native.Mathlib.Omega.{arith}
 use lib.ListN.{length, take, getD, replicate, length-map, length-replicate}
 use Rattle.laws.specs.Bytes.{overwrite, part}
 use Rattle.laws.proofs.Bytes.{length-over, part-cons, part-same}
-use Rattle.ledger.specs.Limits.{maxSlots}
 use Rattle.ledger.specs.Ledger as L
 use Rattle.ledger.specs.Ledger.{Sent, Frame, sentOffs, frames, find}
-use Rattle.frames.specs.Slots.{slotAt, slotsFrom}
+use Rattle.frames.specs.Slots.{nthSlot, slotsFrom}
 use Rattle.frames.specs.declared.slots.Slot.{Slot}
 use Rattle.frames.specs.declared.slots.Slots.{Slots}
 use Rattle.pieces.specs.Lists.{sentOf, sentSlots}
@@ -17,6 +16,7 @@ use Rattle.pieces.proofs.Lists.{sentSlots-is, sentSlots-offs}
 use Rattle.record.specs.View.{storeSent}
 use Rattle.record.specs.declared.LastBurst.{LastBurst}
 use Rattle.record.proofs.View.{sent-stored}
+use Rattle.limits.specs.Limits.{maxSlots}
 
 -- ---- offsets and lengths side by side
 
@@ -31,7 +31,7 @@ paired-map f g (x ∷ xs) = ap (λ (l : List Frame). record { off = f x; len = g
 
 -- ---- one array, that holds field f of each slot
 
-module _ (x : Slots) (f : Slot → ℕ) (l : List ℕ) (at : (i : ℕ) → f (slotAt x i) ≡ getD l i 0) where
+module _ (x : Slots) (f : Slot → ℕ) (l : List ℕ) (at : (i : ℕ) → f (nthSlot x i) ≡ getD l i 0) where
   read : (i n : ℕ) → i + n ≤ length l → map f (slotsFrom x i n) ≡ part l i n
   read i zero h = refl
   read i (suc n) h = ap₂ (λ (v : ℕ) (vs : List ℕ). v ∷ vs) (at i) (read (i + 1) n (omega arith)) ∙ sym (part-cons l i n (omega arith))
@@ -48,7 +48,7 @@ module _ (x : Slots) (l : L.Sender) (b : LastBurst) (few : length (l .sent) ≤ 
   xs = slotsFrom x 0 (x .n)
 
   -- field f of each slot, in an array of 64
-  front : (f : Slot → ℕ) (m : List ℕ) → ((i : ℕ) → f (slotAt x i) ≡ getD m i 0) → (c ys : List ℕ) → length c ≡ maxSlots → m ≡ overwrite c 0 ys → map f xs ≡ take (x .n) m
+  front : (f : Slot → ℕ) (m : List ℕ) → ((i : ℕ) → f (nthSlot x i) ≡ getD m i 0) → (c ys : List ℕ) → length c ≡ maxSlots → m ≡ overwrite c 0 ys → map f xs ≡ take (x .n) m
   front f m at c ys k e = read x f m at 0 (x .n) (omega (arith, ap length e, length-over c 0 ys, few, count))
 
   pub sent-told : sentSlots xs ≡ l .sent

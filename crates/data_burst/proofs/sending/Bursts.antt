@@ -15,7 +15,6 @@ use Rattle.laws.proofs.Lists.{map-map}
 use Rattle.harq.specs.Held.{incrementOf}
 use Rattle.harq.specs.declared.Harq.{Harq}
 use Rattle.frame.specs.Frame.{maxPayload}
-use Rattle.ledger.specs.Limits.{Sizes, SizeRange, maxSlots, maxPieces, maxTaken, maxHeld, maxNumber}
 use Rattle.ledger.specs.Ledger as L
 use Rattle.ledger.specs.Ledger.{Held, Sent, Plan, size, bytesOf, heldOffs, sentOffs, Frame, find, frames, dataBurst}
 use Rattle.ledger.specs.Plan as P
@@ -29,12 +28,12 @@ use Rattle.area.specs.Table.{rowAt, rowsFrom, tableBytes, withRows, total, Smal
 use Rattle.area.specs.declared.table.Row.{Row}
 use Rattle.area.proofs.table.Laws.{length-table, table-cat, rows-written}
 use Rattle.area.specs.Recut.{splitRows}
-use Rattle.frames.specs.Slots.{pushAll, slotsFrom, unheldSlots, incrementSlots, newPieces}
+use Rattle.frames.specs.Slots.{pushAll, slotsFrom, unheldSlots, incrementSlots, addedPieces}
 use Rattle.frames.specs.declared.slots.Added.{Added}
 use Rattle.frames.specs.declared.slots.Slot.{Slot}
 use Rattle.frames.specs.declared.slots.Slots.{Slots}
 use Rattle.frames.proofs.slots.Laws.{push-all-count, push-all-append}
-use Rattle.frames.specs.Frames.{framesOf, Fit}
+use Rattle.frames.specs.Frames.{framesWritten, Fit}
 use Rattle.plan.specs.Planning.{CodesRange, choiceOf, planned}
 use Rattle.plan.specs.declared.Choice.{Choice}
 use Rattle.plan.specs.declared.Planned.{Planned}
@@ -58,10 +57,12 @@ use Rattle.record.specs.declared.Sender.{Sender}
 use Rattle.record.specs.View.{heldIn, view, rowsOf, storeArea, storeHeld, storeSent, storeCounts, storeLink, store}
 use Rattle.record.proofs.View.{Counted, Arrays, rows-pieces, bytes-pieces, held-bits-of}
 use Rattle.data_burst.specs.declared.sending.Sending.{Sending}
-use Rattle.data_burst.specs.Rows.{cutAt, cutTable, slotsIn, olds, picked, Pickable, nextOf, lastOf, countsOf, plan, kept, recut, gone, burstRows, Ready}
+use Rattle.data_burst.specs.Rows.{cutAt, cutTable, slotsIn, olds, picked, Pickable, nextOf, lastBurstOf, countsOf, plan, heldKept, tableRecut, gone, burstRows, Ready}
 use Rattle.data_burst.specs.Rows as R
 use Rattle.data_burst.proofs.sending.Laws.{kept-off}
 use Rattle.data_burst.proofs.sending.Lists.{split-same, cut-recut, small-front, bits-below, kept-list, kept-bits, kept-count, kept-more, kept-rest, frames-before}
+use Rattle.limits.specs.Limits.{maxSlots, maxPieces, maxTaken, maxHeld, maxNumber}
+use Rattle.ledger.specs.Sizes.{Sizes, SizeRange}
 
 module _ (z : Sizes) (zr : SizeRange z) (q : Harq) (c : Choice) (merging : Bool) (number : ℕ) (codes : CodesRange q c) (numbered : number ≤ maxNumber) (s : Sender) (a : List ℕ)
     (so : Sound z (view s a)) (co : Counted s a) (ar : Arrays s) where
@@ -123,7 +124,7 @@ module _ (z : Sizes) (zr : SizeRange z) (q : Harq) (c : Choice) (merging : Bool)
   -- ---- the held list
 
   abbrev kp : AtPeer
-  kp = kept q c payload merging s a
+  kp = heldKept q c payload merging s a
 
   abbrev os : List ℕ
   os = take (kp .n) (kp .off)
@@ -235,7 +236,7 @@ module _ (z : Sizes) (zr : SizeRange z) (q : Harq) (c : Choice) (merging : Bool)
   -- what goes, of these rows, with this room, bytes before the waiting ones, and held pieces
   abbrev goes : List Row → ℕ → ℕ → List ℕ → List ℕ → Added × List ℕ
   goes ss room at os₁ hs₁ =
-      newPieces a₁ (length rs) (room - length (take room (unheldSlots os (c .slot) 0 ss))) payload (s .counts .«next_offset») at w (c .slot)
+      addedPieces a₁ (length rs) (room - length (take room (unheldSlots os (c .slot) 0 ss))) payload (s .counts .«next_offset») at w (c .slot)
       (pushAll (pushAll (slotsIn last) (incrementSlots q (c .slot) ss os₁ hs₁)) (take room (unheldSlots os (c .slot) 0 ss)))
 
   -- the slots, how many rows there are and how many bytes went
@@ -252,7 +253,7 @@ module _ (z : Sizes) (zr : SizeRange z) (q : Harq) (c : Choice) (merging : Bool)
       ap (λ (k : ℕ). overwrite a₁ k (tableBytes new)) e ∙ over-cat a (place 0) (tableBytes rs) (tableBytes new) ∙ ap (overwrite a (place 0)) (sym (table-cat rs new))
 
   pub gone-is : gone q c payload merging s a ≡ (added, withRows a 0 (rs ++ new))
-  unfolding newPieces view
+  unfolding addedPieces view
   gone-is =
       let i = incrementSlots q (c .slot) rs (take (g .parity) os) (take (g .parity) hs) in
       let o = oldSlots g rs os in
@@ -286,7 +287,7 @@ module _ (z : Sizes) (zr : SizeRange z) (q : Harq) (c : Choice) (merging : Bool)
       let e : getD (take (h .n) (h .bits)) j 0 ≡ getD (kp .bits) j 0 = getD-take (h .n) (h .bits) j 0 (omega (arith, parity-held)) ∙ ap (λ (x : List ℕ). getD x j 0) (sym (kept-bits h (pl .parity))) in
       omega (arith, zr .bits, increment-range q c codes (getD (kp .bits) j 0) .1)
 
-  pickable : Pickable q (c .slot) payload s kp pl (recut q c payload merging s a .0) (recut q c payload merging s a .1)
+  pickable : Pickable q (c .slot) payload s kp pl (tableRecut q c payload merging s a .0) (tableRecut q c payload merging s a .1)
   unfolding cutTable
   pickable =
       record {
@@ -330,16 +331,16 @@ module _ (z : Sizes) (zr : SizeRange z) (q : Harq) (c : Choice) (merging : Bool)
     sized = omega (arith, level, frame, payload-some z zr l g so fi)
 
     -- the frames that are written are those of the ledger's pieces
-    frames-are : R.frames q c payload merging s a size ≡ framesSent size (after .pieces) (after .sent)
+    frames-are : R.frameBytesGone q c payload merging s a size ≡ framesSent size (after .pieces) (after .sent)
     frames-are =
-        ap (λ (x : Added × List ℕ). framesOf size (slotsFrom (x .0 .slots) 0 (x .0 .slots .n)) (x .1)) gone-is
-        ∙ ap (λ (ys : List Slot). framesOf size ys (withRows a 0 (rs ++ new))) slots-back
+        ap (λ (x : Added × List ℕ). framesWritten size (slotsFrom (x .0 .slots) 0 (x .0 .slots .n)) (x .1)) gone-is
+        ∙ ap (λ (ys : List Slot). framesWritten size ys (withRows a 0 (rs ++ new))) slots-back
         ∙ frames-before size streamBytes xs a (place 0) (tableBytes (rs ++ new)) (fit streamBytes (omega (arith, rs-total, co .stream))) (omega arith)
         ∙ burst-carry z zr l g so fi rs a os hs w pieces-are kept-are sides waiting-is fits-w q same size
 
-    shown : length (R.frames q c payload merging s a size) ≤ length out
+    shown : length (R.frameBytesGone q c payload merging s a size) ≤ length out
     shown =
-        let e : framesSent size (after .pieces) (after .sent) ≡ framesOf size xs a = sym (burst-carry z zr l g so fi rs a os hs w pieces-are kept-are sides waiting-is fits-w q same size) in
+        let e : framesSent size (after .pieces) (after .sent) ≡ framesWritten size xs a = sym (burst-carry z zr l g so fi rs a os hs w pieces-are kept-are sides waiting-is fits-w q same size) in
         omega (
           arith,
           ap length (frames-are ∙ e),
@@ -431,7 +432,7 @@ module _ (z : Sizes) (zr : SizeRange z) (q : Harq) (c : Choice) (merging : Bool)
       λ i. record { off = (kept-off h (pl .parity) ∙ sym o) i; bits = (kept-bits h (pl .parity) ∙ sym b) i; n = sym kept-length i; rest = sym rest-length i }
 
   -- the outstanding burst
-  sent-after : lastOf (added .slots) ≡ storeSent after last
+  sent-after : lastBurstOf (added .slots) ≡ storeSent after last
   unfolding storeSent
   sent-after =
       let o : map (λ (x : Slot). x .off) xs ≡ sentOffs (after .sent) = sym (sentSlots-offs xs) ∙ ap sentOffs sent-is in
@@ -463,8 +464,8 @@ module _ (z : Sizes) (zr : SizeRange z) (q : Harq) (c : Choice) (merging : Bool)
   slots-are : slots ≡ added .slots
   slots-are = ap (λ (x : Added × List ℕ). x .0 .slots) gone-is
 
-  last-is : lastOf slots ≡ storeSent after last
-  last-is = ap lastOf slots-are ∙ sent-after
+  last-is : lastBurstOf slots ≡ storeSent after last
+  last-is = ap lastBurstOf slots-are ∙ sent-after
 
   pub slots-len : slots .len ≡ overwrite (replicate maxSlots 0) 0 (map (λ (f : Sent). length (find (f .off) (after .pieces))) (after .sent))
   slots-len =

@@ -12,23 +12,23 @@ use Rattle.laws.specs.Bytes.{overwrite}
 use Rattle.laws.proofs.Little.{Bytes}
 use Rattle.laws.proofs.Picks.{by}
 use Rattle.harq.specs.declared.Harq.{Harq}
-use Rattle.ledger.specs.Limits.{maxSlots}
 use Rattle.area.specs.Layout.{place}
 use Rattle.area.specs.Table.{rowsFrom}
 use Rattle.area.proofs.table.Laws.{length-rows, table-kept}
 use Rattle.area.specs.Recut.{splitTable, mergeTable, newTable}
-use Rattle.frames.specs.Slots.{pushAll, slotsFrom, unheldSlots, newPieces}
+use Rattle.frames.specs.Slots.{pushAll, slotsFrom, unheldSlots, addedPieces}
 use Rattle.frames.specs.declared.slots.Slot.{Slot}
 use Rattle.frames.specs.declared.slots.Added.{Added}
 use Rattle.frames.specs.declared.slots.Slots.{Slots}
 use Rattle.frames.proofs.slots.Laws.{push-all-count, increments-length, new-facts, chunk-total}
-use Rattle.frames.specs.Frames.{framesOf, Fit}
+use Rattle.frames.specs.Frames.{framesWritten, Fit}
 use Rattle.plan.specs.declared.Choice.{Choice}
 use Rattle.plan.specs.declared.Planned.{Planned}
 use Rattle.record.specs.declared.AtPeer.{AtPeer}
 use Rattle.record.specs.declared.Sender.{Sender}
 use Rattle.data_burst.specs.declared.sending.Sending.{Sending}
-use Rattle.data_burst.specs.Rows.{keptHeld, cutAt, cutTable, slotsIn, incs, olds, picked, Pickable, nextOf, plan, kept, recut, gone, burstRows, Ready}
+use Rattle.data_burst.specs.Rows.{keptHeld, cutAt, cutTable, slotsIn, incs, olds, picked, Pickable, nextOf, plan, heldKept, tableRecut, gone, burstRows, Ready}
+use Rattle.limits.specs.Limits.{maxSlots}
 
 -- ---- the held list
 
@@ -89,12 +89,12 @@ module _ (q : Harq) (slot payload : ℕ) (s : Sender) (h : AtPeer) (pl : Planned
   old-few = omega (arith, length-take (pl .room) (unheldSlots (take (h .n) (h .off)) slot 0 (rowsFrom a 0 n)))
 
   pub pick-is : (x : Added × List ℕ)
-      → x ≡ newPieces a n (pl .room - (s₂ .n - s₁ .n)) payload (s .counts .«next_offset») (s .counts .flying) (s .counts .waiting) slot s₂
+      → x ≡ addedPieces a n (pl .room - (s₂ .n - s₁ .n)) payload (s .counts .«next_offset») (s .counts .flying) (s .counts .waiting) slot s₂
       → x ≡ picked q slot payload s h pl n a
   unfolding picked
   pick-is x e =
       let l : pl .room - (s₂ .n - s₁ .n) ≡ pl .room - length (olds q slot payload s h pl n a) = omega (arith, then-more) in
-      e ∙ ap₂ (λ (k : ℕ) (t : Slots). newPieces a n k payload (s .counts .«next_offset») (s .counts .flying) (s .counts .waiting) slot t) l
+      e ∙ ap₂ (λ (k : ℕ) (t : Slots). addedPieces a n k payload (s .counts .«next_offset») (s .counts .flying) (s .counts .waiting) slot t) l
       (e₂ ∙ ap (λ (t : Slots). pushAll t (olds q slot payload s h pl n a)) e₁)
 
 -- ---- put together
@@ -105,7 +105,7 @@ module _ (q : Harq) (c : Choice) (payload : ℕ) (merging : Bool) (s : Sender) (
   parity-few = omega (arith, ap (λ (x : Planned). x .parity) e₀, rd .parity)
 
   module _ (h : AtPeer) (e₁ : h ≡ keptHeld (s .«at_peer») (pl .parity)) where
-    kept-is : h ≡ kept q c payload merging s a
+    kept-is : h ≡ heldKept q c payload merging s a
     kept-is = e₁ ∙ ap (λ (x : Planned). keptHeld (s .«at_peer») (x .parity)) e₀
 
     pub held-fits : length (s .«at_peer» .off) ≡ maxSlots → h .n ≤ length (h .off)
@@ -113,7 +113,7 @@ module _ (q : Harq) (c : Choice) (payload : ℕ) (merging : Bool) (s : Sender) (
         omega (arith, ap (λ (x : AtPeer). length (x .off)) e₁, ap length (kept-off (s .«at_peer») (pl .parity)), ap (λ (x : AtPeer). x .n) kept-is, rd .pickable .held)
 
     module _ (x : ℕ × List ℕ) (e₂ : x ≡ cutTable (c .long) merging payload (take (h .n) (h .off)) (s .counts .pieces) a) where
-      recut-is : x ≡ recut q c payload merging s a
+      recut-is : x ≡ tableRecut q c payload merging s a
       recut-is = e₂ ∙ ap (λ (k : AtPeer). cutTable (c .long) merging payload (take (k .n) (k .off)) (s .counts .pieces) a) kept-is
 
       pub pick-able : Pickable q (c .slot) payload s h pl (x .0) (x .1)
@@ -126,7 +126,7 @@ module _ (q : Harq) (c : Choice) (payload : ℕ) (merging : Bool) (s : Sender) (
         abbrev xs : List Slot
         xs = slotsFrom (y .0 .slots) 0 (y .0 .slots .n)
 
-        pub shows : (y .0 .slots .n ≤ maxSlots) × (10 ≤ size) × (length (framesOf size xs (y .1)) ≤ length out) × Fit size (length (y .1)) xs
+        pub shows : (y .0 .slots .n ≤ maxSlots) × (10 ≤ size) × (length (framesWritten size xs (y .1)) ≤ length out) × Fit size (length (y .1)) xs
         shows = rw gone-is (rd .slots, rd .sized, rd .shown, rd .fit)
 
         pub bytes-few : y .0 .bytes ≤ s .counts .waiting
@@ -136,11 +136,11 @@ module _ (q : Harq) (c : Choice) (payload : ℕ) (merging : Bool) (s : Sender) (
             let t = new-facts (x .1) (x .0) k payload (s .counts .«next_offset») (s .counts .flying) (s .counts .waiting) (c .slot) _ (y .0) (y .1) e₃ in
             omega (arith, t .2, chunk-total k payload (s .counts .«next_offset») (s .counts .waiting))
 
-        pub done : (number : ℕ) (o : List ℕ) (r : Sender) → o ≡ overwrite out 0 (framesOf size xs (y .1)) → r ≡ nextOf s h (y .0) number
+        pub done : (number : ℕ) (o : List ℕ) (r : Sender) → o ≡ overwrite out 0 (framesWritten size xs (y .1)) → r ≡ nextOf s h (y .0) number
             → _≡_ {A = Sending × (List ℕ × List ℕ)} (record { slots = y .0 .slots; plan = pl; next = r }, (y .1, o)) (burstRows q c payload merging s a number size out)
         unfolding burstRows
         done number o r d e =
             λ i. (
               record { slots = gone-is i .0 .slots; plan = e₀ i; next = (e ∙ ap₂ (λ (k : AtPeer) (z : Added × List ℕ). nextOf s k (z .0) number) kept-is gone-is) i },
-              (gone-is i .1, (d ∙ ap (λ (z : Added × List ℕ). overwrite out 0 (framesOf size (slotsFrom (z .0 .slots) 0 (z .0 .slots .n)) (z .1))) gone-is) i),
+              (gone-is i .1, (d ∙ ap (λ (z : Added × List ℕ). overwrite out 0 (framesWritten size (slotsFrom (z .0 .slots) 0 (z .0 .slots .n)) (z .1))) gone-is) i),
             )

@@ -21,7 +21,7 @@ use Rattle.area.specs.declared.table.Row.{Row}
 use Rattle.area.specs.Recut.{splitRows, mergeRows}
 use Rattle.area.proofs.splitting.Laws.{cut-end}
 use Rattle.frames.specs.declared.slots.Slot.{Slot}
-use Rattle.frames.specs.Frames.{framesOf, Fit}
+use Rattle.frames.specs.Frames.{framesWritten, Fit}
 use Rattle.pieces.specs.Pieces.{piecesOf}
 use Rattle.pieces.specs.Lists.{heldOf}
 use Rattle.pieces.proofs.Sound.{head-length}
@@ -84,8 +84,8 @@ module _ (h : AtPeer) (k : ℕ) where
 -- ---- frames
 
 -- what is written behind the slots' bytes changes no frame
-pub frames-before : (size used : ℕ) (xs : List Slot) (a : List ℕ) (at : ℕ) (bs : List ℕ) → Fit size used xs → used ≤ at → framesOf size xs (overwrite a at bs) ≡ framesOf size xs a
-unfolding framesOf
+pub frames-before : (size used : ℕ) (xs : List Slot) (a : List ℕ) (at : ℕ) (bs : List ℕ) → Fit size used xs → used ≤ at → framesWritten size xs (overwrite a at bs) ≡ framesWritten size xs a
+unfolding framesWritten
 frames-before size used [] a at bs f h = refl
 frames-before size used (x ∷ xs) a at bs f h =
     ap₂ (λ (p l : List ℕ). frameOf size (x .off) p ++ l) (part-before a at bs (x .start) (x .len) (omega (arith, f .1))) (frames-before size used xs a at bs (f .2) h)

@@ -17,8 +17,8 @@ use Rattle.laws.specs.Little.{num}
 use Rattle.laws.specs.Span.{from, upto}
 use Rattle.laws.proofs.Bytes.{length-part}
 use Rattle.laws.proofs.Little.{Bytes, bytes-part}
-use Rattle.frame.specs.Crc.{poly, shift, shifts, feed}
-use Rattle.frame.specs.Table.{row, tables, tableOf}
+use Rattle.frame.specs.Crc.{poly, shift, shifts, feedBytes}
+use Rattle.frame.specs.Table.{halfByteTable, tables, tableOf}
 
 -- ---- exclusive or
 
@@ -150,14 +150,14 @@ shifts-eight x y z w h p q r =
 
 -- ---- the register after bytes
 
-pub feed-cat : (c : ℕ) (xs ys : List ℕ) → feed c (xs ++ ys) ≡ feed (feed c xs) ys
-unfolding feed
+pub feed-cat : (c : ℕ) (xs ys : List ℕ) → feedBytes c (xs ++ ys) ≡ feedBytes (feedBytes c xs) ys
+unfolding feedBytes
 feed-cat c [] ys = refl
 feed-cat c (x ∷ xs) ys = feed-cat (shifts 8 (bitXor c x)) xs ys
 
 -- bytes fed in one after the other are their number added to the register, and then all the shifts
-pub feed-shifts : (c : ℕ) (bs : List ℕ) → Bytes bs → feed c bs ≡ shifts (8 * length bs) (bitXor c (num bs))
-unfolding feed num
+pub feed-shifts : (c : ℕ) (bs : List ℕ) → Bytes bs → feedBytes c bs ≡ shifts (8 * length bs) (bitXor c (num bs))
+unfolding feedBytes num
 feed-shifts c [] h = sym (xor-zero-r c)
 feed-shifts c (b ∷ bs) h =
     let n = num bs in
@@ -170,15 +170,15 @@ feed-shifts c (b ∷ bs) h =
 
 -- ---- turns of the loops
 
-pub feed-one : (c : ℕ) (l : List ℕ) (i : ℕ) → i < length l → feed c (drop i l) ≡ feed (shifts 8 (bitXor c (getD l i 0))) (drop (i + 1) l)
-unfolding feed
-feed-one c l i h = ap (feed c) (drop-cons l i 0 h ∙ ap (λ (k : ℕ). getD l i 0 ∷ drop k l) (sym (add-one i)))
+pub feed-one : (c : ℕ) (l : List ℕ) (i : ℕ) → i < length l → feedBytes c (drop i l) ≡ feedBytes (shifts 8 (bitXor c (getD l i 0))) (drop (i + 1) l)
+unfolding feedBytes
+feed-one c l i h = ap (feedBytes c) (drop-cons l i 0 h ∙ ap (λ (k : ℕ). getD l i 0 ∷ drop k l) (sym (add-one i)))
 
-pub feed-eight : (c : ℕ) (l : List ℕ) (i : ℕ) → Bytes l → i + 8 ≤ length l → feed c (drop i l) ≡ feed (shifts 64 (bitXor c (num (part l i 8)))) (drop (i + 8) l)
+pub feed-eight : (c : ℕ) (l : List ℕ) (i : ℕ) → Bytes l → i + 8 ≤ length l → feedBytes c (drop i l) ≡ feedBytes (shifts 64 (bitXor c (num (part l i 8)))) (drop (i + 8) l)
 feed-eight c l i b h =
-    ap (feed c) (sym (take-append-drop 8 (drop i l)) ∙ ap (λ (r : List ℕ). part l i 8 ++ r) (drop-drop 8 i l))
+    ap (feedBytes c) (sym (take-append-drop 8 (drop i l)) ∙ ap (λ (r : List ℕ). part l i 8 ++ r) (drop-drop 8 i l))
     ∙ feed-cat c (part l i 8) (drop (i + 8) l)
-    ∙ ap (λ (x : ℕ). feed x (drop (i + 8) l)) (feed-shifts c (part l i 8) (bytes-part l b i 8)
+    ∙ ap (λ (x : ℕ). feedBytes x (drop (i + 8) l)) (feed-shifts c (part l i 8) (bytes-part l b i 8)
     ∙ ap (λ (n : ℕ). shifts (8 * n) (bitXor c (num (part l i 8)))) (length-part l i 8 h))
 
 -- ---- the tables
@@ -198,12 +198,12 @@ getD-tables : (n j k b : ℕ) → k < n → b < 16 → getD (tables j n) (16 * k
 unfolding upto
 getD-tables zero j k b h g = absurd (not-suc-le-zero h)
 getD-tables (suc n) j zero b h g =
-    let r = row j in
+    let r = halfByteTable j in
     ap (λ (i : ℕ). getD (r ++ tables (j + 1) n) i 0) (zero-add b)
     ∙ List·getD-append r (tables (j + 1) n) 0 b (omega (arith, length-map (from 0 16) (shifts (4 * (j + 1))), length-from 0 16))
     ∙ getD-row (shifts (4 * (j + 1))) 0 16 b g ∙ ap₂ (λ (x y : ℕ). shifts (4 * (x + 1)) y) (sym (add-zero j)) (zero-add b)
 getD-tables (suc n) j (suc k) b h g =
-    let r = row j in
+    let r = halfByteTable j in
     let p : 16 * suc k + b ≡ length r + (16 * k + b) = omega (arith, length-map (from 0 16) (shifts (4 * (j + 1))), length-from 0 16) in
     ap (λ (i : ℕ). getD (r ++ tables (j + 1) n) i 0) p ∙ getD-append-add r (tables (j + 1) n) (16 * k + b) 0
     ∙ getD-tables n (j + 1) k b (le-of-suc-le-suc h) g

@@ -13,7 +13,7 @@ use Rattle.laws.specs.Little.{num}
 use Rattle.laws.proofs.Little.{Bytes}
 use Rattle.laws.proofs.Tables.{passes}
 use Rattle.frame.specs.V42.{generator, plus, times, divide, bits, content, complement, fcs, number}
-use Rattle.frame.specs.Crc.{poly, shift, shifts, feed, crc32}
+use Rattle.frame.specs.Crc.{poly, shift, shifts, feedBytes, crc32}
 use Rattle.frame.proofs.crc.Laws.{shifts-xor, feed-shifts}
 
 -- every coefficient is 0 or 1
@@ -207,7 +207,7 @@ v42 bs h =
     let ls : length s ≡ 32 = length-plus (divide k u) (divide k v) (omega (arith, length-divide k u lu, length-divide k v lv)) ∙ length-divide k u lu in
     let all : number u ≡ 4294967295 = number-zeros (replicate 32 1) k ∙ ones in
     let own : number v ≡ num bs = number-zeros (content bs) 32 ∙ number-content bs h in
-    let e : number s ≡ feed 4294967295 bs =
+    let e : number s ≡ feedBytes 4294967295 bs =
     number-plus (divide k u) (divide k v) (divide-coefficients k u cu) (divide-coefficients k v cv)
     ∙ ap₂ bitXor (number-divide k u cu) (number-divide k v cv) ∙ sym (shifts-xor k (number u) (number v))
     ∙ (λ i. shifts (length-content bs i) (bitXor (all i) (own i))) ∙ sym (feed-shifts 4294967295 bs h) in

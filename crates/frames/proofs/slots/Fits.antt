@@ -9,7 +9,7 @@ use lib.Dec.{ltb}
 use Rattle.laws.proofs.Picks.{test}
 use Rattle.harq.specs.Held.{above, smallest, upTo, incrementOf, hMax}
 use Rattle.harq.specs.declared.Harq.{Harq}
-use Rattle.ledger.specs.Limits.{maxBits, maxHeld}
+use Rattle.limits.specs.Limits.{maxBits, maxHeld}
 
 smallest-le : (e : ℕ) (es : List ℕ) → smallest e es ≤ e
 unfolding smallest

@@ -19,11 +19,11 @@ use Rattle.area.specs.Table.{rowAt, rowsFrom, tableBytes, withRows, total}
 use Rattle.area.specs.declared.table.Row.{Row}
 use Rattle.area.proofs.table.Laws.{rows-turn}
 use Rattle.laws.specs.Lists.{listed}
-use Rattle.ledger.specs.Limits.{maxSlots, maxPieces}
 use Rattle.frames.specs.declared.slots.Slot.{Slot}
 use Rattle.frames.specs.declared.slots.Slots.{Slots}
 use Rattle.frames.specs.declared.slots.Added.{Added}
-use Rattle.frames.specs.Slots.{pushed, pushAll, wholeSlot, unheldSlots, incrementSlot, incrementSlots, chunkRows, newPieces}
+use Rattle.frames.specs.Slots.{slotPushed, pushAll, wholeSlot, unheldSlots, incrementSlot, incrementSlots, chunkRows, addedPieces}
+use Rattle.limits.specs.Limits.{maxSlots, maxPieces}
 
 take-more : {A : Type 0} (n : ℕ) (x : A) (xs : List A) → 0 < n → take n (x ∷ xs) ≡ x ∷ take (n - 1) xs
 take-more zero x xs h = absurd (not-suc-le-zero h)
@@ -73,8 +73,8 @@ module _ (s₀ : Slots) (a : List ℕ) (n : ℕ) (held : List ℕ) (room bits : 
   pub choosing-held : listed (r .off) held ≡ true → Choosing s₀ a n held room bits s left (start + r .len) (i + 1)
   choosing-held t = record { high = omega arith; space = c .space; fits = choosing-fits; same = c .same ∙ ap (λ (x : List Slot). pushAll s (take left x)) (turn true t) }
 
-  pub choosing-unheld : (q : Slots) → q ≡ pushed s (wholeSlot bits start r) → listed (r .off) held ≡ false → 0 < left → Choosing s₀ a n held room bits q (left - 1) (start + r .len) (i + 1)
-  unfolding pushAll pushed
+  pub choosing-unheld : (q : Slots) → q ≡ slotPushed s (wholeSlot bits start r) → listed (r .off) held ≡ false → 0 < left → Choosing s₀ a n held room bits q (left - 1) (start + r .len) (i + 1)
+  unfolding pushAll slotPushed
   choosing-unheld q p t l = record {
     high = omega arith;
     space = omega (arith, c .space, ap (λ (x : Slots). x .n) p);
@@ -121,8 +121,8 @@ adding-start s a n room max next at w bits h k = record {
 
 module _ (s₀ : Slots) (a₀ : List ℕ) (n room max next at w bits : ℕ) (a : List ℕ) (s : Slots) (left done i : ℕ) (g : Adding s₀ a₀ n room max next at w bits a s left done i) where
   pub adding-end : (left ≡ 0) ⊎ (w ≤ done)
-      → (record { slots = s; rows = i; bytes = done }, a) ≡ newPieces a₀ n room max next at w bits s₀
-  unfolding pushAll unheldSlots total newPieces
+      → (record { slots = s; rows = i; bytes = done }, a) ≡ addedPieces a₀ n room max next at w bits s₀
+  unfolding pushAll unheldSlots total addedPieces
   adding-end h =
       let z : chunkRows left max (next + done) (w - done) ≡ [] = chunk-none left max (next + done) (w - done) (⊎-elim (λ e. inl e) (λ e. inr (omega arith)) h) in
       let p : s ≡ pushAll s₀ (unheldSlots [] bits at (chunkRows room max next w)) = sym (g .slots ∙ ap (λ (x : List Row). pushAll s (unheldSlots [] bits (at + done) x)) z) in
@@ -144,9 +144,9 @@ module _ (s₀ : Slots) (a₀ : List ℕ) (n room max next at w bits : ℕ) (a :
         ∙ ap (λ (k : ℕ). record { off = next + done; len = k } ∷ chunkRows (left - 1) max (next + done + k) (w - done - k)) (sym e)
         ∙ ap₂ (λ (x y : ℕ). r ∷ chunkRows (left - 1) max x y) (add-assoc next done l) (let q : w - done - l ≡ w - (done + l) = omega arith in q)
 
-    pub adding-turn : (d : List ℕ) (q : Slots) → d ≡ overwrite a (place i) (tableBytes (r ∷ [])) → q ≡ pushed s (wholeSlot bits (at + done) r)
+    pub adding-turn : (d : List ℕ) (q : Slots) → d ≡ overwrite a (place i) (tableBytes (r ∷ [])) → q ≡ slotPushed s (wholeSlot bits (at + done) r)
         → Adding s₀ a₀ n room max next at w bits d q (left - 1) (done + l) (i + 1)
-    unfolding pushAll pushed unheldSlots total
+    unfolding pushAll slotPushed unheldSlots total
     adding-turn d q p u = record {
       within = omega arith;
       space = omega (arith, g .space, ap (λ (x : Slots). x .n) u);
@@ -162,10 +162,10 @@ module _ (s₀ : Slots) (a₀ : List ℕ) (n room max next at w bits : ℕ) (a :
     }
 
 -- what `new_pieces` leaves, fact by fact
-pub new-facts : (a : List ℕ) (n room max next at w bits : ℕ) (s : Slots) (k : Added) (b : List ℕ) → (k, b) ≡ newPieces a n room max next at w bits s
+pub new-facts : (a : List ℕ) (n room max next at w bits : ℕ) (s : Slots) (k : Added) (b : List ℕ) → (k, b) ≡ addedPieces a n room max next at w bits s
     → (k .slots ≡ pushAll s (unheldSlots [] bits at (chunkRows room max next w))) × (k .rows ≡ n + length (chunkRows room max next w))
     × (k .bytes ≡ total (chunkRows room max next w)) × (b ≡ withRows a n (chunkRows room max next w))
-unfolding newPieces
+unfolding addedPieces
 new-facts a n room max next at w bits s k b e =
     (ap (λ (x : Added × List ℕ). x .0 .slots) e, ap (λ (x : Added × List ℕ). x .0 .rows) e, ap (λ (x : Added × List ℕ). x .0 .bytes) e, ap (λ (x : Added × List ℕ). x .1) e)
 
@@ -178,7 +178,7 @@ and-either false y h = inl refl
 -- ---- increments
 
 module _ (q : Harq) (slot : ℕ) (rs : List Row) (os hs : List ℕ) (i : ℕ) (s : Slots) where
-  pub increments-turn : (t : Slots) → i < length os → i < length hs → t ≡ pushed s (incrementSlot q slot (getD os i 0) (getD hs i 0) (findFrom (getD os i 0) 0 rs))
+  pub increments-turn : (t : Slots) → i < length os → i < length hs → t ≡ slotPushed s (incrementSlot q slot (getD os i 0) (getD hs i 0) (findFrom (getD os i 0) 0 rs))
       → pushAll s (incrementSlots q slot rs (drop i os) (drop i hs)) ≡ pushAll t (incrementSlots q slot rs (drop (i + 1) os) (drop (i + 1) hs))
   unfolding incrementSlots pushAll
   increments-turn t h k e =
@@ -192,14 +192,14 @@ module _ (q : Harq) (slot : ℕ) (rs : List Row) (os hs : List ℕ) (i : ℕ) (s
 -- ---- how many there are
 
 pub push-all-count : (s : Slots) (xs : List Slot) → pushAll s xs .n ≡ s .n + length xs
-unfolding pushAll pushed
+unfolding pushAll slotPushed
 push-all-count s [] = sym (add-zero _)
-push-all-count s (x ∷ xs) = push-all-count (pushed s x) xs ∙ omega arith
+push-all-count s (x ∷ xs) = push-all-count (slotPushed s x) xs ∙ omega arith
 
 pub push-all-append : (s : Slots) (xs ys : List Slot) → pushAll (pushAll s xs) ys ≡ pushAll s (xs ++ ys)
 unfolding pushAll
 push-all-append s [] ys = refl
-push-all-append s (x ∷ xs) ys = push-all-append (pushed s x) xs ys
+push-all-append s (x ∷ xs) ys = push-all-append (slotPushed s x) xs ys
 
 pub increments-length : (q : Harq) (slot : ℕ) (rs : List Row) (os hs : List ℕ) → length (incrementSlots q slot rs os hs) ≤ length os
 unfolding incrementSlots

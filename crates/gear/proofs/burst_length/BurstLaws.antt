@@ -23,7 +23,7 @@ use Rattle.config.specs.Ranged.{Ranged}
 use Rattle.levels.proofs.rates.RateLaws.{cue-in}
 use Rattle.gear.specs.declared.goodput.Gear.{Gear}
 use Rattle.gear.specs.Goodput.{cueFor}
-use Rattle.gear.specs.Bursts.{cleanBurst, burstLen, steady, far, adapted}
+use Rattle.gear.specs.BurstLength.{cleanBurst, burstLen, steady, far, adapted}
 
 module _ (p : Profile) (k : Ranged p) where
   abbrev usual : Float

@@ -1,4 +1,4 @@
-use Rattle.gear.specs.Judging.{counted}
+use Rattle.gear.specs.Judging.{failuresCounted}
 use lib.Ieee.{ofInt, ofBits}
 use borrow.Author.Needs.{needs}
 use Rattle.gear.proofs.count.Statement.{statement}
@@ -11,25 +11,25 @@ channel-failed-requires : tie.Need-channel-failed-requires
 channel-failed-requires c κs = search needs
 
 returns : tie.Need-returns
-unfolding counted
+unfolding failuresCounted
 returns c = simp (c .before .before .before .if1 .taken, c .before .before .if2 .taken, c .channel-failed .ensures, c .before .fail .ensures)
 
 fail-requires-2 : tie.Need-fail-requires-2
 fail-requires-2 c κs = search needs
 
 returns-2 : tie.Need-returns-2
-unfolding counted
+unfolding failuresCounted
 returns-2 c = simp (c .before .before .if1 .taken, c .before .if2 .left, c .fail2 .ensures)
 
 clear-requires : tie.Need-clear-requires
 clear-requires c κs = search needs
 
 returns-3 : tie.Need-returns-3
-unfolding counted ofInt ofBits
+unfolding failuresCounted ofInt ofBits
 returns-3 c = simp (c .before .before .if1 .left, c .before .if3 .taken, c .clear .ensures)
 
 returns-4 : tie.Need-returns-4
-unfolding counted ofInt ofBits
+unfolding failuresCounted ofInt ofBits
 returns-4 c = simp (c .before .if1 .left, c .if3 .left)
 
 pub count-spec : {M : Type 1} → statement M

@@ -8,7 +8,7 @@ use Rattle.float.specs.Total.{totalLe}
 use Rattle.laws.proofs.Picks.{either}
 use Rattle.laws.specs.Span.{upto, fold}
 use Rattle.laws.proofs.Span.{fold-keep}
-use Rattle.levels.specs.Ladders.{heeded}
+use Rattle.levels.specs.Usable.{heeded}
 use Rattle.levels.proofs.usable.Laws.{usable-below-lt, usable-below-le}
 use Rattle.config.specs.Ranged.{Ranged}
 use Rattle.config.specs.declared.Marks.{Marks}

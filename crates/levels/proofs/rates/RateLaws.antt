@@ -20,7 +20,7 @@ use Rattle.config.specs.declared.Profile.{Profile}
 use Rattle.config.specs.Durations.{slotAt, durationAt, dataS}
 use Rattle.config.specs.Ranged.{Ranged}
 use Rattle.levels.specs.declared.rates.Pace.{Pace}
-use Rattle.levels.specs.Rates.{framesOf, payloadBits, levelRate}
+use Rattle.levels.specs.Rates.{framesPerBurst, payloadBits, levelRate}
 use Rattle.levels.specs.Paces.{Paced, paceAt, paceS, paceBits, paceRate}
 
 abbrev pub largest : ℕ
@@ -80,12 +80,12 @@ module _ (q : Pace) (k : Paced q) where
       (more (k .pre) (more (whole-in bits 32768 b) (more (k .rate) (more (lead-in cue) none)))) tt
 
   -- the frames of a burst
-  pub frames-le : (cue : Bool) → countOf (framesOf (q .usual) (paceS q (q .slot) cue) (paceS q (2 * q .slot) cue)) ≤ largest
-  unfolding framesOf
+  pub frames-le : (cue : Bool) → countOf (framesPerBurst (q .usual) (paceS q (q .slot) cue) (paceS q (2 * q .slot) cue)) ≤ largest
+  unfolding framesPerBurst
   frames-le cue =
       let one = paceS q (q .slot) cue in
       let two = paceS q (2 * q .slot) cue in
-      count-le (framesOf (q .usual) one two) (div-fits binary64 _ _)
+      count-le (framesPerBurst (q .usual) one two) (div-fits binary64 _ _)
       (frames-in (q .usual) one two (k .usual) (data-in (q .slot) cue (omega (arith, k .slot))) (data-in (2 * q .slot) cue (omega (arith, k .slot))))
 
 -- and their bits

@@ -11,7 +11,7 @@ use Rattle.ieee.specs.Range.{In, w32}
 use Rattle.laws.proofs.Tables.{passes}
 use Rattle.laws.proofs.Picks.{either}
 use Rattle.level.specs.Ladder.{airMeans, airMeansTd, airMean, airMeanTd}
-use Rattle.levels.specs.Ladders.{airDb}
+use Rattle.levels.specs.Usable.{airDb}
 
 abbrev low : Float
 low = neg (w32 8)

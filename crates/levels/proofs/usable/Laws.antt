@@ -13,7 +13,7 @@ use Rattle.config.specs.declared.Marks.{Marks}
 use Rattle.config.specs.declared.MaybeLevel.{MaybeLevel}
 use Rattle.report.specs.declared.ChanClass.{ChanClass}
 use Rattle.levels.specs.declared.usable.Holds.{Holds}
-use Rattle.levels.specs.Ladders.{familyOk, enough, levelFor, usable, usableBelow, climbs, climbAbove, allowedBelow, nthBelow, lowestLong, stepDown}
+use Rattle.levels.specs.Usable.{familyOk, enough, levelFor, usable, usableBelow, climbs, climbAbove, allowedBelow, nthBelow, lowestLong, stepDown}
 
 pub allowed-lt : (c : ChanClass) (at : ℕ) → at < 17 → allowedBelow c at < 17
 unfolding allowedBelow

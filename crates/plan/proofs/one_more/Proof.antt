@@ -1,4 +1,4 @@
-use Rattle.plan.specs.Planning.{oneMore}
+use Rattle.plan.specs.Planning.{oneMoreFits}
 use Rattle.plan.proofs.Turns.{wholes-small}
 use mathlib.Core.Path.{refl}
 use native.Mathlib.Omega.{arith}
@@ -32,7 +32,7 @@ fits-requires : tie.Need-fits-requires
 fits-requires c κs = search needs
 
 returns : tie.Need-returns
-unfolding oneMore
+unfolding oneMoreFits
 returns c =
     let f = c .before in
     rw (f .before .cap .ensures .0, f .fits2 .ensures, add-one (f .before .before .before .args .r)) refl

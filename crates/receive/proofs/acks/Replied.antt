@@ -15,7 +15,6 @@ use Rattle.laws.proofs.Picks.{cond-yes, cond-no, test}
 use Rattle.report.specs.declared.ack.AckInfo.{AckInfo}
 use Rattle.config.specs.declared.Profile.{Profile}
 use Rattle.gear.specs.declared.goodput.Gear.{Gear}
-use Rattle.ledger.specs.Limits.{maxSlots, tinyAckFrames, tinyAll}
 use Rattle.ledger.specs.Reply.{Reply, bitAt, shortAck, longAck}
 use Rattle.record.specs.Profiles.{sizesOf}
 use Rattle.record.specs.View.{sentIn, view}
@@ -24,13 +23,16 @@ use Rattle.record.specs.declared.Sender.{Sender}
 use Rattle.record.proofs.View.{Counted, Arrays}
 use Rattle.settle.specs.Settle.{Settling}
 use Rattle.settle.proofs.Settles.{Bits, half-bit}
-use Rattle.settle.specs.Replies.{withGear, withLink, ackIn, ackedBy, bitsFor}
+use Rattle.settle.specs.AckIn.{ackIn, ackedBy, bitsFor}
 use Rattle.settle.proofs.outcome.Outcomes.{length-sent}
 use Rattle.receive.proofs.awaited.Awaited.{acked-is}
 use Rattle.replies.specs.declared.Heard.{Heard}
 use Rattle.replies.specs.declared.Ack.{Ack}
 use Rattle.replies.specs.declared.LongAck.{LongAck}
-use Rattle.replies.specs.Answers.{noted, withClass, withPath, longDb, Answerable, shortAcked, longAcked}
+use Rattle.replies.specs.Replies.{ackNoted, withPath, longDb, ReplyReady, shortAcked, longAcked}
+use Rattle.record.specs.Setters.{withGear, withLink}
+use Rattle.gear.specs.Setters.{withClass}
+use Rattle.limits.specs.Limits.{maxSlots, tinyAckFrames, tinyAll}
 
 -- ---- bits
 
@@ -60,7 +62,7 @@ bits-short b bitmap n few j h =
 
 -- ---- short and long acks that are awaited
 
-module _ (p : Profile) (s : Sender) (a : List ℕ) (an : Answerable p s a) (ar : Arrays s) (by : Bytes a) (g : Gear) (k : Link) where
+module _ (p : Profile) (s : Sender) (a : List ℕ) (an : ReplyReady p s a) (ar : Arrays s) (by : Bytes a) (g : Gear) (k : Link) where
   abbrev given : Sender
   given = withLink (withGear s g) k
 
@@ -91,11 +93,11 @@ module _ (p : Profile) (s : Sender) (a : List ℕ) (an : Answerable p s a) (ar :
 sent-count : (s : Sender) → Arrays s → s .«last_burst» .n ≤ maxSlots → length (sentIn (s .«last_burst»)) ≡ s .«last_burst» .n
 sent-count s ar few = length-sent 0 (longAck 0 0) s [] ar few (bits-long 0 0 (s .«last_burst» .n) (length (sentIn (s .«last_burst»))))
 
-module _ (p : Profile) (s : Sender) (a : List ℕ) (an : Answerable p s a) (ar : Arrays s) (by : Bytes a) (h : Heard) where
+module _ (p : Profile) (s : Sender) (a : List ℕ) (an : ReplyReady p s a) (ar : Arrays s) (by : Bytes a) (h : Heard) where
   few : s .«last_burst» .n ≤ maxSlots
   few = omega (arith, an .settling .out)
 
-  pub short-awaited : (r : Ack) (g : Gear) (k : Link) (m : ℕ) (q : Sender) (b : List ℕ) → g ≡ withClass (s .gear) (r .class) → k ≡ noted (s .link) (h .time) (r .«want_turn») (r .«want_disc») (r .burst)
+  pub short-awaited : (r : Ack) (g : Gear) (k : Link) (m : ℕ) (q : Sender) (b : List ℕ) → g ≡ withClass (s .gear) (r .class) → k ≡ ackNoted (s .link) (h .time) (r .«want_turn») (r .«want_disc») (r .burst)
       → m ≡ bitsFor (s .«last_burst» .n) (r .bitmap)
       → (q, b) ≡ ackedBy p (r .burst) m (r .stored) (r .«snr_db») (h .time) (withLink (withGear s g) (withPath k (r .slot) (k .«peer_doppler_hz»))) a
       → k .awaiting ≡ true → (q, b) ≡ shortAcked p h r s a
@@ -106,12 +108,12 @@ module _ (p : Profile) (s : Sender) (a : List ℕ) (an : Answerable p s a) (ar :
       cond-yes _ _ _ _ aw
       (e₄ ∙ ap (λ (x : ℕ). ackedBy p (r .burst) x (r .stored) (r .«snr_db») (h .time) (withLink (withGear s g) (withPath k (r .slot) (k .«peer_doppler_hz»))) a) e₃
       ∙ ap₂ (λ (x : Gear) (y : Link). ackedBy p (r .burst) (bitsFor (s .«last_burst» .n) (r .bitmap)) (r .stored) (r .«snr_db») (h .time) (withLink (withGear s x) (withPath y (r .slot) (y .«peer_doppler_hz»))) a) e₁ e₂
-      ∙ given-is p s a an ar by (withClass (s .gear) (r .class)) (withPath (noted (s .link) (h .time) (r .«want_turn») (r .«want_disc») (r .burst)) (r .slot) (s .link .«peer_doppler_hz»))
+      ∙ given-is p s a an ar by (withClass (s .gear) (r .class)) (withPath (ackNoted (s .link) (h .time) (r .«want_turn») (r .«want_disc») (r .burst)) (r .slot) (s .link .«peer_doppler_hz»))
       (shortAck (r .burst) (r .bitmap)) (bitsFor (s .«last_burst» .n) (r .bitmap)) (r .stored) (r .«snr_db») (h .time) aw refl
       (λ j l. ap (λ (x : ℕ). shortAck (r .burst) (r .bitmap) .bit x (0 + j)) n ∙ bits-short (r .burst) (r .bitmap) (s .«last_burst» .n) few j l))
 
   pub long-awaited : (r : LongAck) (i : AckInfo) (g : Gear) (k : Link) (db : Float) (q : Sender) (b : List ℕ) → g ≡ withClass (s .gear) (i .report .class)
-      → k ≡ noted (s .link) (h .time) (r .«want_turn») (r .«want_disc») (i .burst) → db ≡ longDb p i
+      → k ≡ ackNoted (s .link) (h .time) (r .«want_turn») (r .«want_disc») (i .burst) → db ≡ longDb p i
       → (q, b) ≡ ackedBy p (i .burst) (i .bitmap) (r .stored) db (h .time) (withLink (withGear s g) (withPath k (i .report .slot) (i .report .«doppler_hz»))) a
       → k .awaiting ≡ true → (q, b) ≡ longAcked p h r i s a
   unfolding longAcked
@@ -120,18 +122,18 @@ module _ (p : Profile) (s : Sender) (a : List ℕ) (an : Answerable p s a) (ar :
       cond-yes _ _ _ _ aw
       (e₄ ∙ ap (λ (x : Float). ackedBy p (i .burst) (i .bitmap) (r .stored) x (h .time) (withLink (withGear s g) (withPath k (i .report .slot) (i .report .«doppler_hz»))) a) e₃
       ∙ ap₂ (λ (x : Gear) (y : Link). ackedBy p (i .burst) (i .bitmap) (r .stored) (longDb p i) (h .time) (withLink (withGear s x) (withPath y (i .report .slot) (i .report .«doppler_hz»))) a) e₁ e₂
-      ∙ given-is p s a an ar by (withClass (s .gear) (i .report .class)) (withPath (noted (s .link) (h .time) (r .«want_turn») (r .«want_disc») (i .burst)) (i .report .slot) (i .report .«doppler_hz»))
+      ∙ given-is p s a an ar by (withClass (s .gear) (i .report .class)) (withPath (ackNoted (s .link) (h .time) (r .«want_turn») (r .«want_disc») (i .burst)) (i .report .slot) (i .report .«doppler_hz»))
       (longAck (i .burst) (i .bitmap)) (i .bitmap) (r .stored) (longDb p i) (h .time) aw refl
       (bits-long (i .burst) (i .bitmap) (s .«last_burst» .n) (length (sentIn (s .«last_burst»)))))
 
 -- ---- those that are not
 
-pub short-unasked : (p : Profile) (s : Sender) (a : List ℕ) (h : Heard) (r : Ack) (k : Link) → k ≡ noted (s .link) (h .time) (r .«want_turn») (r .«want_disc») (r .burst) → k .awaiting ≡ false
+pub short-unasked : (p : Profile) (s : Sender) (a : List ℕ) (h : Heard) (r : Ack) (k : Link) → k ≡ ackNoted (s .link) (h .time) (r .«want_turn») (r .«want_disc») (r .burst) → k .awaiting ≡ false
     → (withLink s k, a) ≡ shortAcked p h r s a
 unfolding shortAcked
 short-unasked p s a h r k e t = cond-no _ _ _ _ (sym (ap (λ (x : Link). x .awaiting) e) ∙ t) (ap (λ (x : Link). (withLink s x, a)) e)
 
-pub long-unasked : (p : Profile) (s : Sender) (a : List ℕ) (h : Heard) (r : LongAck) (i : AckInfo) (k : Link) → k ≡ noted (s .link) (h .time) (r .«want_turn») (r .«want_disc») (i .burst) → k .awaiting ≡ false
+pub long-unasked : (p : Profile) (s : Sender) (a : List ℕ) (h : Heard) (r : LongAck) (i : AckInfo) (k : Link) → k ≡ ackNoted (s .link) (h .time) (r .«want_turn») (r .«want_disc») (i .burst) → k .awaiting ≡ false
     → (withLink s k, a) ≡ longAcked p h r i s a
 unfolding longAcked
 long-unasked p s a h r i k e t = cond-no _ _ _ _ (sym (ap (λ (x : Link). x .awaiting) e) ∙ t) (ap (λ (x : Link). (withLink s x, a)) e)

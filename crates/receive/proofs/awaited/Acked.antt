@@ -16,7 +16,8 @@ use Rattle.gear.specs.declared.Outcome.{Outcome}
 use Rattle.record.specs.declared.Sender.{Sender}
 use Rattle.settle.specs.Settle.{settled}
 use Rattle.settle.specs.Outcomes.{outcomeIn}
-use Rattle.settle.specs.Replies.{withGear, withLink, withWave, keeps, withoutBurst, ackedBy}
+use Rattle.settle.specs.AckIn.{keeps, withoutBurst, ackedBy}
+use Rattle.record.specs.Setters.{withGear, withLink, withWave}
 
 module _ (p : Profile) (burst m : ℕ) (stored : Bool) (snr time : Float) (s : Sender) (a : List ℕ) where
   abbrev matched : Bool

@@ -15,7 +15,6 @@ use Rattle.config.specs.declared.Profile.{Profile}
 use Rattle.gear.specs.declared.goodput.Gear.{Gear}
 use Rattle.gear.specs.Judging.{onAck}
 use Rattle.gear.specs.declared.Outcome.{Outcome}
-use Rattle.ledger.specs.Limits.{Sizes}
 use Rattle.ledger.specs.Reply.{Reply}
 use Rattle.ledger.specs.Ledger as L
 use Rattle.ledger.specs.Ledger.{settles, settleBurst, clearBurst}
@@ -28,9 +27,11 @@ use Rattle.settle.specs.Settle.{settled}
 use Rattle.settle.proofs.Settles as S
 use Rattle.settle.proofs.Settles.{Bits}
 use Rattle.settle.specs.Outcomes.{outcomeOf, outcomeIn}
-use Rattle.settle.specs.Replies.{withGear, withLink, withWave, keeps, withoutBurst, ackIn, ackedBy}
+use Rattle.settle.specs.AckIn.{keeps, withoutBurst, ackIn, ackedBy}
 use Rattle.settle.proofs.outcome.Cleared.{cleared}
 use Rattle.settle.proofs.outcome.Outcomes.{outcome-is, length-sent}
+use Rattle.record.specs.Setters.{withGear, withLink, withWave}
+use Rattle.ledger.specs.Sizes.{Sizes}
 
 module _ (z : Sizes) (p : Profile) (r : Reply) (m : ℕ) (stored : Bool) (snr time : Float) (s : Sender) (a : List ℕ)
     (so : Sound z (view s a)) (c : Counted s a) (ar : Arrays s) (by : Bytes a) (aw : s .link .awaiting ≡ true)
@@ -92,15 +93,15 @@ module _ (z : Sizes) (p : Profile) (r : Reply) (m : ℕ) (stored : Bool) (snr ti
   unfolding view
   tested-is = ap (λ (n : ℕ). matched && ltb 0 n) (length-sent m r s a ar (c .sent) bits)
 
-  after-yes : tested ≡ true → L.onAck top r keep before ≡ settleBurst top r keep before
-  unfolding view L.onAck
+  after-yes : tested ≡ true → L.hearAck top r keep before ≡ settleBurst top r keep before
+  unfolding view L.hearAck
   after-yes e = rw (aw, tested-is ∙ e) refl
 
-  after-no : tested ≡ false → L.onAck top r keep before ≡ clearBurst before
-  unfolding view L.onAck
+  after-no : tested ≡ false → L.hearAck top r keep before ≡ clearBurst before
+  unfolding view L.hearAck
   after-no e = rw (aw, tested-is ∙ e) refl
 
-  ack-is : (t : Bool) → tested ≡ t → (l : L.Sender) → L.onAck top r keep before ≡ l → ackIn p r stored snr time s a ≡ held l (next o (cond t wave (s .link .«peer_wave»)))
+  ack-is : (t : Bool) → tested ≡ t → (l : L.Sender) → L.hearAck top r keep before ≡ l → ackIn p r stored snr time s a ≡ held l (next o (cond t wave (s .link .«peer_wave»)))
   unfolding ackIn
   ack-is t e l f = ap₂ (λ (b : Bool) (x : L.Sender). held x (next o (cond b wave (s .link .«peer_wave»)))) (tested-is ∙ e) f
 

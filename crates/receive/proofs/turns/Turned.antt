@@ -14,26 +14,27 @@ use Rattle.config.specs.declared.Profile.{Profile}
 use Rattle.gear.specs.declared.goodput.Gear.{Gear}
 use Rattle.gear.specs.declared.Outcome.{Outcome}
 use Rattle.gear.specs.Setters.{withBurst}
-use Rattle.gear.specs.Meeting.{connected, onTurn}
+use Rattle.gear.specs.OtherReplies.{connected, onTurn}
 use Rattle.ledger.specs.Ledger.{clearBurst}
-use Rattle.ledger.specs.Limits.{maxSlots}
 use Rattle.record.specs.View.{view, store, storeArea}
 use Rattle.record.specs.declared.Sender.{Sender}
 use Rattle.record.proofs.View.{Counted, Arrays}
 use Rattle.settle.proofs.Settles.{Bits}
 use Rattle.settle.specs.Outcomes.{outcomeOf, outcomeIn}
-use Rattle.settle.specs.Replies.{withGear, withLink, withoutBurst}
+use Rattle.settle.specs.AckIn.{withoutBurst}
 use Rattle.settle.proofs.outcome.Outcomes.{outcome-is}
 use Rattle.settle.proofs.outcome.Cleared.{cleared}
 use Rattle.replies.specs.declared.ConnAck.{ConnAck}
 use Rattle.replies.specs.declared.Heard.{Heard}
 use Rattle.replies.specs.declared.Turn.{Turn}
-use Rattle.replies.specs.Answers.{met, timed, turnDb, nothingHeard, Answerable, turned, turnedTo, connectedTo}
+use Rattle.replies.specs.Replies.{connectNoted, turnDb, nothingHeard, ReplyReady, turned, turnedTo, connectedTo}
+use Rattle.record.specs.Setters.{withGear, withLink, withTime}
+use Rattle.limits.specs.Limits.{maxSlots}
 
 no-bits : (n : ℕ) → Bits (λ (i : ℕ). false) 0 0 n
 no-bits n j h = sym (ap (λ (x : ℕ). eqb (x % 2) 1) (zero-div (2 ^ j)))
 
-module _ (p : Profile) (s : Sender) (a : List ℕ) (an : Answerable p s a) (ar : Arrays s) (by : Bytes a) (h : Heard) (r : Turn) where
+module _ (p : Profile) (s : Sender) (a : List ℕ) (an : ReplyReady p s a) (ar : Arrays s) (by : Bytes a) (h : Heard) (r : Turn) where
   counted : Counted s a
   counted =
       let n = an .settling in
@@ -51,25 +52,25 @@ module _ (p : Profile) (s : Sender) (a : List ℕ) (an : Answerable p s a) (ar :
   outcome = ap (λ (b : Bool). outcomeIn 0 b (s .«last_burst»)) (sym other-number) ∙ outcome-is 0 (nothingHeard (view s a)) s a ar few (no-bits (s .«last_burst» .n))
 
   abbrev next : Outcome → Sender
-  next o = withLink (withGear s (onTurn p (s .gear) o (turnDb h r) (h .wave) (h .time))) (timed (s .link) (h .time))
+  next o = withLink (withGear s (onTurn p (s .gear) o (turnDb h r) (h .wave) (h .time))) (withTime (s .link) (h .time))
 
   pub turned-is : _≡_ {A = Sender × List ℕ} (turnedTo p h r s, a) (turned p h r s a)
   unfolding turnedTo turned
   turned-is =
-      cleared s a counted ar by (onTurn p (s .gear) (outcomeIn 0 false (s .«last_burst»)) (turnDb h r) (h .wave) (h .time)) (timed (s .link) (h .time)) refl
+      cleared s a counted ar by (onTurn p (s .gear) (outcomeIn 0 false (s .«last_burst»)) (turnDb h r) (h .wave) (h .time)) (withTime (s .link) (h .time)) refl
       ∙ ap (λ (o : Outcome). (store (clearBurst (view s a)) (next o), storeArea (clearBurst (view s a)) a)) outcome
 
 -- ---- as the code goes
 
 pub turn-is : (p : Profile) (h : Heard) (r : Turn) (s q : Sender) (o : Outcome) (db : Float) (g : Gear) → o ≡ outcomeIn 0 false (s .«last_burst») → db ≡ turnDb h r
-    → g ≡ onTurn p (s .gear) o db (h .wave) (h .time) → q ≡ withoutBurst (withLink (withGear s g) (timed (s .link) (h .time))) → q ≡ turnedTo p h r s
+    → g ≡ onTurn p (s .gear) o db (h .wave) (h .time) → q ≡ withoutBurst (withLink (withGear s g) (withTime (s .link) (h .time))) → q ≡ turnedTo p h r s
 unfolding turnedTo
 turn-is p h r s q o db g e₁ e₂ e₃ e₄ =
-    e₄ ∙ ap (λ (x : Gear). withoutBurst (withLink (withGear s x) (timed (s .link) (h .time))))
+    e₄ ∙ ap (λ (x : Gear). withoutBurst (withLink (withGear s x) (withTime (s .link) (h .time))))
     (e₃ ∙ ap₂ (λ (x : Outcome) (y : Float). onTurn p (s .gear) x y (h .wave) (h .time)) e₁ e₂)
 
 pub connect-is : (p : Profile) (h : Heard) (r : ConnAck) (s : Sender) (g : Gear)
     → g ≡ connected p (withBurst (s .gear) (p .lengths .«max_burst_s»)) (r .class) (p .cue && r .cue) (r .«snr_db») (h .time)
-    → withLink (withGear s g) (met (s .link) (h .time) (r .session) (r .slot)) ≡ connectedTo p h r s
+    → withLink (withGear s g) (connectNoted (s .link) (h .time) (r .session) (r .slot)) ≡ connectedTo p h r s
 unfolding connectedTo
-connect-is p h r s g e = ap (λ (x : Gear). withLink (withGear s x) (met (s .link) (h .time) (r .session) (r .slot))) e
+connect-is p h r s g e = ap (λ (x : Gear). withLink (withGear s x) (connectNoted (s .link) (h .time) (r .session) (r .slot))) e

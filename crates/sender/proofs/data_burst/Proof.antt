@@ -6,7 +6,6 @@ use Prim.Native.Nat.{ℕ}
 use lib.ListN.{length}
 use borrow.Author.Needs.{needs, length-unmapped}
 use Rattle.config.proofs.ranges.Ranged.{ranged}
-use Rattle.ledger.specs.Limits.{maxSlots}
 use Rattle.record.proofs.View.{Arrays}
 use Rattle.soundness.proofs.fields.Sound.{test-sound}
 use Rattle.refusals.specs.declared.Verdict.{Verdict}
@@ -15,6 +14,7 @@ use Rattle.verdicts.proofs.Passed.{is-passed, not-passed, burst-passed}
 use Rattle.sender.proofs.Bursting.{burst-refused, burst-accepted}
 use Rattle.sender.proofs.data_burst.Statement.{statement}
 use Rattle.sender.proofs.data_burst.Tie as tie
+use Rattle.limits.specs.Limits.{maxSlots}
 
 arrays : (s : tie.Start) → Arrays (s .args .s)
 arrays s =

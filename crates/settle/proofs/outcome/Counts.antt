@@ -14,13 +14,13 @@ use Rattle.laws.specs.Lists.{one}
 use Rattle.gear.specs.declared.Outcome.{Outcome}
 use Rattle.record.specs.declared.LastBurst.{LastBurst}
 use Rattle.settle.specs.declared.outcome.Came.{Came}
-use Rattle.settle.specs.Outcomes.{counted, talliedFrom, tallied, outcomeIn}
+use Rattle.settle.specs.Outcomes.{oneMoreCame, talliedFrom, tallied, outcomeIn}
 
 step : (l : List ℕ) (i : ℕ) → i < length l → drop i l ≡ getD l i 0 ∷ drop (i + 1) l
 step l i h = drop-cons l i 0 h ∙ ap (λ (k : ℕ). getD l i 0 ∷ drop k l) (sym (add-one i))
 
 pub tally-turn : (t : Came) (m : ℕ) (bs hs : List ℕ) (i : ℕ) → i < length bs → i < length hs
-    → talliedFrom t m (drop i bs) (drop i hs) ≡ talliedFrom (counted t (eqb (getD bs i 0) (getD hs i 0)) (eqb (m % 2) 1)) (m / 2) (drop (i + 1) bs) (drop (i + 1) hs)
+    → talliedFrom t m (drop i bs) (drop i hs) ≡ talliedFrom (oneMoreCame t (eqb (getD bs i 0) (getD hs i 0)) (eqb (m % 2) 1)) (m / 2) (drop (i + 1) bs) (drop (i + 1) hs)
 unfolding talliedFrom
 tally-turn t m bs hs i h k = ap₂ (talliedFrom t m) (step bs i h) (step hs i k)
 
@@ -33,7 +33,7 @@ one-few true = omega arith
 one-few false = omega arith
 
 pub counted-is : (t : Came) (fresh got : Bool) (x y z : ℕ) → x ≡ t .fresh + one fresh → y ≡ t .«fresh_got» + one (fresh && got) → z ≡ t .got + one got
-    → counted t fresh got ≡ record { fresh = x; «fresh_got» = y; got = z }
+    → oneMoreCame t fresh got ≡ record { fresh = x; «fresh_got» = y; got = z }
 counted-is t fresh got x y z e f g =
     sym (ap₂ (λ (u v : ℕ). record { fresh = u; «fresh_got» = v; got = z }) e f ∙ ap (λ (w : ℕ). record { fresh = t .fresh + one fresh; «fresh_got» = t .«fresh_got» + one (fresh && got); got = w }) g)
 

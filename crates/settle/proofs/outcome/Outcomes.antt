@@ -21,10 +21,10 @@ use Rattle.record.specs.declared.LastBurst.{LastBurst}
 use Rattle.record.specs.declared.Sender.{Sender}
 use Rattle.record.proofs.View.{Arrays}
 use Rattle.settle.proofs.Settles.{Bits, bits-first, bits-rest}
-use Rattle.ledger.specs.Limits.{maxSlots}
 use Rattle.settle.specs.declared.outcome.Came.{Came}
 use Rattle.settle.proofs.outcome.Counts.{one-few}
-use Rattle.settle.specs.Outcomes.{isFresh, freshSent, freshGot, allGot, outcomeOf, counted, talliedFrom, tallied, outcomeIn}
+use Rattle.settle.specs.Outcomes.{isFresh, freshSent, freshGot, allGot, outcomeOf, oneMoreCame, talliedFrom, tallied, outcomeIn}
+use Rattle.limits.specs.Limits.{maxSlots}
 
 came : Came → (ℕ → Bool) → ℕ → List Sent → Came
 came t b i fs = record { fresh = t .fresh + freshSent fs; «fresh_got» = t .«fresh_got» + freshGot b i fs; got = t .got + allGot b i fs }
@@ -40,9 +40,9 @@ tallied-is t b i m [] (x ∷ bs) hs e d h = absurd (omega (arith, e))
 tallied-is t b i m (o ∷ os) [] hs e d h = absurd (omega (arith, e))
 tallied-is t b i m (o ∷ os) (x ∷ bs) [] e d h = absurd (omega (arith, d))
 tallied-is t b i m (o ∷ os) (x ∷ bs) (y ∷ hs) e d h =
-    let u = counted t (eqb x y) (b i) in
+    let u = oneMoreCame t (eqb x y) (b i) in
     let fs = sentOf os bs hs in
-    ap (λ (g : Bool). talliedFrom (counted t (eqb x y) g) (m / 2) bs hs) (sym (bits-first b i m (length os) h))
+    ap (λ (g : Bool). talliedFrom (oneMoreCame t (eqb x y) g) (m / 2) bs hs) (sym (bits-first b i m (length os) h))
     ∙ tallied-is u b (suc i) (m / 2) os bs hs (omega (arith, e)) (omega (arith, d)) (bits-rest b i m (length os) h)
     ∙ same-came _ _ _ _ _ _ (omega arith) (omega arith) (omega arith)
 

@@ -3,7 +3,6 @@ use denote.Ref.{now}
 use lib.ListN.{length, take, length-take}
 use lib.Seq.{length-take-le}
 use borrow.Author.Needs.{needs, length-unmapped}
-use Rattle.ledger.specs.Limits.{maxSlots}
 use Rattle.area.specs.Table.{rowsFrom, total}
 use Rattle.area.proofs.removal.Laws.{length-marks, removed-facts, marked-by}
 use Rattle.pieces.proofs.Settle.{kept-total}
@@ -15,6 +14,7 @@ use mathlib.Core.List.{List}
 use native.Mathlib.Omega.{arith}
 use Rattle.settle.proofs.settle_burst.Statement.{statement}
 use Rattle.settle.proofs.settle_burst.Tie as tie
+use Rattle.limits.specs.Limits.{maxSlots}
 
 so : (s : tie.Start) → length (s .args .s .«last_burst» .off) ≡ maxSlots
 so s = length-unmapped ℕ (s .args .s .«last_burst» .off) maxSlots (s .good .0 .1 .1 .1 .1 .1 .1 .0 .1 .1 .0 .1 .0 .1)

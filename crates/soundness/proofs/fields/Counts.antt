@@ -7,9 +7,9 @@ use lib.Dec.{leb}
 use borrow.Author.Tests.{leb-true, leb-false, lt-leb, eqb-true}
 use Rattle.laws.proofs.Picks.{test, and-yes, and-left, and-right}
 use Rattle.laws.proofs.Tests.{all-at}
-use Rattle.ledger.specs.Limits.{maxSlots, maxFlying, maxWaiting, maxPieces, maxTaken}
 use Rattle.record.specs.declared.Sender.{Sender}
-use Rattle.soundness.specs.Checked.{countsOk}
+use Rattle.soundness.specs.Soundness.{countsOk}
+use Rattle.limits.specs.Limits.{maxSlots, maxFlying, maxWaiting, maxPieces, maxTaken}
 
 module _ (s : Sender) (h : countsOk s ≡ true) where
   pub held-few : s .«at_peer» .n ≤ maxSlots

@@ -11,6 +11,7 @@ use lib.Ieee.{Float, nan, le, neg}
 use Rattle.laws.proofs.Picks.{and-first, and-second, and-yes}
 use Rattle.laws.proofs.Tests.{all-at, all-none, all-more}
 use Rattle.laws.proofs.Span.{every-all, all-every}
+use Rattle.ieee.proofs.Range.{from-inside, to-inside}
 use Rattle.ieee.specs.Range.{In, w32, w64}
 use Rattle.config.specs.declared.MaybeDb.{MaybeDb}
 use Rattle.levels.specs.declared.memory.Reports.{Reports}
@@ -18,19 +19,13 @@ use Rattle.levels.specs.declared.memory.Tries.{Tries}
 use Rattle.levels.specs.declared.usable.Holds.{Holds}
 use Rattle.gear.specs.declared.goodput.Gear.{Gear}
 use Rattle.record.specs.declared.Link.{Link}
-use Rattle.soundness.specs.Checked.{keptOk, keptIfOk, reportsOk, levelOk, gearOk, linkOk, SoundGear, SoundLink}
+use Rattle.soundness.specs.Soundness.{keptOk, keptIfOk, reportsOk, rememberedOk, gearOk, linkOk, SoundGear, SoundLink}
 
 -- ---- one number
 
 not-yes : (b : Bool) → b ≡ false → not b ≡ true
 not-yes true e = absurd (false≢true (sym e))
 not-yes false e = refl
-
-from-inside : (lo hi x : Float) → (le lo x && le x hi) ≡ true → In lo hi x
-from-inside lo hi x e = record { low = passes _ (and-first (le lo x) _ e); high = passes _ (and-second (le lo x) _ e) }
-
-to-inside : (lo hi x : Float) → In lo hi x → (le lo x && le x hi) ≡ true
-to-inside lo hi x i = and-yes (le lo x) (le x hi) (is-true _ (i .low)) (is-true _ (i .high))
 
 from-kept : (x : Float) → keptOk x ≡ true → In (neg (w32 100)) (w32 308) x
 unfolding keptOk
@@ -59,28 +54,28 @@ to-kept-if m f = go (m .set) (keptOk (m .db)) (λ z. to-kept (m .db) (f z))
 -- ---- the gear
 
 module _ (t : Tries) (h : Holds) (k : ℕ) where
-  from-share : levelOk t h k ≡ true → In (w32 0) (w32 1) (getD (t .success) k nan)
-  unfolding levelOk
+  from-share : rememberedOk t h k ≡ true → In (w32 0) (w32 1) (getD (t .success) k nan)
+  unfolding rememberedOk
   from-share e = from-inside _ _ _ (all-at _ 0 e)
 
-  from-time : levelOk t h k ≡ true → T (le (getD (t .«success_at») k nan) (w64 1000000000))
-  unfolding levelOk
+  from-time : rememberedOk t h k ≡ true → T (le (getD (t .«success_at») k nan) (w64 1000000000))
+  unfolding rememberedOk
   from-time e = passes _ (all-at _ 1 e)
 
-  from-end : levelOk t h k ≡ true → T (le (getD (h .«blocked_until») k nan) (w64 1001000000))
-  unfolding levelOk
+  from-end : rememberedOk t h k ≡ true → T (le (getD (h .«blocked_until») k nan) (w64 1001000000))
+  unfolding rememberedOk
   from-end e = passes _ (all-at _ 2 e)
 
   to-level : In (w32 0) (w32 1) (getD (t .success) k nan) → T (le (getD (t .«success_at») k nan) (w64 1000000000))
-      → T (le (getD (h .«blocked_until») k nan) (w64 1001000000)) → levelOk t h k ≡ true
-  unfolding levelOk
+      → T (le (getD (h .«blocked_until») k nan) (w64 1001000000)) → rememberedOk t h k ≡ true
+  unfolding rememberedOk
   to-level i u v = all-more _ _ (to-inside _ _ _ i) (all-more _ _ (is-true _ u) (all-more _ _ (is-true _ v) all-none))
 
 pub gear-sound : (g : Gear) → gearOk g ≡ true → SoundGear g
 unfolding gearOk reportsOk
 gear-sound g e =
     let r = all-at _ 5 e in
-    let v = every-all (levelOk (g .tries) (g .holds)) 17 (all-at _ 6 e) in
+    let v = every-all (rememberedOk (g .tries) (g .holds)) 17 (all-at _ 6 e) in
     record {
       level = omega (arith, leb-true (g .level) 16 (all-at _ 0 e));
       target = omega (arith, leb-true (g .target) 16 (all-at _ 1 e));
@@ -105,7 +100,7 @@ unfolding gearOk
 sound-gear g r =
     all-more _ _ (le-leb (g .level) 16 (omega (arith, r .level))) (all-more _ _ (le-leb (g .target) 16 (omega (arith, r .target))) (all-more _ _ (to-inside _ _ _ (r .burst))
     (all-more _ _ (to-kept-if _ (r .aim)) (all-more _ _ (to-kept-if _ (r .last)) (all-more _ _ (to-reports _ (r .count) (r .a) (r .b) (r .c))
-    (all-more _ _ (all-every (levelOk (g .tries) (g .holds)) 17 (λ k h. to-level (g .tries) (g .holds) k (r .shares k h) (r .times k h) (r .ends k h))) all-none))))))
+    (all-more _ _ (all-every (rememberedOk (g .tries) (g .holds)) 17 (λ k h. to-level (g .tries) (g .holds) k (r .shares k h) (r .times k h) (r .ends k h))) all-none))))))
 
 -- ---- the link
 

@@ -20,7 +20,6 @@ use Rattle.laws.proofs.Tests.{all-at, all-none, all-more}
 use Rattle.config.specs.declared.Profile.{Profile}
 use Rattle.config.specs.Ranges.{inOrder}
 use Rattle.config.specs.Ranged.{Ranged}
-use Rattle.ledger.specs.Limits.{SizeRange, maxSlots, maxFlying, maxWaiting, maxTaken, maxNumber}
 use Rattle.ledger.specs.Ledger.{Held, size, heldOffs, sentOffs}
 use Rattle.ledger.specs.Sound.{Sound, Flying}
 use Rattle.ledger.proofs.Stream.{length-bytesOf}
@@ -28,7 +27,7 @@ use Rattle.ledger.proofs.Kept.{fresh-sound}
 use Rattle.area.specs.Layout.{areaBytes}
 use Rattle.area.specs.Table.{rowsFrom, total}
 use Rattle.area.specs.declared.table.Row.{Row}
-use Rattle.area_check.specs.Sound.{rowOffs, tableOk, allFlying}
+use Rattle.area_check.specs.Rows.{rowOffs, tableOk, allFlying}
 use Rattle.pieces.specs.Pieces.{piecesOf}
 use Rattle.pieces.proofs.Lists.{held-offs, held-length, sent-offs, sent-length}
 use Rattle.pieces.proofs.Sound.{size-rows, table-total, table-pieces, pieces-table, flying-pieces, pieces-flying, flying-two, two-flying, held-bits, bits-held, sent-bits, bits-sent}
@@ -40,9 +39,11 @@ use Rattle.record.specs.declared.LastBurst.{LastBurst}
 use Rattle.record.specs.declared.Sender.{Sender}
 use Rattle.record.proofs.View.{Arrays, Counted, bytes-pieces, view-fresh}
 use Rattle.settle.specs.Settle.{Settling}
-use Rattle.soundness.specs.Checked.{keptOk, keptIfOk, reportsOk, levelOk, gearOk, linkOk, countsOk, listsOk, soundOk, SoundRecord}
+use Rattle.soundness.specs.Soundness.{keptOk, keptIfOk, reportsOk, rememberedOk, gearOk, linkOk, countsOk, listsOk, soundOk, SoundRecord}
 use Rattle.soundness.proofs.fields.Counts.{held-few, rest-few, out-few, sent-few, waiting-few, flying-few, pieces-few, taken-few, acked-is}
 use Rattle.soundness.proofs.fields.Gear.{gear-sound, sound-gear, link-sound, sound-link}
+use Rattle.limits.specs.Limits.{maxSlots, maxFlying, maxWaiting, maxTaken, maxNumber}
+use Rattle.ledger.specs.Sizes.{SizeRange}
 
 -- ---- lists
 
@@ -283,7 +284,7 @@ profile-sizes p r o =
 -- ---- a fresh record
 
 fresh-gear : gearOk freshGear ≡ true
-unfolding all from upto every keptOk keptIfOk reportsOk levelOk gearOk le lt eq neg ofInt ofBits
+unfolding all from upto every keptOk keptIfOk reportsOk rememberedOk gearOk le lt eq neg ofInt ofBits
 fresh-gear = refl
 
 fresh-link : linkOk freshLink ≡ true

@@ -12,8 +12,8 @@ use Rattle.frame.specs.Frame.{maxPayload}
 use Rattle.area.specs.Layout.{areaBytes}
 use Rattle.area.specs.declared.table.Row.{Row}
 use Rattle.area.specs.Table.{rowsFrom}
-use Rattle.area_check.specs.Sound.{tableOk, rowOffs}
-use Rattle.soundness.specs.Checked.{countsOk, listsOk, soundOk}
+use Rattle.area_check.specs.Rows.{tableOk, rowOffs}
+use Rattle.soundness.specs.Soundness.{countsOk, listsOk, soundOk}
 use Rattle.soundness.proofs.fields.Counts.{pieces-few}
 use borrow.Author.Needs.{needs}
 use Rattle.soundness.proofs.is_sound.Statement.{statement}

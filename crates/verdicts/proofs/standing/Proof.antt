@@ -6,7 +6,7 @@ use borrow.Author.Tests.{not-false}
 use Rattle.laws.proofs.Picks.{cond-yes, cond-no}
 use Rattle.config.specs.Ranges.{inRange, inOrder}
 use Rattle.config.proofs.ranges.Ranged.{ranged}
-use Rattle.soundness.specs.Checked.{soundOk}
+use Rattle.soundness.specs.Soundness.{soundOk}
 use Rattle.verdicts.specs.Verdicts.{standing}
 use borrow.Author.Needs.{needs}
 use Rattle.verdicts.proofs.standing.Statement.{statement}

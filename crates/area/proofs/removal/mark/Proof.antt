@@ -1,5 +1,5 @@
 -- `area::removal::mark` meets its contract.
-use Rattle.area.specs.Flight.{markAll}
+use Rattle.area.specs.Removal.{markAll}
 use Rattle.area.proofs.removal.Laws.{mark-turn, mark-end}
 use Prim.Native.Nat.{_-_}
 use mathlib.Core.Path.{_≡_, refl, sym, _∙_}

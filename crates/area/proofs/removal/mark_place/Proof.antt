@@ -1,5 +1,5 @@
 -- `area::removal::mark_place` meets its contract.
-use Rattle.area.specs.Flight.{markPlace}
+use Rattle.area.specs.Removal.{markPlace}
 use Prim.Native.Nat.{_-_}
 use mathlib.Core.Path.{refl}
 use native.Mathlib.Omega.{arith}

@@ -1,5 +1,4 @@
 -- `area::splitting::split_table` meets its contract.
-use Rattle.ledger.specs.Limits.{maxPieces}
 use denote.Ref.{now}
 use Rattle.laws.specs.Bytes.{overwrite}
 use Rattle.laws.proofs.Bytes.{over-nil}
@@ -17,6 +16,7 @@ use lib.ListN.{length}
 use borrow.Author.Needs.{needs}
 use Rattle.area.proofs.splitting.split_table.Statement.{statement}
 use Rattle.area.proofs.splitting.split_table.Tie as tie
+use Rattle.limits.specs.Limits.{maxPieces}
 
 abbrev Inv-loop : tie.InvT-loop
 Inv-loop a₀ n max m w₀ i₀ a w i =

@@ -1,5 +1,4 @@
 -- `area::splitting::store_cut` meets its contract.
-use Rattle.ledger.specs.Limits.{maxPieces, maxTaken}
 use Rattle.laws.specs.Bytes.{overwrite}
 use Rattle.area.specs.Layout.{place}
 use Rattle.area.specs.Table.{tableBytes}
@@ -14,6 +13,7 @@ use lib.ListN.{length}
 use borrow.Author.Needs.{needs}
 use Rattle.area.proofs.splitting.store_cut.Statement.{statement}
 use Rattle.area.proofs.splitting.store_cut.Tie as tie
+use Rattle.limits.specs.Limits.{maxPieces, maxTaken}
 
 abbrev Inv-loop : tie.InvT-loop
 Inv-loop a₀ w off len max o₀ left₀ i₀ a o left i =

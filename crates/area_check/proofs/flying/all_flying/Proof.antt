@@ -6,9 +6,9 @@ use lib.Seq.{take-all}
 use borrow.Author.Tests.{not-true, not-false}
 use Rattle.area.specs.Table.{rowsFrom}
 use Rattle.laws.specs.Lists.{listed}
-use Rattle.area.specs.Flight.{Marked, markAll}
+use Rattle.area.specs.Removal.{Marked, markAll}
 use Rattle.area.proofs.removal.Laws.{marked-end, marked-more}
-use Rattle.area_check.specs.Sound.{rowOffs, allFlying}
+use Rattle.area_check.specs.Rows.{rowOffs, allFlying}
 use Rattle.area_check.proofs.flying.Laws.{drop-back, take-back, flying-back, flying-part, flying-end}
 use Prim.Native.Nat.{ℕ, _-_, _≤_}
 use mathlib.Core.Path.{_≡_, refl, sym, ap, _∙_, subst}

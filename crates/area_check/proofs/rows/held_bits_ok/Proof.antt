@@ -4,7 +4,7 @@ use mathlib.Core.Bool.{true, false}
 use lib.Dec.{ltb}
 use lib.ListN.{drop, length, getD}
 use borrow.Author.Tests.{lt-ltb, le-ltb}
-use Rattle.area_check.specs.Sound.{heldBitsOk}
+use Rattle.area_check.specs.Rows.{heldBitsOk}
 use Rattle.area_check.proofs.rows.Laws.{held-turn, held-end}
 use Prim.Native.Nat.{ℕ, _-_, _<_}
 use mathlib.Core.Path.{_≡_, refl, sym, _∙_}

@@ -1,11 +1,10 @@
 -- `area_check::rows::sent_bits_ok` meets its contract.
-use Rattle.ledger.specs.Limits.{maxBits, maxHeld}
 use denote.Ref.{now}
 use mathlib.Core.Bool.{_&&_}
 use lib.Dec.{ltb, leb}
 use lib.ListN.{drop, length, getD}
 use borrow.Author.Tests.{not-true, not-false}
-use Rattle.area_check.specs.Sound.{sentBitsOk}
+use Rattle.area_check.specs.Rows.{sentBitsOk}
 use Rattle.area_check.proofs.rows.Laws.{sent-turn, sent-end}
 use Prim.Native.Nat.{ℕ, _-_}
 use mathlib.Core.Path.{_≡_, refl, sym, _∙_}
@@ -13,6 +12,7 @@ use native.Mathlib.Omega.{arith}
 use borrow.Author.Needs.{needs}
 use Rattle.area_check.proofs.rows.sent_bits_ok.Statement.{statement}
 use Rattle.area_check.proofs.rows.sent_bits_ok.Tie as tie
+use Rattle.limits.specs.Limits.{maxBits, maxHeld}
 
 abbrev Inv-loop : tie.InvT-loop
 Inv-loop bits held i₀ i = sentBitsOk bits held ≡ sentBitsOk (drop i bits) (drop i held)

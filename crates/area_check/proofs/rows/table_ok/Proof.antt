@@ -6,7 +6,7 @@ use native.Mathlib.Nat.{sub-zero, zero-add, add-zero, div-le-self}
 use borrow.Author.Tests.{lt-ltb, le-ltb, le-leb, lt-leb, eq-eqb, ne-eqb}
 use denote.Ref.{now}
 use Rattle.area.specs.Table.{rowsFrom, total}
-use Rattle.area_check.specs.Sound.{ascends, shortFramesOf, tableOk}
+use Rattle.area_check.specs.Rows.{ascends, shortFramesOf, tableOk}
 use Rattle.area_check.proofs.rows.Laws.{ascends-turn, total-turn, short-turn}
 use Rattle.area.proofs.table.Laws.{rows-none}
 use mathlib.Core.Path.{_≡_, _∙_}

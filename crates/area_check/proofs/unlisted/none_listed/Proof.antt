@@ -1,7 +1,7 @@
 -- `area_check::unlisted::none_listed` meets its contract.
 use lib.ListN.{drop, length}
 use Rattle.area.proofs.removal.Laws.{length-marks, marked-by}
-use Rattle.area_check.specs.Sound.{noneListed}
+use Rattle.area_check.specs.Rows.{noneListed}
 use Rattle.area_check.proofs.unlisted.Laws.{unlisted-pass, unlisted-hit, unlisted-end, unlisted-none}
 use Prim.Native.Nat.{_-_}
 use mathlib.Core.Path.{_≡_, refl, sym, ap, _∙_}

@@ -1,8 +1,8 @@
-use Rattle.config.specs.Ranges.{inside}
 use Prim.Native.Nat.{_-_}
 use borrow.Author.Needs.{needs}
 use Rattle.config.proofs.ranges.within.Statement.{statement}
 use Rattle.config.proofs.ranges.within.Tie as tie
+use Rattle.ieee.specs.Range.{inside}
 
 returns : tie.Need-returns
 unfolding inside

@@ -4,11 +4,11 @@ use Prim.Native.Nat.{ℕ, _≤_}
 use native.Mathlib.Omega.{arith}
 use lib.ListN.{length}
 use borrow.Author.Needs.{needs, length-unmapped}
-use Rattle.ledger.specs.Limits.{maxSlots}
 use Rattle.record.proofs.View.{Arrays}
 use Rattle.data_burst.proofs.burst.Sends.{frame-least, ready, number-lt, slot-le, slots-few, slots-within, stored-few, parity-few, done}
 use Rattle.data_burst.proofs.burst.data_burst.Statement.{statement}
 use Rattle.data_burst.proofs.burst.data_burst.Tie as tie
+use Rattle.limits.specs.Limits.{maxSlots}
 
 arrays : (s : tie.Start) → Arrays (s .args .s)
 arrays s =

@@ -3,7 +3,6 @@ use denote.Ref.{now}
 use lib.ListN.{length, take, length-take}
 use lib.Seq.{length-take-le}
 use borrow.Author.Needs.{needs, length-unmapped}
-use Rattle.ledger.specs.Limits.{maxSlots}
 use Rattle.area.proofs.removal.Laws.{length-marks, marked-by}
 use Rattle.data_burst.proofs.sending.Laws.{parity-few, held-fits, pick-able, shows, bytes-few, done}
 use Prim.Native.Nat.{ℕ, _-_, _≤_}
@@ -11,6 +10,7 @@ use mathlib.Core.Path.{_≡_, refl, sym, ap, _∙_}
 use native.Mathlib.Omega.{arith}
 use Rattle.data_burst.proofs.sending.go.Statement.{statement}
 use Rattle.data_burst.proofs.sending.go.Tie as tie
+use Rattle.limits.specs.Limits.{maxSlots}
 
 offs : (s : tie.Start) → length (s .args .s .«at_peer» .off) ≡ maxSlots
 offs s = length-unmapped ℕ (s .args .s .«at_peer» .off) maxSlots (s .good .1 .1 .1 .1 .1 .1 .1 .0 .1 .1 .1 .1 .1 .0 .1 .1 .0 .1 .0 .1)

@@ -6,13 +6,13 @@ use denote.Ref.{now}
 use lib.Bits.{bitXor}
 use lib.ListN.{length, drop}
 use borrow.Author.Needs.{needs}
-use Rattle.frame.specs.Crc.{shifts, feed, crc32}
+use Rattle.frame.specs.Crc.{shifts, feedBytes, crc32}
 use Rattle.frame.proofs.crc.Laws.{feed-eight}
 use Rattle.frame.proofs.crc.crc32_by.Statement.{statement}
 use Rattle.frame.proofs.crc.crc32_by.Tie as tie
 
 abbrev Inv-loop : tie.InvT-loop
-Inv-loop t bytes c₀ i₀ c i = (i ≤ length bytes) × (c < 4294967296) × (feed 4294967295 bytes ≡ feed c (drop i bytes))
+Inv-loop t bytes c₀ i₀ c i = (i ≤ length bytes) × (c < 4294967296) × (feedBytes 4294967295 bytes ≡ feedBytes c (drop i bytes))
 
 abbrev μ-loop : tie.MeasureT-loop
 μ-loop t bytes c₀ i₀ c i = length bytes - i
@@ -49,7 +49,7 @@ loop-again c =
       omega arith,
       omega arith,
       p .loop .inv .2 ∙ feed-eight (p .loop .c) l (p .loop .i) (λ i. k .shared-slice-known .given i .fits) h
-          ∙ ap (λ (x : ℕ). feed x (drop (p .loop .i + 8) l)) (ap (λ (x : ℕ). shifts 64 (bitXor (p .loop .c) x)) (sym (g .load64 .ensures)) ∙ sym (c .eight .ensures)),
+          ∙ ap (λ (x : ℕ). feedBytes x (drop (p .loop .i + 8) l)) (ap (λ (x : ℕ). shifts 64 (bitXor (p .loop .c) x)) (sym (g .load64 .ensures)) ∙ sym (c .eight .ensures)),
     )
 
 rest-requires : tie.Need-rest-requires Inv-loop μ-loop

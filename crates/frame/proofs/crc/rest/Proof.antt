@@ -5,13 +5,13 @@ use native.Mathlib.Omega.{arith}
 use denote.Ref.{now}
 use lib.ListN.{length, drop, drop-of-length-le}
 use borrow.Author.Needs.{needs}
-use Rattle.frame.specs.Crc.{feed}
+use Rattle.frame.specs.Crc.{feedBytes}
 use Rattle.frame.proofs.crc.Laws.{feed-one}
 use Rattle.frame.proofs.crc.rest.Statement.{statement}
 use Rattle.frame.proofs.crc.rest.Tie as tie
 
 abbrev Inv-loop : tie.InvT-loop
-Inv-loop t start bytes from c₀ i₀ c i = (i ≤ length bytes) × (feed start (drop from bytes) ≡ feed c (drop i bytes))
+Inv-loop t start bytes from c₀ i₀ c i = (i ≤ length bytes) × (feedBytes start (drop from bytes) ≡ feedBytes c (drop i bytes))
 
 abbrev μ-loop : tie.MeasureT-loop
 μ-loop t start bytes from c₀ i₀ c i = length bytes - i
@@ -37,14 +37,14 @@ loop-again c =
     let p = t .before in
     let l = now (p .before .before .args .bytes) in (
       omega arith,
-      p .loop .inv .1 ∙ feed-one (p .loop .c) l (p .loop .i) (t .loop-test .taken) ∙ ap (λ (x : ℕ). feed x (drop (p .loop .i + 1) l)) (sym (c .one .ensures)),
+      p .loop .inv .1 ∙ feed-one (p .loop .c) l (p .loop .i) (t .loop-test .taken) ∙ ap (λ (x : ℕ). feedBytes x (drop (p .loop .i + 1) l)) (sym (c .one .ensures)),
     )
 
 returns : tie.Need-returns Inv-loop μ-loop
-unfolding feed
+unfolding feedBytes
 returns c =
     let p = c .before in
-    sym (p .loop .inv .1 ∙ ap (feed (p .loop .c)) (drop-of-length-le _ (c .loop-test .left)))
+    sym (p .loop .inv .1 ∙ ap (feedBytes (p .loop .c)) (drop-of-length-le _ (c .loop-test .left)))
 
 pub rest-spec : {M : Type 1} → statement M
 rest-spec =

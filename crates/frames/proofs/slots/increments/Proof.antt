@@ -2,18 +2,18 @@
 use denote.Ref.{now}
 use mathlib.Core.Path.{_≡_, refl, sym, ap₂, _∙_}
 use lib.ListN.{drop, length, getD}
-use Rattle.ledger.specs.Limits.{maxSlots, maxHeld}
 use Rattle.area.specs.Layout.{streamBytes}
 use Rattle.area.specs.Table.{rowsFrom}
 use Rattle.area.specs.declared.lookup.Found.{Found}
 use Rattle.area.proofs.lookup.Laws.{find-within}
-use Rattle.frames.specs.Slots.{pushAll, pushed, incrementSlots}
+use Rattle.frames.specs.Slots.{pushAll, slotPushed, incrementSlots}
 use Rattle.frames.proofs.slots.Laws.{increments-turn, increments-end}
 use Prim.Native.Nat.{ℕ, _+_, _-_, _≤_, _<_}
 use native.Mathlib.Omega.{arith}
 use borrow.Author.Needs.{needs}
 use Rattle.frames.proofs.slots.increments.Statement.{statement}
 use Rattle.frames.proofs.slots.increments.Tie as tie
+use Rattle.limits.specs.Limits.{maxSlots, maxHeld}
 
 abbrev Inv-loop : tie.InvT-loop
 Inv-loop q slot a n offs bits s₀ i₀ s i =
@@ -115,7 +115,7 @@ loop-less : tie.Need-loop-less Inv-loop μ-loop
 loop-less c = omega (arith, L (c .before .before) .loop-test .taken)
 
 loop-again : tie.Need-loop-again Inv-loop μ-loop
-unfolding pushed
+unfolding slotPushed
 loop-again c =
     let k = c .before .before in
     let d = L k in
@@ -123,7 +123,7 @@ loop-again c =
     let s = S k in
     let o = getD (now (s .args .offs)) (p .loop .i) 0 in
     let h = getD (now (s .args .bits)) (p .loop .i) 0 in
-    let q = ap₂ (λ (m : ℕ) (z : Found). pushed (p .loop .s) (record { off = o; bits = m; held = h + m; start = z .start; len = z .len })) (k .before .increment .ensures) (k .find .ensures) in
+    let q = ap₂ (λ (m : ℕ) (z : Found). slotPushed (p .loop .s) (record { off = o; bits = m; held = h + m; start = z .start; len = z .len })) (k .before .increment .ensures) (k .find .ensures) in
     (omega arith, omega (arith, p .loop .inv .1), p .loop .inv .2 ∙ increments-turn _ _ _ _ _ _ _ _ (d .loop-test .taken) (omega (arith, s .pre .4)) q)
 
 returns : tie.Need-returns Inv-loop μ-loop

@@ -4,8 +4,7 @@ use mathlib.Core.Bool.{_&&_, false}
 use lib.Dec.{ltb}
 use mathlib.Core.Logic.{_⊎_, inl, inr, ⊎-elim}
 use borrow.Author.Tests.{ltb-true, ltb-false}
-use Rattle.ledger.specs.Limits.{maxSlots}
-use Rattle.frames.specs.Slots.{pushed}
+use Rattle.frames.specs.Slots.{slotPushed}
 use Rattle.frames.proofs.slots.Laws.{and-either, Adding, adding-start, adding-turn, adding-end}
 use Prim.Native.Nat.{ℕ, _-_, _≤_, _<_}
 use mathlib.Core.Path.{_≡_, refl}
@@ -13,6 +12,7 @@ use native.Mathlib.Omega.{arith}
 use borrow.Author.Needs.{needs}
 use Rattle.frames.proofs.slots.new_pieces.Statement.{statement}
 use Rattle.frames.proofs.slots.new_pieces.Tie as tie
+use Rattle.limits.specs.Limits.{maxSlots}
 
 abbrev Inv-loop : tie.InvT-loop
 Inv-loop a₀ n room max next at w bits s₀ left₀ done₀ i₀ a s left done i = Adding s₀ a₀ n room max next at w bits a s left done i
@@ -103,7 +103,7 @@ loop-less : tie.Need-loop-less Inv-loop μ-loop
 loop-less c = omega (arith, test (I c))
 
 loop-again : tie.Need-loop-again Inv-loop μ-loop
-unfolding pushed
+unfolding slotPushed
 loop-again c = let t = test (I c) in adding-turn _ _ _ _ _ _ _ _ _ _ _ _ _ _ (I c .before .loop .inv) _ (M c .smaller .ensures) (t .0) (t .1) (S c .pre .3) _ _ (c .before .before .store-row .ensures) refl
 
 cast-t37 : tie.Need-cast-t37 Inv-loop μ-loop

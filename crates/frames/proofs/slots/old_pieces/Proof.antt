@@ -3,9 +3,8 @@ use Rattle.laws.proofs.Picks.{and-first, and-second}
 use lib.Dec.{ltb}
 use mathlib.Core.Logic.{⊎-elim}
 use borrow.Author.Tests.{ltb-true, ltb-false}
-use Rattle.ledger.specs.Limits.{maxSlots}
 use Rattle.area.specs.Layout.{streamBytes}
-use Rattle.frames.specs.Slots.{pushed}
+use Rattle.frames.specs.Slots.{slotPushed}
 use Rattle.frames.proofs.slots.Laws.{and-either, Choosing, choosing-start, choosing-full, choosing-end, choosing-fits, choosing-held, choosing-unheld}
 use Prim.Native.Nat.{_+_, _-_, _≤_, _<_}
 use mathlib.Core.Path.{refl, sym, _∙_}
@@ -13,6 +12,7 @@ use native.Mathlib.Omega.{arith}
 use borrow.Author.Needs.{needs}
 use Rattle.frames.proofs.slots.old_pieces.Statement.{statement}
 use Rattle.frames.proofs.slots.old_pieces.Tie as tie
+use Rattle.limits.specs.Limits.{maxSlots}
 
 abbrev Inv-loop : tie.InvT-loop
 Inv-loop a n marks held room bits s₀ left₀ start₀ i₀ s left start i = Choosing s₀ a n held room bits s left start i
@@ -100,7 +100,7 @@ loop-less-2 : tie.Need-loop-less-2 Inv-loop μ-loop
 loop-less-2 c = omega (arith, more (c .before .before .before))
 
 loop-again-2 : tie.Need-loop-again-2 Inv-loop μ-loop
-unfolding pushed
+unfolding slotPushed
 loop-again-2 c =
     let d = c .before .before in
     choosing-unheld _ _ _ _ _ _ _ _ _ _ _ (d .before .before .loop .inv) (more (d .before)) (d .load-row .ensures) _ refl (sym (c .before .contains-marked .ensures) ∙ c .if1 .left) (space (d .before) .0)

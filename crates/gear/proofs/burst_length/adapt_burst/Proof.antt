@@ -1,4 +1,4 @@
-use Rattle.gear.specs.Bursts.{adapted}
+use Rattle.gear.specs.BurstLength.{adapted}
 use lib.Ieee.{ofInt, ofBits}
 use native.Mathlib.Omega.{arith}
 use borrow.Author.Needs.{needs}

@@ -1,4 +1,4 @@
-use Rattle.gear.specs.Bursts.{burstLen}
+use Rattle.gear.specs.BurstLength.{burstLen}
 use borrow.Author.Needs.{needs}
 use Rattle.gear.proofs.burst_length.burst_len_s.Statement.{statement}
 use Rattle.gear.proofs.burst_length.burst_len_s.Tie as tie

@@ -1,5 +1,5 @@
 use Rattle.level.proofs.Laws.{wave-lt}
-use Rattle.gear.specs.Bursts.{cleanBurst}
+use Rattle.gear.specs.BurstLength.{cleanBurst}
 use lib.Ieee.{ofInt, ofBits}
 use borrow.Author.Needs.{needs}
 use Rattle.gear.proofs.burst_length.clean_burst_s.Statement.{statement}

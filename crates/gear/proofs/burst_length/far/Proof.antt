@@ -1,5 +1,5 @@
 use borrow.Author.Needs.{needs}
-use Rattle.gear.specs.Bursts.{far}
+use Rattle.gear.specs.BurstLength.{far}
 use Rattle.gear.proofs.burst_length.far.Statement.{statement}
 use Rattle.gear.proofs.burst_length.far.Tie as tie
 

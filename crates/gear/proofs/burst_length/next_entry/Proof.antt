@@ -1,4 +1,4 @@
-use Rattle.gear.specs.Bursts.{nextEntry}
+use Rattle.gear.specs.BurstLength.{nextEntry}
 use Rattle.laws.specs.Span.{upto, fold}
 use Rattle.laws.proofs.Span.{fold-turn, fold-done}
 use Rattle.config.specs.Entries.{entryAt}

@@ -1,4 +1,4 @@
-use Rattle.gear.specs.Bursts.{steady}
+use Rattle.gear.specs.BurstLength.{steady}
 use borrow.Author.Needs.{needs}
 use Rattle.gear.proofs.burst_length.steady.Statement.{statement}
 use Rattle.gear.proofs.burst_length.steady.Tie as tie

@@ -1,4 +1,4 @@
-use Rattle.gear.specs.Meeting.{connected}
+use Rattle.gear.specs.OtherReplies.{connected}
 use Prim.Native.Nat.{_-_}
 use borrow.Author.Needs.{needs}
 use Rattle.gear.proofs.other_replies.connect.Statement.{statement}

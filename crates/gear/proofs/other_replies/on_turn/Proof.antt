@@ -1,4 +1,4 @@
-use Rattle.gear.specs.Meeting.{onTurn}
+use Rattle.gear.specs.OtherReplies.{onTurn}
 use Prim.Native.Nat.{_-_}
 use borrow.Author.Needs.{needs}
 use Rattle.gear.proofs.other_replies.on_turn.Statement.{statement}

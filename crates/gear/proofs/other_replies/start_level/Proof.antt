@@ -1,4 +1,4 @@
-use Rattle.gear.specs.Meeting.{startLevel}
+use Rattle.gear.specs.OtherReplies.{startLevel}
 use Rattle.gear.specs.Judging.{capped}
 use borrow.Author.Needs.{needs}
 use Rattle.gear.proofs.other_replies.start_level.Statement.{statement}

@@ -1,4 +1,4 @@
-use Rattle.gear.specs.Meeting.{turned}
+use Rattle.gear.specs.OtherReplies.{atTurn}
 use Prim.Native.Nat.{_-_}
 use borrow.Author.Needs.{needs}
 use Rattle.gear.proofs.other_replies.turn.Statement.{statement}
@@ -11,7 +11,7 @@ smaller-requires : tie.Need-smaller-requires
 smaller-requires c κs = search needs
 
 returns : tie.Need-returns
-unfolding turned
+unfolding atTurn
 returns c = simp (c .smaller .ensures, c .before .top-level-in .ensures)
 
 pub turn-spec : {M : Type 1} → statement M

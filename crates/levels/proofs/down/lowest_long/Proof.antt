@@ -5,7 +5,7 @@ use native.Mathlib.Omega.{arith}
 use Rattle.laws.specs.Span.{upto, first}
 use Rattle.laws.proofs.Span.{first-hit, first-miss, first-end}
 use Rattle.level.specs.Ladder.{longFrame}
-use Rattle.levels.specs.Ladders.{familyOk, lowestLong}
+use Rattle.levels.specs.Usable.{familyOk, lowestLong}
 use borrow.Author.Needs.{needs}
 use Rattle.levels.proofs.down.lowest_long.Statement.{statement}
 use Rattle.levels.proofs.down.lowest_long.Tie as tie

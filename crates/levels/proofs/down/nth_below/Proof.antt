@@ -1,4 +1,4 @@
-use Rattle.levels.specs.Ladders.{nthBelow}
+use Rattle.levels.specs.Usable.{nthBelow}
 use Rattle.levels.proofs.usable.Laws.{allowed-lt}
 use native.Mathlib.Omega.{arith}
 use borrow.Author.Needs.{needs}

@@ -1,4 +1,4 @@
-use Rattle.levels.specs.Ladders.{stepDown}
+use Rattle.levels.specs.Usable.{stepDown}
 use Rattle.laws.proofs.Picks.{told-yes, told-no}
 use borrow.Author.Needs.{needs}
 use Rattle.levels.proofs.down.step_down.Statement.{statement}

@@ -1,4 +1,4 @@
-use Rattle.levels.specs.Ladders.{enough}
+use Rattle.levels.specs.Usable.{enough}
 use borrow.Author.Needs.{needs}
 use Rattle.levels.proofs.reach.enough.Statement.{statement}
 use Rattle.levels.proofs.reach.enough.Tie as tie

@@ -1,4 +1,4 @@
-use Rattle.levels.specs.Ladders.{airDb}
+use Rattle.levels.specs.Usable.{airDb}
 use Rattle.laws.proofs.Picks.{calls}
 use borrow.Author.Needs.{needs}
 use Rattle.levels.proofs.usable.air_db.Statement.{statement}

@@ -1,4 +1,4 @@
-use Rattle.levels.specs.Ladders.{familyOk}
+use Rattle.levels.specs.Usable.{familyOk}
 use Rattle.laws.proofs.Picks.{picks}
 use borrow.Author.Needs.{needs}
 use Rattle.levels.proofs.usable.family_ok.Statement.{statement}

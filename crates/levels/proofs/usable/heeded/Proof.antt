@@ -1,4 +1,4 @@
-use Rattle.levels.specs.Ladders.{heeded}
+use Rattle.levels.specs.Usable.{heeded}
 use Rattle.laws.proofs.Picks.{picks}
 use Rattle.levels.proofs.usable.heeded.Statement.{statement}
 use Rattle.levels.proofs.usable.heeded.Tie as tie

@@ -1,4 +1,4 @@
-use Rattle.levels.specs.Ladders.{passes}
+use Rattle.levels.specs.Usable.{passes}
 use borrow.Author.Needs.{needs}
 use Rattle.levels.proofs.usable.passes.Statement.{statement}
 use Rattle.levels.proofs.usable.passes.Tie as tie

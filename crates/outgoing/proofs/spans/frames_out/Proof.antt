@@ -11,7 +11,7 @@ use Rattle.harq.specs.declared.Harq.{Harq}
 use Rattle.frames.specs.Slots.{slotsFrom}
 use Rattle.frames.specs.declared.slots.Slot.{Slot}
 use Rattle.frames.specs.declared.slots.Slots.{Slots}
-use Rattle.outgoing.specs.Outgoing.{framesIn}
+use Rattle.outgoing.specs.Outgoing.{slotFrames}
 use Rattle.outgoing.proofs.Laws.{slots-length}
 use Rattle.outgoing.proofs.spans.Laws.{stored-turn, stored-end}
 use Rattle.outgoing.proofs.spans.frames_out.Statement.{statement}
@@ -118,7 +118,7 @@ loop-again c =
     )
 
 returns : tie.Need-returns Inv-loop μ-loop
-unfolding framesIn
+unfolding slotFrames
 returns c =
     let p = c .before in
     let s = p .before .args .t2 in

@@ -6,16 +6,16 @@ use Prim.Native.Nat.{ℕ}
 use native.Mathlib.Omega.{arith}
 use Rattle.record.specs.declared.Sender.{Sender}
 use Rattle.refusals.specs.declared.Reply.{Reply}
-use Rattle.receive.specs.Answering.{answered}
+use Rattle.receive.specs.Accepted.{acceptedReply}
 use borrow.Author.Needs.{needs, length-unmapped}
-use Rattle.ledger.specs.Limits.{maxSlots}
 use Rattle.record.proofs.View.{Arrays}
 use Rattle.receive.proofs.turns.Turned.{turned-is}
 use Rattle.receive.proofs.accepted.answer.Statement.{statement}
 use Rattle.receive.proofs.accepted.answer.Tie as tie
+use Rattle.limits.specs.Limits.{maxSlots}
 
 abbrev reply : tie.Start → Reply → Sender × List ℕ
-reply s r = answered (s .args .p) (s .args .h) r (now (s .args .payload)) (s .args .s) (now (s .args .a))
+reply s r = acceptedReply (s .args .p) (s .args .h) r (now (s .args .payload)) (s .args .s) (now (s .args .a))
 
 arrays : (s : tie.Start) → Arrays (s .args .s)
 arrays s =

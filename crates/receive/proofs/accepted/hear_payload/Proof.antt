@@ -5,7 +5,7 @@ use mathlib.Core.List.{List}
 use Prim.Native.Nat.{ℕ}
 use Rattle.report.specs.declared.ack.AckRead.{AckRead}
 use Rattle.record.specs.declared.Sender.{Sender}
-use Rattle.receive.specs.Answering.{longRead}
+use Rattle.receive.specs.Accepted.{longRead}
 use borrow.Author.Needs.{needs}
 use Rattle.receive.proofs.accepted.hear_payload.Statement.{statement}
 use Rattle.receive.proofs.accepted.hear_payload.Tie as tie

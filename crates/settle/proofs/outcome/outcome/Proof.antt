@@ -5,10 +5,10 @@ use native.Mathlib.Omega.{arith}
 use lib.ListN.{length, take}
 use lib.Seq.{length-take-le}
 use borrow.Author.Needs.{needs, length-unmapped}
-use Rattle.ledger.specs.Limits.{maxSlots}
 use Rattle.settle.proofs.outcome.Counts.{outcome-none, outcome-some}
 use Rattle.settle.proofs.outcome.outcome.Statement.{statement}
 use Rattle.settle.proofs.outcome.outcome.Tie as tie
+use Rattle.limits.specs.Limits.{maxSlots}
 
 bits-length : (s : tie.Start) → length (s .args .s .bits) ≡ maxSlots
 bits-length s = length-unmapped ℕ (s .args .s .bits) maxSlots (s .good .0 .1 .1 .1 .0 .1 .0 .1)

@@ -1,5 +1,6 @@
 use Rattle.laws.specs.Tests.{all}
-use Rattle.soundness.specs.Checked.{gearOk}
+use Rattle.soundness.specs.Soundness.{gearOk}
+use Rattle.ieee.specs.Range.{inside}
 use lib.Ieee.{ofInt, ofBits}
 use borrow.Author.Needs.{needs}
 use Rattle.soundness.proofs.fields.gear_ok.Statement.{statement}
@@ -18,7 +19,7 @@ levels-ok-requires : tie.Need-levels-ok-requires
 levels-ok-requires c κs = search needs
 
 returns : tie.Need-returns
-unfolding all gearOk ofInt ofBits
+unfolding all gearOk inside ofInt ofBits
 returns c =
     simp (c .before .before .before .kept-if-ok .ensures, c .before .before .kept-if-ok2 .ensures, c .before .reports-ok .ensures, c .levels-ok .ensures)
 

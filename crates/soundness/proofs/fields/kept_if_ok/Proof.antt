@@ -1,4 +1,4 @@
-use Rattle.soundness.specs.Checked.{keptIfOk}
+use Rattle.soundness.specs.Soundness.{keptIfOk}
 use borrow.Author.Needs.{needs}
 use Rattle.soundness.proofs.fields.kept_if_ok.Statement.{statement}
 use Rattle.soundness.proofs.fields.kept_if_ok.Tie as tie

@@ -1,11 +1,12 @@
-use Rattle.soundness.specs.Checked.{keptOk}
+use Rattle.soundness.specs.Soundness.{keptOk}
+use Rattle.ieee.specs.Range.{inside}
 use lib.Ieee.{ofInt, ofBits, neg}
 use borrow.Author.Needs.{needs}
 use Rattle.soundness.proofs.fields.kept_ok.Statement.{statement}
 use Rattle.soundness.proofs.fields.kept_ok.Tie as tie
 
 returns : tie.Need-returns
-unfolding keptOk ofInt ofBits neg
+unfolding keptOk inside ofInt ofBits neg
 returns c = search needs
 
 pub kept-ok-spec : {M : Type 1} → statement M

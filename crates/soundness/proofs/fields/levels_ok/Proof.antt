@@ -2,7 +2,7 @@ use borrow.Author.Tests.{not-true, not-false}
 use Rattle.laws.proofs.Picks.{told-yes, told-no}
 use Rattle.laws.specs.Span.{every, upto}
 use Rattle.laws.proofs.Span.{every-pass, every-fail, every-end}
-use Rattle.soundness.specs.Checked.{levelOk}
+use Rattle.soundness.specs.Soundness.{rememberedOk}
 use Prim.Native.Nat.{_-_, _≤_}
 use mathlib.Core.Path.{_≡_, refl, sym, _∙_}
 use native.Mathlib.Omega.{arith}
@@ -11,7 +11,7 @@ use Rattle.soundness.proofs.fields.levels_ok.Statement.{statement}
 use Rattle.soundness.proofs.fields.levels_ok.Tie as tie
 
 abbrev Inv-loop : tie.InvT-loop
-Inv-loop t h k₀ k = (k ≤ 17) × (every (levelOk t h) (upto 0 17) ≡ every (levelOk t h) (upto k 17))
+Inv-loop t h k₀ k = (k ≤ 17) × (every (rememberedOk t h) (upto 0 17) ≡ every (rememberedOk t h) (upto k 17))
 
 abbrev μ-loop : tie.MeasureT-loop
 μ-loop t h k₀ k = 17 - k
@@ -41,7 +41,7 @@ level-ok-requires : tie.Need-level-ok-requires Inv-loop μ-loop
 level-ok-requires c κs = search needs
 
 returns : tie.Need-returns Inv-loop μ-loop
-unfolding levelOk
+unfolding rememberedOk
 returns c = sym (c .before .before .before .before .before .before .loop .inv .1 ∙ every-fail _ _ _ (omega arith) (told-no _ _ (c .before .level-ok .ensures) (not-true _ (c .if1 .taken))))
 
 add-k : tie.Need-add-k Inv-loop μ-loop
@@ -51,7 +51,7 @@ loop-less : tie.Need-loop-less Inv-loop μ-loop
 loop-less c = search needs
 
 loop-again : tie.Need-loop-again Inv-loop μ-loop
-unfolding levelOk
+unfolding rememberedOk
 loop-again c = (omega arith, c .before .before .before .before .before .before .loop .inv .1 ∙ every-pass _ _ _ (omega arith) (told-yes _ _ (c .before .level-ok .ensures) (not-false _ (c .if1 .left))))
 
 returns-2 : tie.Need-returns-2 Inv-loop μ-loop

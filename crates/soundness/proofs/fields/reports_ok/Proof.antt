@@ -1,5 +1,5 @@
 use Rattle.laws.specs.Tests.{all}
-use Rattle.soundness.specs.Checked.{reportsOk}
+use Rattle.soundness.specs.Soundness.{reportsOk}
 use borrow.Author.Needs.{needs}
 use Rattle.soundness.proofs.fields.reports_ok.Statement.{statement}
 use Rattle.soundness.proofs.fields.reports_ok.Tie as tie

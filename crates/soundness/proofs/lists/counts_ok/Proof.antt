@@ -5,7 +5,7 @@ use lib.Dec.{leb}
 use borrow.Author.Tests.{not-true, not-false, leb-true}
 use Rattle.laws.specs.Tests.{all}
 use Rattle.laws.proofs.Picks.{and-first, and-second}
-use Rattle.soundness.specs.Checked.{countsOk}
+use Rattle.soundness.specs.Soundness.{countsOk}
 use Rattle.soundness.proofs.fields.Counts.{too-many}
 use borrow.Author.Needs.{needs}
 use Rattle.soundness.proofs.lists.counts_ok.Statement.{statement}

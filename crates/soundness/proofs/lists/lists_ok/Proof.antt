@@ -10,9 +10,9 @@ use lib.Seq.{length-take-le, take-nil}
 use borrow.Author.Tests.{not-true, not-false}
 use Rattle.laws.specs.Tests.{all}
 use Rattle.area.specs.Table.{rowsFrom}
-use Rattle.area_check.specs.Sound.{rowOffs, allFlying, heldBitsOk, noneListed}
+use Rattle.area_check.specs.Rows.{rowOffs, allFlying, heldBitsOk, noneListed}
 use Rattle.record.proofs.View.{Arrays}
-use Rattle.soundness.specs.Checked.{listsOk}
+use Rattle.soundness.specs.Soundness.{listsOk}
 use Rattle.soundness.proofs.fields.Counts.{held-few, rest-few, sent-few, pieces-few}
 use borrow.Author.Needs.{needs, length-unmapped}
 use Rattle.soundness.proofs.lists.lists_ok.Statement.{statement}

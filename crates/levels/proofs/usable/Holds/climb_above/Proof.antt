@@ -1,4 +1,4 @@
-use Rattle.levels.specs.Ladders.{climbs, climbAbove}
+use Rattle.levels.specs.Usable.{climbs, climbAbove}
 use Rattle.laws.specs.Span.{upto, lastOf}
 use Rattle.laws.proofs.Span.{last-pass, last-miss, last-end, last-none}
 use native.Mathlib.Omega.{arith}

@@ -1,4 +1,4 @@
-use Rattle.levels.specs.Ladders.{climbs}
+use Rattle.levels.specs.Usable.{climbs}
 use borrow.Author.Needs.{needs}
 use Rattle.levels.proofs.usable.Holds.climbs.Statement.{statement}
 use Rattle.levels.proofs.usable.Holds.climbs.Tie as tie

@@ -5,7 +5,7 @@ use native.Mathlib.Omega.{arith}
 use Rattle.laws.specs.Span.{upto, every}
 use Rattle.laws.proofs.Span.{every-pass, every-fail, every-end}
 use Rattle.laws.proofs.Picks.{told-yes, told-no, is-and, is-not-and}
-use Rattle.levels.specs.Ladders.{passesAt, usable}
+use Rattle.levels.specs.Usable.{passesAt, usable}
 use borrow.Author.Needs.{needs}
 use Rattle.levels.proofs.usable.Holds.usable.Statement.{statement}
 use Rattle.levels.proofs.usable.Holds.usable.Tie as tie

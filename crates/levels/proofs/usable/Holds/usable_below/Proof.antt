@@ -1,4 +1,4 @@
-use Rattle.levels.specs.Ladders.{usable, usableBelow}
+use Rattle.levels.specs.Usable.{usable, usableBelow}
 use Rattle.laws.specs.Steps.{highest}
 use Rattle.laws.proofs.Steps.{highest-none, highest-hit, highest-miss}
 use native.Mathlib.Omega.{arith}

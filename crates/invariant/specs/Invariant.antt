@@ -10,12 +10,12 @@ use Rattle.config.specs.declared.Profile.{Profile}
 use Rattle.gear.specs.declared.goodput.Gear.{Gear}
 use Rattle.gear_laws.specs.Sound.{Report, Time}
 use Rattle.report.specs.declared.ack.AckInfo.{AckInfo}
-use Rattle.ledger.specs.Limits.{maxNumber}
 use Rattle.replies.specs.declared.Heard.{Heard}
 use Rattle.replies.specs.declared.ConnAck.{ConnAck}
 use Rattle.replies.specs.declared.Ack.{Ack}
 use Rattle.replies.specs.declared.Turn.{Turn}
-use Rattle.replies.specs.Answers.{longDb, turnDb}
+use Rattle.replies.specs.Replies.{longDb, turnDb}
+use Rattle.limits.specs.Limits.{maxNumber}
 
 -- shares are values of an f32, as their type has it
 pub record TypedGear (g : Gear) : Type 0 where

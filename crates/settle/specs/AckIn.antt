@@ -9,40 +9,15 @@ use Rattle.harq.specs.Held.{hMax}
 use Rattle.config.specs.declared.Profile.{Profile}
 use Rattle.gear.specs.declared.goodput.Gear.{Gear}
 use Rattle.gear.specs.Judging.{onAck}
-use Rattle.ledger.specs.Limits.{tinyAckFrames, tinyAll}
 use Rattle.ledger.specs.Reply.{Reply}
 use Rattle.ledger.specs.Ledger as L
 use Rattle.ledger.specs.Ledger.{settles}
+use Rattle.record.specs.Setters.{withGear, withLink, withLastBurst, withWave, withoutFrames}
 use Rattle.record.specs.View.{view, store, storeArea}
-use Rattle.record.specs.declared.Link.{Link}
 use Rattle.record.specs.declared.Sender.{Sender}
 use Rattle.settle.specs.Settle.{unawaited, settled}
 use Rattle.settle.specs.Outcomes.{outcomeOf, outcomeIn}
-
--- ---- the record with some fields other
-
-abbrev pub withGear : Sender → Gear → Sender
-withGear s g = record { gear = g; link = s .link; counts = s .counts; «at_peer» = s .«at_peer»; «last_burst» = s .«last_burst» }
-
-abbrev pub withLink : Sender → Link → Sender
-withLink s k = record { gear = s .gear; link = k; counts = s .counts; «at_peer» = s .«at_peer»; «last_burst» = s .«last_burst» }
-
-abbrev pub withWave : Link → ℕ → Link
-withWave k w =
-    record {
-      connected = k .connected;
-      awaiting = k .awaiting;
-      session = k .session;
-      «last_time» = k .«last_time»;
-      «burst_id» = k .«burst_id»;
-      heard = k .heard;
-      «peer_heard» = k .«peer_heard»;
-      «peer_slot» = k .«peer_slot»;
-      «peer_doppler_hz» = k .«peer_doppler_hz»;
-      «peer_wants_turn» = k .«peer_wants_turn»;
-      «peer_wants_disc» = k .«peer_wants_disc»;
-      «peer_wave» = w;
-    }
+use Rattle.limits.specs.Limits.{tinyAckFrames, tinyAll}
 
 -- ---- acks
 
@@ -54,22 +29,14 @@ keeps p g stored = stored && (p .harq && longFrame (g .level))
 unfoldable pub ackIn : Profile → Reply → Bool → Float → Float → Sender → List ℕ → Sender × List ℕ
 ackIn p r stored snr now s a =
     let before = view s a in
-    let after = L.onAck (hMax (p .codes)) r (keeps p (s .gear) stored) before in
+    let after = L.hearAck (hMax (p .codes)) r (keeps p (s .gear) stored) before in
     let wave = cond (settles r before) (waveRank (s .gear .level)) (s .link .«peer_wave») in
     (store after (withLink (withGear s (onAck p (s .gear) (outcomeOf r before) snr now)) (withWave (s .link) wave)), storeArea after a)
 
 -- ---- as the code goes, with the bits in a number
 
 abbrev pub withoutBurst : Sender → Sender
-withoutBurst s =
-    let b = s .«last_burst» in
-    record {
-      gear = s .gear;
-      link = unawaited (s .link);
-      counts = s .counts;
-      «at_peer» = s .«at_peer»;
-      «last_burst» = record { off = b .off; bits = b .bits; held = b .held; n = 0 };
-    }
+withoutBurst s = withLastBurst (withLink s (unawaited (s .link))) (withoutFrames (s .«last_burst»))
 
 unfoldable pub ackedBy : Profile → ℕ → ℕ → Bool → Float → Float → Sender → List ℕ → Sender × List ℕ
 ackedBy p burst m stored snr now s a =

@@ -8,20 +8,16 @@ use Rattle.config.specs.declared.Profile.{Profile}
 use Rattle.report.specs.declared.ChanClass.{ChanClass}
 use Rattle.gear.specs.declared.goodput.Gear.{Gear}
 use Rattle.gear.specs.Goodput.{marksOf}
-use Rattle.gear.specs.Setters.{some, withLevel, withBurst}
-use Rattle.levels.specs.Ladders.{airDb, heeded, levelFor}
+use Rattle.gear.specs.Setters.{some, withLevel, withBurst, withPeer}
+use Rattle.levels.specs.Usable.{airDb, heeded, levelFor}
 use Rattle.gear.specs.declared.Outcome.{Outcome}
-use Rattle.gear.specs.Judging.{classOf, capped, onAck}
-
--- caps, aim_db, peer_class and target
-abbrev pub withPeer : Gear → Bool → MaybeDb → ChanClass → ℕ → Gear
-withPeer g cue aim class target = record { level = g .level; target = target; «burst_s» = g .«burst_s»; «aim_db» = aim; «last_report_db» = g .«last_report_db»; «snr_reports» = g .«snr_reports»; «peer_class» = class; cue = cue; tries = g .tries; holds = g .holds }
+use Rattle.gear.specs.Judging.{heededClass, capped, onAck}
 
 -- with start_margin_db what the report less it allows, else FLOOR, even when pinned
 unfoldable pub startLevel : Profile → Gear → Float → Float → ℕ
 startLevel p g aim now =
     cond (p .«start_margin_db» .set)
-    (capped p g (levelFor (marksOf p) (p .power) (classOf p g) (p .«max_level») (sub binary32 aim (p .«start_margin_db» .db))) now)
+    (capped p g (levelFor (marksOf p) (p .power) (heededClass p g) (p .«max_level») (sub binary32 aim (p .«start_margin_db» .db))) now)
     0
 
 -- the ConnAck arm
@@ -32,13 +28,13 @@ connected p g class cue snr now =
     withLevel h (startLevel p h aim now)
 
 -- level.min(top_level_in(wave)), and burst_s = max_burst_s
-unfoldable pub turned : Profile → Gear → ℕ → Gear
-turned p g w = withBurst (withLevel g (min (g .level) (topLevelIn w))) (p .lengths .«max_burst_s»)
+unfoldable pub atTurn : Profile → Gear → ℕ → Gear
+atTurn p g w = withBurst (withLevel g (min (g .level) (topLevelIn w))) (p .lengths .«max_burst_s»)
 
 -- the outstanding burst under another number
-abbrev pub missed : Outcome → Outcome
-missed o = record { empty = false; fresh = o .fresh; matched = false; sent = o .sent; got = 0 }
+abbrev pub unmatchedOutcome : Outcome → Outcome
+unmatchedOutcome o = record { empty = false; fresh = o .fresh; matched = false; sent = o .sent; got = 0 }
 
 -- the Turn arm
 unfoldable pub onTurn : Profile → Gear → Outcome → Float → ℕ → Float → Gear
-onTurn p g o snr w now = turned p (cond (o .empty) g (onAck p g (missed o) snr now)) w
+onTurn p g o snr w now = atTurn p (cond (o .empty) g (onAck p g (unmatchedOutcome o) snr now)) w

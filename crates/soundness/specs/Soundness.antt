@@ -8,29 +8,26 @@ use lib.ListN.{length, take, drop, getD}
 use lib.Ieee.{Float, nan, binary32, le, lt, neg, ofBits}
 use Rattle.laws.specs.Tests.{all}
 use Rattle.laws.specs.Span.{every, upto}
-use Rattle.ieee.specs.Range.{In, w32, w64}
+use Rattle.ieee.specs.Range.{In, inside, w32, w64}
 use Rattle.config.specs.declared.MaybeDb.{MaybeDb}
 use Rattle.config.specs.declared.Profile.{Profile}
 use Rattle.levels.specs.declared.memory.Reports.{Reports}
 use Rattle.levels.specs.declared.memory.Tries.{Tries}
 use Rattle.levels.specs.declared.usable.Holds.{Holds}
 use Rattle.gear.specs.declared.goodput.Gear.{Gear}
-use Rattle.ledger.specs.Limits.{maxSlots, maxNumber, maxFlying, maxWaiting, maxPieces, maxTaken}
 use Rattle.ledger.specs.Sound.{Sound}
 use Rattle.area.specs.Layout.{areaBytes}
 use Rattle.area.specs.Table.{rowsFrom, total}
-use Rattle.area_check.specs.Sound.{rowOffs, tableOk, allFlying, heldBitsOk, sentBitsOk, noneListed}
+use Rattle.area_check.specs.Rows.{rowOffs, tableOk, allFlying, heldBitsOk, sentBitsOk, noneListed}
 use Rattle.record.specs.Profiles.{sizesOf}
 use Rattle.record.specs.View.{view}
 use Rattle.record.specs.declared.Link.{Link}
 use Rattle.record.specs.declared.AtPeer.{AtPeer}
 use Rattle.record.specs.declared.LastBurst.{LastBurst}
 use Rattle.record.specs.declared.Sender.{Sender}
+use Rattle.limits.specs.Limits.{maxSlots, maxNumber, maxFlying, maxWaiting, maxPieces, maxTaken}
 
 -- ---- the gear: "levels 0 to 16; shares 0 to 1, burst seconds 1 to 1,000, times at most 10^9, hold ends at most 1,001,000,000, kept dB -100 to 308"
-
-abbrev inside : Float → Float → Float → Bool
-inside lo hi x = le lo x && le x hi
 
 unfoldable pub keptOk : Float → Bool
 keptOk x = inside (neg (w32 100)) (w32 308) x
@@ -43,14 +40,14 @@ unfoldable pub reportsOk : Reports → Bool
 reportsOk r = all (leb (r .count) 3 ∷ keptOk (r .a) ∷ keptOk (r .b) ∷ keptOk (r .c) ∷ [])
 
 -- level k: minus infinity is a time and an end too, that of a fresh record
-unfoldable pub levelOk : Tries → Holds → ℕ → Bool
-levelOk t h k =
+unfoldable pub rememberedOk : Tries → Holds → ℕ → Bool
+rememberedOk t h k =
     all (inside (w32 0) (w32 1) (getD (t .success) k nan) ∷ le (getD (t .«success_at») k nan) (w64 1000000000) ∷ le (getD (h .«blocked_until») k nan) (w64 1001000000) ∷ [])
 
 unfoldable pub gearOk : Gear → Bool
 gearOk g =
     all (leb (g .level) 16 ∷ leb (g .target) 16 ∷ inside (w64 1) (w64 1000) (g .«burst_s») ∷ keptIfOk (g .«aim_db») ∷ keptIfOk (g .«last_report_db»)
-    ∷ reportsOk (g .«snr_reports») ∷ every (levelOk (g .tries) (g .holds)) (upto 0 17) ∷ [])
+    ∷ reportsOk (g .«snr_reports») ∷ every (rememberedOk (g .tries) (g .holds)) (upto 0 17) ∷ [])
 
 -- ---- the link: "burst numbers 0 to 3, times at most 10^9, Doppler 0 to 63.5", or not a number. A slot above 2 and a wave above 5 stand for nothing
 

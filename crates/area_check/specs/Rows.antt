@@ -4,10 +4,10 @@ use mathlib.Core.Bool.{Bool, true, not, _&&_}
 use Prim.Native.Nat.{ℕ, _+_}
 use lib.Dec.{leb, ltb, eqb}
 use Rattle.laws.specs.Lists.{listed}
-use Rattle.ledger.specs.Limits.{maxPieces, maxBits, maxHeld}
 use Rattle.ledger.specs.Cover.{ceil}
 use Rattle.area.specs.Table.{total}
 use Rattle.area.specs.declared.table.Row.{Row}
+use Rattle.limits.specs.Limits.{maxPieces, maxBits, maxHeld}
 
 -- "pieces ascend, don't overlap, end by the next offset, have 1 to the long payload's bytes": from offset `from` on
 unfoldable pub ascends : ℕ → ℕ → ℕ → List Row → Bool
