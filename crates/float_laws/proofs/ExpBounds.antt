@@ -100,9 +100,6 @@ unfolding horner tree next one-over
 horner-in r i = within ((minus-half, plus-half) ∷ []) (r ∷ []) tree quarter seven-quarters (more i none) (unfold le lt add mul div ofInt in tt)
 
 -- ---- `E` is not negative
-power-finite : (k : ℤ) → T (finite (power k)) × (N (power k) ≡ 0)
-power-finite k = (tt, refl)
-
 above-zero : (h : Float) (k : ℤ) → In quarter seven-quarters h → T (le (w64 0) (mul binary64 h (power k)))
 unfolding ofInt
 above-zero h k i =
@@ -188,73 +185,3 @@ below-one x (pos (suc n)) j l i = absurd (no n (leb→le (suc n) 0 l))
     no : (n : ℕ) → suc n ≤ 0 → ⊥
     no n h = omega arith
 below-one x (negsuc n) j l i = half-product (horner (reduced x (ofInt binary64 (negsuc n)))) n (horner-in (reduced x (ofInt binary64 (negsuc n))) i)
-
-shifted-le : (x : Float) → In (neg (w64 708)) (w64 0) x → T (le (shifted x) plus-half)
-unfolding le lt neg add sub mul ofInt ofBits
-shifted-le x i = go (lt x (w64 0))
-  where
-    go : (s : Bool) → T (le (cond s (sub binary64 (mul binary64 x log2e) half) (add binary64 (mul binary64 x log2e) half)) plus-half)
-    go true = within ((neg (w64 708), w64 0) ∷ []) (x ∷ []) (less binary64 (times binary64 (var 0) (lit log2e)) (lit half)) lo plus-half (more i none) tt .high
-    go false = within ((neg (w64 708), w64 0) ∷ []) (x ∷ []) (plus binary64 (times binary64 (var 0) (lit log2e)) (lit half)) lo plus-half (more i none) tt .high
-
-pub E-le : (x : Float) → T (fits binary64 x) → T (le x (w64 0)) → T (le (E x) (w64 1))
-E-le x F h =
-    let n = le-no-nan x (w64 0) h .0 in
-    split (lt x (neg (w64 708))) (λ a. subst (λ (z : Float). T (le z (w64 1))) (E-low x a) (unfold le ofInt in tt))
-    (λ a. split (lt (w64 709) x) (λ b. absurd (lt-not-le (w64 709) x b (le-trans x (w64 0) (w64 709) h (unfold le ofInt in tt))))
-    (λ b.
-    let i = in-of-tests x n a b in
-    let j : In (neg (w64 708)) (w64 0) x = record { low = i .low; high = h } in
-    let u = in-finite {lo = lo} {hi = hi} {x = shifted x} tt tt (shifted-in x i) in
-    subst (λ (z : Float). T (le z (w64 1))) (E-within x a b) (below-one x (toSigned 63 (shifted x)) j (low-cut (shifted x) u (shifted-le x j)) (rest-in x F i))))
-
--- ---- as an f32
-one-is : w64 1 ≡ one
-unfolding ofInt
-one-is = refl
-
--- the weight of an old success: exp of what is not above zero
-pub weight-in : (x : Float) → T (fits binary64 x) → T (le x (w64 0)) → In null one (narrow (E x))
-weight-in x F h =
-    narrow-in null one (E x) tt tt (unfold fits in tt) (unfold fits in tt)
-    (record { low = subst (λ (z : Float). T (le z (E x))) zero-is (E-ge x F (le-no-nan x (w64 0) h .0)); high = subst (λ (z : Float). T (le (E x) z)) one-is (E-le x F h) })
-
--- 1 / (1 + e), for an e of `E32`, which may be an infinity
-more-than-one : (e : Float) → T (le null e) → T (le one (add binary32 one e))
-unfolding le add
-more-than-one nan h = absurd h
-more-than-one (inf true) h = absurd h
-more-than-one (inf false) h = tt
-more-than-one (fin s m d) h =
-    let x = fin s m d in
-    rounds-ge binary32 (add binary32 one x) one _ _ _ (mul-pos (den-pos one) (den-pos x)) tt (unfold fits in tt) (add-rounds binary32 one x tt tt) (go (P x) (N x) (den x) (not-negative x tt h))
-  where
-    go : (p n d : ℕ) → n ≡ 0 → 1 * (1 * d) + (0 * d + n * 1) * 1 ≤ (1 * d + p * 1) * 1 + 0 * (1 * d)
-    go p n d e = omega arith
-
-one-over-in : (s : Float) → T (le one s) → In null one (div binary32 one s)
-unfolding le div
-one-over-in nan h = absurd h
-one-over-in (inf true) h = absurd h
-one-over-in (inf false) h = record { low = tt; high = tt }
-one-over-in (fin true n d) h = absurd (above-of-le one (fin true n d) tt h)
-one-over-in (fin false n d) h =
-    let s = fin false n d in
-    let p = above-of-le one s tt h in
-    let q = P-pos s p in
-    let r = div-rounds binary32 one s tt p in
-    let D = mul-pos (den-pos one) (q .0) in
-    record {
-      low = rounds-ge binary32 (div binary32 one s) null _ _ _ D tt (unfold fits in tt) r (omega arith);
-      high = rounds-le binary32 (div binary32 one s) one _ _ _ D tt (unfold fits in tt) r (go (P s) (den s) (le→Le one s tt tt h));
-    }
-  where
-    go : (p d : ℕ) → 1 * d + 0 * 1 ≤ p * 1 + 0 * d → 1 * d * 1 + 0 * (1 * p) ≤ 1 * (1 * p) + 0 * d * 1
-    go p d h = omega arith
-
-pub prior-in : (e : Float) → T (le null e) → In null one (div binary32 one (add binary32 one e))
-prior-in e h = one-over-in (add binary32 one e) (more-than-one e h)
-
--- exp of an f32 is not negative
-pub E32-ge : (x : Float) → T (fits binary32 x) → T (not (isNan x)) → T (le null (narrow (E x)))
-E32-ge x F n = narrow-ge (E x) (subst (λ (z : Float). T (le z (E x))) zero-is (E-ge x (fits-widens x F) n))

@@ -50,23 +50,6 @@ clean-in pre ack turn overhead i j k l =
     (less binary64 (less binary64 (over binary64 (plus binary64 (plus binary64 (var 0) (var 1)) (var 2)) (var 3)) (var 1)) (var 2)) (neg (w64 180)) (w64 25101)
     (more i (more j (more k (more l none)))) tt
 
--- -(aim + air - threshold - margin + 0.5) / 0.25, in f32, for dB values of at most 400 and 100 either way
-pub room-in : (aim air th margin : Float) → In (neg (w32 400)) (w32 400) aim → In (neg (w32 100)) (w32 100) air → In (neg (w32 100)) (w32 100) th → In (neg (w32 100)) (w32 100) margin
-    → In (neg (w32 2802)) (w32 2798) (div binary32 (sub binary32 (w32 0) (add binary32 (sub binary32 (sub binary32 (add binary32 aim air) th) margin) (fin false 1 (negsuc 0)))) (fin false 1 (negsuc 1)))
-unfolding le lt neg add sub div ofInt ofBits
-room-in aim air th margin i j k l =
-    within ((neg (w32 400), w32 400) ∷ (neg (w32 100), w32 100) ∷ (neg (w32 100), w32 100) ∷ (neg (w32 100), w32 100) ∷ []) (aim ∷ air ∷ th ∷ margin ∷ [])
-    (over binary32 (less binary32 (lit (w32 0)) (plus binary32 (less binary32 (less binary32 (plus binary32 (var 0) (var 1)) (var 2)) (var 3)) (lit (fin false 1 (negsuc 0))))) (lit (fin false 1 (negsuc 1)))) (neg (w32 2802)) (w32 2798)
-    (more i (more j (more k (more l none)))) tt
-
--- w * s + (1 - w) * prior, of pick_by_goodput, for a weight as `weight-in` has it: crude, and enough to know that it is finite
-pub blend-in : (w s prior : Float) → In (w32 0) (w32 1) w → In (w32 0) (w32 1) s → In (w32 0) (w32 1) prior → In (w32 0) (w32 2) (add binary32 (mul binary32 w s) (mul binary32 (sub binary32 (w32 1) w) prior))
-unfolding le lt add sub mul ofInt
-blend-in w s prior i j k =
-    within ((w32 0, w32 1) ∷ (w32 0, w32 1) ∷ (w32 0, w32 1) ∷ []) (w ∷ s ∷ prior ∷ [])
-    (plus binary32 (times binary32 (var 0) (var 1)) (times binary32 (less binary32 (lit (w32 1)) (var 0)) (var 2))) (w32 0) (w32 2)
-    (more i (more j (more k none))) tt
-
 -- (max_burst - (one - frame)) / max(frame, 0.001), frame = two - one, of level_rate
 abbrev thousandth : Float
 thousandth = ofBits binary64 0x3f50_624d_d2f1_a9fc

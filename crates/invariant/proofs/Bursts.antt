@@ -84,7 +84,3 @@ module _ (p : Profile) where
   choice-keeps-air rg s a w six =
       let l = sound-level p s a (w .sound) in
       keeps-air (sizesOf p) (choice p s) (view s a) (w .sound .ledger) (choice-ranged p rg s l six) (choice-long p rg s l)
-
-  -- what replies ask of the record
-  pub well-answerable : (s : Sender) (a : List ℕ) → Well p s a → ReplyReady p s a
-  well-answerable s a w = record { level = sound-level p s a (w .sound); settling = sound-settling p s a (w .sound) (w .arrays); sound = w .sound .ledger }

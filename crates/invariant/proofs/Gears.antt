@@ -21,7 +21,7 @@ use Rattle.gear.specs.declared.Outcome.{Outcome}
 use Rattle.gear.specs.Judging.{aimed, capped, incrementsOnly, blamed, failuresCounted, byGoodput, worthKeeping, held, byLadder, judged, arrived, onAck}
 use Rattle.gear.specs.OtherReplies.{connected, atTurn, unmatchedOutcome, onTurn}
 use Rattle.gear_laws.specs.Sound as G
-use Rattle.gear_laws.specs.Sound.{Counts, Report, Time}
+use Rattle.gear_laws.specs.Sound.{OutcomeInRange, DbInRange, TimeInRange}
 use Rattle.gear_laws.proofs.SoundLaws.{kept-by-set, on-ack-sound, connected-sound, on-turn-sound}
 use Rattle.soundness.specs.Soundness.{SoundGear}
 use Rattle.invariant.specs.Invariant.{TypedGear}
@@ -111,7 +111,7 @@ module _ (p : Profile) (now : Float) (n : Past now) where
 abbrev pub WellGear : Gear → Type 0
 WellGear g = SoundGear g × TypedGear g
 
-to-laws : (g : Gear) → WellGear g → G.SoundGear g
+to-laws : (g : Gear) → WellGear g → G.GearInRange g
 to-laws g w =
     let s = w .0 in
     record {
@@ -125,7 +125,7 @@ to-laws g w =
       ends = s .ends;
     }
 
-from-laws : (g : Gear) → G.SoundGear g → Dated g → WellGear g
+from-laws : (g : Gear) → G.GearInRange g → Dated g → WellGear g
 from-laws g s d = (
   record {
     level = s .level;
@@ -154,12 +154,12 @@ pub burst-well : (g : Gear) (x : Float) → In (w64 1) (w64 1000) x → WellGear
 burst-well g x i w = from-laws (withBurst g x) (let s = to-laws g w in record { level = s .level; target = s .target; burst = i; aim = s .aim; last = s .last; reports = s .reports; shares = s .shares; ends = s .ends }) (dated g w)
 
 module _ (p : Profile) (k : Ranged p) where
-  pub ack-gear-well : (g : Gear) (o : Outcome) (snr now : Float) → Counts o → Report snr → Time now → WellGear g → WellGear (onAck p g o snr now)
+  pub ack-gear-well : (g : Gear) (o : Outcome) (snr now : Float) → OutcomeInRange o → DbInRange snr → TimeInRange now → WellGear g → WellGear (onAck p g o snr now)
   ack-gear-well g o snr now n r t w = from-laws _ (on-ack-sound p k g o snr now n r t (to-laws g w)) (ack-dated p now (t .high) g o snr (dated g w))
 
-  pub connected-gear-well : (g : Gear) (class : ChanClass) (cue : Bool) (snr now : Float) → Report snr → WellGear g → WellGear (connected p g class cue snr now)
+  pub connected-gear-well : (g : Gear) (class : ChanClass) (cue : Bool) (snr now : Float) → DbInRange snr → WellGear g → WellGear (connected p g class cue snr now)
   unfolding connected
   connected-gear-well g class cue snr now r w = from-laws _ (connected-sound p k g class cue snr now r (to-laws g w)) (dated g w)
 
-  pub turn-gear-well : (g : Gear) (o : Outcome) (snr : Float) (w : ℕ) (now : Float) → Counts o → Report snr → Time now → WellGear g → WellGear (onTurn p g o snr w now)
+  pub turn-gear-well : (g : Gear) (o : Outcome) (snr : Float) (w : ℕ) (now : Float) → OutcomeInRange o → DbInRange snr → TimeInRange now → WellGear g → WellGear (onTurn p g o snr w now)
   turn-gear-well g o snr w now n r t x = from-laws _ (on-turn-sound p k g o snr w now n r t (to-laws g x)) (turn-dated p now (t .high) g o snr w (dated g x))

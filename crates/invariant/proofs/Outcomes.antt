@@ -11,7 +11,7 @@ use Rattle.laws.proofs.Picks.{by, test}
 use Rattle.ledger.specs.Reply.{Reply}
 use Rattle.ledger.specs.Ledger as L
 use Rattle.ledger.specs.Ledger.{Sent}
-use Rattle.gear_laws.specs.Sound.{Counts}
+use Rattle.gear_laws.specs.Sound.{OutcomeInRange}
 use Rattle.settle.specs.Outcomes.{isFresh, freshSent, freshGot, allGot, outcomeOf}
 use Rattle.settle.proofs.outcome.Counts.{one-few}
 use Rattle.limits.specs.Limits.{maxSlots}
@@ -27,7 +27,7 @@ counts-few b i (f ∷ fs) =
     let c = counts-few b (suc i) fs in
     (omega (arith, one-both (isFresh f) (b i), c .0), omega (arith, one-few (isFresh f), c .1), omega (arith, one-few (b i), c .2))
 
-pub outcome-counts : (r : Reply) (l : L.Sender) → length (l .sent) ≤ maxSlots → Counts (outcomeOf r l)
+pub outcome-counts : (r : Reply) (l : L.Sender) → length (l .sent) ≤ maxSlots → OutcomeInRange (outcomeOf r l)
 unfolding outcomeOf
 outcome-counts r l h =
     let b = r .bit (length (l .sent)) in

@@ -24,7 +24,7 @@ use Rattle.config.specs.declared.Profile.{Profile}
 use Rattle.config.specs.Ranged.{Ranged}
 use Rattle.config.specs.Ranges.{inOrder}
 use Rattle.gear.specs.Setters.{withBurst}
-use Rattle.gear_laws.specs.Sound.{Counts, Report, Time}
+use Rattle.gear_laws.specs.Sound.{OutcomeInRange, DbInRange, TimeInRange}
 use Rattle.ledger.specs.Reply.{Reply, shortAck, longAck}
 use Rattle.ledger.specs.Ledger.{settles, queue}
 use Rattle.ledger.specs.Calls.{Allowed, queues}
@@ -58,12 +58,12 @@ module _ (p : Profile) (rg : Ranged p) (io : inOrder p ≡ true) where
   zr : SizeRange (sizesOf p)
   zr = profile-sizes p rg io
 
-  counts : (r : Reply) (s : Sender) (a : List ℕ) → Well p s a → Counts (outcomeOf r (view s a))
+  counts : (r : Reply) (s : Sender) (a : List ℕ) → Well p s a → OutcomeInRange (outcomeOf r (view s a))
   counts r s a w = outcome-counts r (view s a) (omega (arith, w .sound .ledger .outFew))
 
   -- ---- acks
 
-  pub ack-well : (r : Reply) (stored : Bool) (snr now : Float) (s : Sender) (a : List ℕ) → Report snr → Time now → Well p s a → WellBoth p (ackIn p r stored snr now s a)
+  pub ack-well : (r : Reply) (stored : Bool) (snr now : Float) (s : Sender) (a : List ℕ) → DbInRange snr → TimeInRange now → Well p s a → WellBoth p (ackIn p r stored snr now s a)
   unfolding ackIn
   ack-well r stored snr now s a d t w =
       let k = w .sound .link in
@@ -80,7 +80,7 @@ module _ (p : Profile) (rg : Ranged p) (io : inOrder p ≡ true) where
         notAbove = k .notAbove;
       })
 
-  noted-sound : (k : Link) (now : Float) (turn disc : Bool) (n : ℕ) → Time now → n ≤ maxNumber → SoundLink k → SoundLink (ackNoted k now turn disc n)
+  noted-sound : (k : Link) (now : Float) (turn disc : Bool) (n : ℕ) → TimeInRange now → n ≤ maxNumber → SoundLink k → SoundLink (ackNoted k now turn disc n)
   noted-sound k now turn disc n t h s = record { time = t; number = s .number; heard = h; slot = s .slot; wave = s .wave; notBelow = s .notBelow; notAbove = s .notAbove }
 
   pub short-well : (h : Heard) (r : Ack) (s : Sender) (a : List ℕ) → AckIn h r → Well p s a → WellBoth p (shortAcked p h r s a)
@@ -128,7 +128,7 @@ module _ (p : Profile) (rg : Ranged p) (io : inOrder p ≡ true) where
 
 -- ---- what `AckInfo::from_bytes` reads is in range
 
-wide : (x : Float) → In (neg (w32 24)) (w32 231) x → Report x
+wide : (x : Float) → In (neg (w32 24)) (w32 231) x → DbInRange x
 unfolding neg ofInt le
 wide x i = in-wider {lo = neg (w32 24)} {hi = w32 231} {x = x} (neg (w32 100)) (w32 300) tt tt i
 
@@ -152,7 +152,7 @@ unfolding span climb size odd units round div ofInt ofBits
 top-is = refl
 
 abbrev ReportIn : ChanReport → Type 0
-ReportIn c = Report (c .«eff_snr_db») × (c .slot ≤ 2) × (lt (c .«doppler_hz») (w32 0) ≡ false) × (lt (ofBits binary32 0x427e_0000) (c .«doppler_hz») ≡ false)
+ReportIn c = DbInRange (c .«eff_snr_db») × (c .slot ≤ 2) × (lt (c .«doppler_hz») (w32 0) ≡ false) × (lt (ofBits binary32 0x427e_0000) (c .«doppler_hz») ≡ false)
 
 report-in : (b : List ℕ) → Bytes b → (at : ℕ) → ReportIn (reportAt b at)
 unfolding reportAt
@@ -168,12 +168,12 @@ none-in : ReportIn noReport
 unfolding le lt eq neg ofInt ofBits
 none-in = (record { low = tt; high = tt }, omega arith, refl, refl)
 
-pub info-in : (p : Profile) (h : Heard) (b : List ℕ) → Bytes b → Time (h .time) → LongAckIn p h (infoOf b)
+pub info-in : (p : Profile) (h : Heard) (b : List ℕ) → Bytes b → TimeInRange (h .time) → LongAckIn p h (infoOf b)
 info-in p h b by t =
     let c = either ReportIn (leb 17 (length b)) _ _ (report-in b by 13) none-in in
     record {
       time = t;
-      db = either Report (leb 17 (length b) && p .«eff_snr») _ _ (c .0) (wide _ (snr-in (getD b 9 0) (by 9)));
+      db = either DbInRange (leb 17 (length b) && p .«eff_snr») _ _ (c .0) (wide _ (snr-in (getD b 9 0) (by 9)));
       burst = omega arith;
       slot = c .1;
       notBelow = c .2;

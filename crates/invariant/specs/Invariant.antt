@@ -8,7 +8,7 @@ use lib.Ieee.{nan, binary32, fits, lt, ofBits}
 use Rattle.ieee.specs.Range.{w32}
 use Rattle.config.specs.declared.Profile.{Profile}
 use Rattle.gear.specs.declared.goodput.Gear.{Gear}
-use Rattle.gear_laws.specs.Sound.{Report, Time}
+use Rattle.gear_laws.specs.Sound.{DbInRange, TimeInRange}
 use Rattle.report.specs.declared.ack.AckInfo.{AckInfo}
 use Rattle.replies.specs.declared.Heard.{Heard}
 use Rattle.replies.specs.declared.ConnAck.{ConnAck}
@@ -24,25 +24,25 @@ pub record TypedGear (g : Gear) : Type 0 where
 -- ---- replies: dB -100 to 300, times 0 to 10^9, burst numbers 0 to 3, slots 0 to 2
 
 pub record AckIn (h : Heard) (r : Ack) : Type 0 where
-  pub time : Time (h .time)
-  pub db : Report (r .«snr_db»)
+  pub time : TimeInRange (h .time)
+  pub db : DbInRange (r .«snr_db»)
   pub burst : r .burst ≤ maxNumber
   pub slot : r .slot ≤ 2
 
 -- a Doppler spread: 0 to 63.5, or not a number
 pub record LongAckIn (p : Profile) (h : Heard) (i : AckInfo) : Type 0 where
-  pub time : Time (h .time)
-  pub db : Report (longDb p i)
+  pub time : TimeInRange (h .time)
+  pub db : DbInRange (longDb p i)
   pub burst : i .burst ≤ maxNumber
   pub slot : i .report .slot ≤ 2
   pub notBelow : lt (i .report .«doppler_hz») (w32 0) ≡ false
   pub notAbove : lt (ofBits binary32 0x427e_0000) (i .report .«doppler_hz») ≡ false
 
 pub record TurnIn (h : Heard) (r : Turn) : Type 0 where
-  pub time : Time (h .time)
-  pub db : Report (turnDb h r)
+  pub time : TimeInRange (h .time)
+  pub db : DbInRange (turnDb h r)
 
 pub record ConnAckIn (h : Heard) (r : ConnAck) : Type 0 where
-  pub time : Time (h .time)
-  pub db : Report (r .«snr_db»)
+  pub time : TimeInRange (h .time)
+  pub db : DbInRange (r .«snr_db»)
   pub slot : r .slot ≤ 2

@@ -130,15 +130,3 @@ module _ (z : Sizes) (zr : SizeRange z) (s : Sender) (g : Plan) (so : Sound z s)
 
     pub table-room : length rs + (g .room - length (oldSlots g rs os)) ≤ maxPieces
     table-room = omega (arith, recut-count, old-count, recut-room)
-
-    -- slots: increments, and then as many whole pieces as there is room for
-    pub slots-room : (q : Harq) → length (incrementSlots q (g .slot) rs (take (g .parity) os) (take (g .parity) hs)) + g .room ≤ maxSlots
-    slots-room q =
-        omega (
-          arith,
-          increments-length q (g .slot) rs (take (g .parity) os) (take (g .parity) hs),
-          length-take (g .parity) os,
-          held-length os hs sides,
-          ap length held,
-          fi .room,
-        )

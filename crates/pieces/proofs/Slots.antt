@@ -66,15 +66,8 @@ module _ (xs : List Slot) (h : length xs ≤ maxSlots) where
   pub slots-held : take (length xs) (pushAll noSlots xs .held) ≡ map (λ (x : Slot). x .held) xs
   slots-held = ap (take (length xs)) (push-all-held noSlots xs) ∙ front (λ (x : Slot). x .held) xs h
 
-  pub slots-start : take (length xs) (pushAll noSlots xs .start) ≡ map (λ (x : Slot). x .start) xs
-  slots-start = ap (take (length xs)) (push-all-start noSlots xs) ∙ front (λ (x : Slot). x .start) xs h
-
   pub slots-len : take (length xs) (pushAll noSlots xs .len) ≡ map (λ (x : Slot). x .len) xs
   slots-len = ap (take (length xs)) (push-all-len noSlots xs) ∙ front (λ (x : Slot). x .len) xs h
-
-  -- what the outstanding burst keeps of the arrays
-  pub slots-out : sentOf (take (length xs) (pushAll noSlots xs .off)) (take (length xs) (pushAll noSlots xs .bits)) (take (length xs) (pushAll noSlots xs .held)) ≡ sentSlots xs
-  slots-out = (λ i. sentOf (slots-off i) (slots-bits i) (slots-held i)) ∙ sentSlots-is xs
 
 -- ---- read back as slots
 

@@ -99,10 +99,6 @@ module _ (short long next flying : ℕ) (rs : List Row) (st : List ℕ) (fits : 
       and-yes _ _ (pieces-ascend long next 0 rs st fits a)
       (and-yes _ _ (eq-eqb (total rs) flying (sym (size-rows rs st fits) ∙ s)) (le-leb (shortFramesOf short rs) maxPieces (rw (← short-rows short rs st fits) f)))
 
--- each piece counts one short frame or more
-pub rows-few : (short long next : ℕ) (rs : List Row) (st : List ℕ) → 1 ≤ short → Ascend long 0 next (piecesOf rs st) → shortFrames short (piecesOf rs st) ≤ maxPieces → length rs ≤ maxPieces
-rows-few short long next rs st h a f = omega (arith, length-pieces rs st, pieces-shortFrames short h long 0 next (piecesOf rs st) a)
-
 -- ---- offsets that are distinct and flying
 
 distinct-offs : (xs os : List ℕ) → allFlying xs os ≡ true → Distinct xs × AllListed xs os

@@ -26,6 +26,3 @@ after (switch c arms) = skip
 after (exit n) = skip
 after return = skip
 after (call f xs d) = skip
-
-pub fallen : {X : Type 0} (μ : X → ℕ) → WellFounded (λ (y x : X). μ y < μ x)
-fallen μ = InvImage·wf μ (Nat·lt-wfRel .wf)

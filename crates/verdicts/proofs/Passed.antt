@@ -35,19 +35,6 @@ not-passed v u n e d h = ne-eqb _ _ (λ z. h (d ∙ ap numberOf e ∙ z))
 pub is-passed : (v u : Verdict) (n : ℕ) → v ≡ u → n ≡ numberOf v → n ≡ 0 → passed u ≡ true
 is-passed v u n e d h = eq-eqb _ _ (sym (d ∙ ap numberOf e) ∙ h)
 
-pub passed-is : (v : Verdict) → passed v ≡ true → v ≡ Accepted
-passed-is Accepted h = refl
-passed-is ProfileOutOfRange h = absurd (false≢true h)
-passed-is ShortOverLong h = absurd (false≢true h)
-passed-is Unsound h = absurd (false≢true h)
-passed-is OutOfTurn h = absurd (false≢true h)
-passed-is BadTime h = absurd (false≢true h)
-passed-is BadValue h = absurd (false≢true h)
-passed-is ShortPayload h = absurd (false≢true h)
-passed-is QueueFull h = absurd (false≢true h)
-passed-is AllTaken h = absurd (false≢true h)
-passed-is ShortOutput h = absurd (false≢true h)
-
 -- a test that would have turned the call down
 over-first : (b : Bool) (v w : Verdict) → passed v ≡ false → passed (cond b v w) ≡ true → (b ≡ false) × (passed w ≡ true)
 over-first true v w e h = absurd (false≢true (sym e ∙ h))

@@ -50,8 +50,3 @@ module _ (max : ℕ) (held : List ℕ) (p q : Row) (a : List ℕ) (i n w : ℕ) 
 
 pub joins-fits : (held : List ℕ) (max : ℕ) (p q : Row) → joinsRow held max p q ≡ true → p .len + q .len ≤ max
 joins-fits held max p q h = leb-true _ _ (and-first (leb (p .len + q .len) max) _ (and-second (eqb (p .off + p .len) (q .off)) _ h))
-
--- what `merge_table` leaves, fact by fact
-pub merge-facts : (held : List ℕ) (max n : ℕ) (a : List ℕ) (m : ℕ) (b : List ℕ) → (m, b) ≡ mergeTable held max n a → (m ≡ length (mergeRows held max (rowsFrom a 0 n))) × (b ≡ withRows a 0 (mergeRows held max (rowsFrom a 0 n)))
-unfolding mergeTable
-merge-facts held max n a m b e = (ap (λ (x : ℕ × List ℕ). x .0) e, ap (λ (x : ℕ × List ℕ). x .1) e)

@@ -181,7 +181,3 @@ back max a i w r k m h e s p = record {
 }
 
 -- ---- what `split_table` leaves, fact by fact
-
-pub split-facts : (max n : ℕ) (a : List ℕ) (m : ℕ) (b : List ℕ) → (m, b) ≡ splitTable max n a → (m ≡ length (splitRows max (rowsFrom a 0 n))) × (b ≡ withRows a 0 (splitRows max (rowsFrom a 0 n)))
-unfolding splitTable
-split-facts max n a m b e = (ap (λ (x : ℕ × List ℕ). x .0) e, ap (λ (x : ℕ × List ℕ). x .1) e)

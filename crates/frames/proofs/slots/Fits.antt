@@ -24,10 +24,3 @@ module _ (h slot : ℕ) (s : slot ≤ maxBits) (b : h + maxBits ≤ maxHeld) whe
       test (ltb h e) (λ t. rw t (omega (arith, smallest-le e (above h es), f 0 (omega arith)))) (λ t. rw t (ends-fit es (λ i k. f (suc i) (suc-le-suc k))))
 
 module _ (q : Harq) (slot : ℕ) (m : q .mother ≤ maxBits) (s : slot ≤ maxBits) (six : length (q .ends) ≤ 6) (e : (i : ℕ) → i < 6 → getD (q .ends) i 0 ≤ maxBits) where
-  pub increment-fits : (h : ℕ) → h < hMax q → h + incrementOf q h slot ≤ maxHeld
-  unfolding incrementOf
-  increment-fits h b = ends-fit h slot s (omega arith) (q .ends) (λ i k. e i (omega arith))
-
-  -- each of the held pieces
-  pub increments-fit : (bits : List ℕ) → ((j : ℕ) → j < length bits → getD bits j 0 < hMax q) → (j : ℕ) → j < length bits → getD bits j 0 + incrementOf q (getD bits j 0) slot ≤ maxHeld
-  increments-fit bits f j k = increment-fits (getD bits j 0) (f j k)

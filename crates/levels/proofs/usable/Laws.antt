@@ -23,11 +23,6 @@ pub level-for-lt : (m : Marks) (power : ℕ) (c : ChanClass) (top : ℕ) (db : F
 unfolding levelFor
 level-for-lt m power c top db h = highest-lt (λ l. enough m power c l db) (top + 1) 0 17 (omega arith) (omega arith)
 
--- and none above the top
-pub level-for-le : (m : Marks) (power : ℕ) (c : ChanClass) (top : ℕ) (db : Float) → levelFor m power c top db ≤ top
-unfolding levelFor
-level-for-le m power c top db = let h = highest-lt (λ l. enough m power c l db) (top + 1) 0 (top + 1) (omega arith) (omega arith) in omega (arith, h)
-
 -- `usable_below` names the pinned level, and without one a level at or below l
 pub usable-below-pin : (h : Holds) (c : ChanClass) (pin : MaybeLevel) (l : ℕ) (now : Float) → pin .set ≡ true → usableBelow h c pin l now ≡ pin .level
 unfolding usableBelow

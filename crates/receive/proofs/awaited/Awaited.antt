@@ -61,11 +61,6 @@ module _ (z : Sizes) (p : Profile) (r : Reply) (m : ℕ) (stored : Bool) (snr ti
   abbrev wave : ℕ
   wave = waveRank (s .gear .level)
 
-  -- what is settled shows the same ledger
-  same-view : (o : Outcome) (w : ℕ) → view (next o w) a ≡ before
-  unfolding view
-  same-view o w = refl
-
   abbrev counted : (o : Outcome) (w : ℕ) → Counted (next o w) a
   counted o w = record { area = c .area; held = c .held; rest = c .rest; sent = c .sent; pieces = c .pieces; flying = c .flying; stream = c .stream }
 
