@@ -72,7 +72,9 @@ def functions(path):
         word = re.compile(r'[a-z_]+')
         while at < len(text) and text[at] not in '{;':
             w = word.match(text, at)
-            if w and w.group(0) in ('ensures', 'requires', 'decreases', 'invariant', 'modifies'):
+            if text[at] in '([':                                          # of the result's type
+                at = closing(text, at)
+            elif w and w.group(0) in ('ensures', 'requires', 'decreases', 'invariant', 'modifies'):
                 signature_end = min(signature_end, at) if clauses else at
                 open_at = text.index('{', w.end())
                 end = closing(text, open_at)
