@@ -1,4 +1,4 @@
-// Check sums of frames, reckoned bit by bit by V.42's rule (8.1.1.6.2), against those of crc and those that frame writes.
+// Check sums of frames, reckoned bit by bit by V.42's rule (8.1.1.6.2), against those that frame reckons and writes.
 // The rule: the ones complement of the sum modulo 2 of the remainders of x^k (x^31 + .. + 1), k the number of bits, and of x^32 times the
 // bits, divided by the generator. A polynomial is an array of coefficients, 0 or 1, the highest power's first.
 // The values in the file stdout were reckoned apart from this program, by the function crc32 of Python's zlib, from frames laid out there anew.

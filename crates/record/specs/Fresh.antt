@@ -1,4 +1,4 @@
--- A fresh sender (`Station::new`, station.rs; call-list.md says what `state` shows of it). Definitions only.
+-- A fresh sender (`Station::new`, station.rs; docs/CALLS.md says what `state` shows of it). Definitions only.
 use mathlib.Core.Bool.{true, false}
 use Prim.Native.Nat.{ℕ}
 use lib.Ieee.{Float, nan, inf, binary32, binary64, ofInt}
