@@ -6,9 +6,8 @@ use Prim.Native.Nat.{ℕ, zero, suc, _+_, _-_, _*_, _^_, _≤_, _<_}
 use native.Mathlib.Omega.{arith}
 use lib.ListN.{length, take, drop, length-take, length-drop, length-append, length-map, take-append-drop}
 use lib.Seq.{take-at, drop-at, take-add, take-length, take-append-seam, drop-append-seam, length-take-le, drop-append-add, take-append-le, drop-drop}
-use Rattle.laws.specs.Bytes.{overwrite, part}
+use Rattle.laws.specs.Bytes.{overwrite, part, Bytes}
 use Rattle.laws.proofs.Bytes.{length-over, over-part, part-add, take-over, part-inside, length-part}
-use Rattle.laws.proofs.Little.{Bytes}
 use Rattle.ledger.specs.Ledger as L
 use Rattle.ledger.specs.Ledger.{Piece, Held, Sent, size, bytesOf, heldOffs, sentOffs}
 use Rattle.ledger.proofs.Stream.{length-bytesOf}

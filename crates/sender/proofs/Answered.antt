@@ -5,8 +5,7 @@ use mathlib.Core.List.{List}
 use mathlib.Core.Bool.{true, false}
 use Prim.Native.Nat.{ℕ, _+_}
 use lib.ListN.{length}
-use Rattle.laws.specs.Bytes.{overwrite}
-use Rattle.laws.proofs.Little.{Bytes}
+use Rattle.laws.specs.Bytes.{overwrite, Bytes}
 use Rattle.laws.proofs.Picks.{cond-yes, cond-no, by₂}
 use Rattle.config.specs.declared.Profile.{Profile}
 use Rattle.config.specs.Ranged.{Ranged}

@@ -7,9 +7,8 @@ use native.Mathlib.Nat.{zero-add}
 use native.Mathlib.Omega.{arith}
 use lib.ListN.{length, take, length-append}
 use lib.Seq.{take-add}
-use Rattle.laws.specs.Bytes.{overwrite, part}
+use Rattle.laws.specs.Bytes.{overwrite, part, Bytes}
 use Rattle.laws.proofs.Bytes.{over-keep, over-comm, length-part}
-use Rattle.laws.proofs.Little.{Bytes}
 use Rattle.ledger.specs.Ledger as L
 use Rattle.ledger.specs.Ledger.{bytesOf}
 use Rattle.area.specs.Layout.{place, streamBytes}

@@ -9,9 +9,8 @@ use native.Mathlib.Nat.{div-div-eq-div-mul, div-one, pow-succ'}
 use lib.Dec.{eqb, ltb}
 use lib.ListN.{length, take, drop, length-take, length-drop, take-append-drop, length-append}
 use lib.Seq.{take-take, take-add, drop-at, length-take-le}
-use Rattle.laws.specs.Bytes.{overwrite, part}
+use Rattle.laws.specs.Bytes.{overwrite, part, Bytes}
 use Rattle.laws.proofs.Bytes.{over-nil, length-part}
-use Rattle.laws.proofs.Little.{Bytes}
 use Rattle.ledger.specs.Reply.{Reply, bitAt}
 use Rattle.ledger.specs.Ledger as L
 use Rattle.ledger.specs.Ledger.{Piece, Held, Sent, size, bytesOf, heldOffs, sentOffs, remaining, ackedBytes, missed, settleBurst}

@@ -11,9 +11,8 @@ use lib.ListN.{length, take, drop, getD, set, length-append, length-take, length
 use lib.Seq.{drop-cons, getD-set-same, getD-set-other, take-take, drop-at}
 use lib.Dec.{eqb}
 use borrow.Author.Tests.{eq-eqb, ne-eqb, eqb-true, eqb-false}
-use Rattle.laws.specs.Bytes.{overwrite, part}
+use Rattle.laws.specs.Bytes.{overwrite, part, Bytes}
 use Rattle.laws.proofs.Bytes.{length-over, over-nil, over-cat, over-comm, part-before, part-after, part-add, over-part, length-part}
-use Rattle.laws.proofs.Little.{Bytes}
 use Rattle.area.specs.Layout.{place, streamBytes, areaBytes}
 use Rattle.area.specs.Table.{rowAt, rowsFrom, tableBytes, withRows, total}
 use Rattle.area.specs.declared.table.Row.{Row}

@@ -4,9 +4,8 @@ use mathlib.Core.Path.{_≡_, sym, ap, ap₂, _∙_}
 use mathlib.Core.List.{List, []}
 use mathlib.Core.Bool.{false}
 use Prim.Native.Nat.{ℕ}
-use Rattle.laws.specs.Bytes.{overwrite}
+use Rattle.laws.specs.Bytes.{overwrite, Bytes}
 use Rattle.laws.proofs.Bytes.{over-nil}
-use Rattle.laws.proofs.Little.{Bytes}
 use Rattle.gear.specs.declared.goodput.Gear.{Gear}
 use Rattle.ledger.specs.Ledger as L
 use Rattle.ledger.specs.Ledger.{clearBurst}
