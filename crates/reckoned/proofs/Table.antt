@@ -1,4 +1,4 @@
--- Document 01's reckoned examples hashed P, and that of a hold, as one table: a field for each, proved from the definitions by computation.
+-- Document 01's reckoned examples marked P, and that of a hold, as one table: a field for each, proved from the definitions by computation.
 -- Assumes nothing.
 use mathlib.Core.Path.{_≡_, refl}
 use mathlib.Core.Bool.{true, false}
@@ -13,7 +13,7 @@ use Rattle.header.specs.Header.{airCode, userBits, nextBurstId}
 use Rattle.harq.specs.Held.{above, smallest, upTo, incrementOf, startOf, partialField, checkBits, burstCheckBits}
 use Rattle.harq.specs.declared.Harq.{Harq}
 use Rattle.config.specs.Entries.{entryAt}
-use Rattle.config.specs.declared.Hashes.{Hashes}
+use Rattle.config.specs.declared.Marks.{Marks}
 use Rattle.report.specs.declared.ChanClass.{ChanClass}
 use Rattle.levels.specs.Usable.{airDb, familyOk, enough, levelFor}
 use Rattle.ledger.specs.Ledger.{split, mergeInflight}

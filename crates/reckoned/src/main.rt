@@ -2,7 +2,7 @@
 mod holds;
 mod rows;
 
-use config::Hashes;
+use config::Marks;
 use harq::Harq;
 use harq::burst_check_bits;
 use harq::partial_field;
@@ -68,7 +68,7 @@ fn level_cases() {
 }
 
 fn gear_cases() {
-    let plain = Hashes {
+    let plain = Marks {
         thresholds_db: level::thresholds_db(),
         margin_db: 0.0,
     };
