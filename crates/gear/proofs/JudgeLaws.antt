@@ -7,7 +7,7 @@ use Rattle.float.specs.Gear.{successWeight, wholeLoss}
 use Rattle.laws.proofs.Picks.{either}
 use Rattle.config.specs.declared.Profile.{Profile}
 use Rattle.config.specs.Ranged.{Ranged}
-use Rattle.gear.specs.declared.goodput.Gear.{Gear}
+use Rattle.gear.specs.declared.Gear.{Gear}
 use Rattle.gear.specs.Judging.{aimed, held}
 use Rattle.levels.proofs.usable.Laws.{level-for-lt}
 

@@ -12,7 +12,7 @@ use Rattle.config.specs.declared.Marks.{Marks}
 use Rattle.config.specs.declared.MaybeDb.{MaybeDb}
 use Rattle.config.specs.declared.Profile.{Profile}
 use Rattle.config.specs.Durations.{ackAt, dataS}
-use Rattle.gear.specs.declared.goodput.Gear.{Gear}
+use Rattle.gear.specs.declared.Gear.{Gear}
 use Rattle.gear.specs.Goodput.{cueFor}
 use Rattle.gear.specs.Setters.{some, withBurst, withReport}
 

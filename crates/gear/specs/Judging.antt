@@ -12,7 +12,7 @@ use Rattle.level.specs.Ladder.{waveRank, isStep}
 use Rattle.config.specs.declared.Profile.{Profile}
 use Rattle.report.specs.declared.ChanClass.{ChanClass}
 use Rattle.levels.specs.declared.memory.Tries.{Tries}
-use Rattle.gear.specs.declared.goodput.Gear.{Gear}
+use Rattle.gear.specs.declared.Gear.{Gear}
 use Rattle.gear.specs.declared.Outcome.{Outcome}
 use Rattle.gear.specs.Setters.{some, withLevel, withBurst, withAim, withTries, withHolds}
 use Rattle.levels.specs.Usable.{airDb, heeded, familyOk, levelFor, usableBelow, climbAbove, stepDown}

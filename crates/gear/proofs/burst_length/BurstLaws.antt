@@ -21,7 +21,7 @@ use Rattle.config.specs.declared.Profile.{Profile}
 use Rattle.config.specs.Durations.{durationAt, dataS}
 use Rattle.config.specs.Ranged.{Ranged}
 use Rattle.levels.proofs.rates.RateLaws.{cue-in}
-use Rattle.gear.specs.declared.goodput.Gear.{Gear}
+use Rattle.gear.specs.declared.Gear.{Gear}
 use Rattle.gear.specs.Goodput.{cueFor}
 use Rattle.gear.specs.BurstLength.{cleanBurst, burstLen, steady, far, adapted}
 
