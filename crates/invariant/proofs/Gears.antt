@@ -14,7 +14,7 @@ use Rattle.config.specs.Ranged.{Ranged}
 use Rattle.report.specs.declared.ChanClass.{ChanClass}
 use Rattle.levels.specs.declared.memory.Tries.{Tries}
 use Rattle.levels.specs.Memory.{pushed, noted, failed, cleared, hits, marked, channelFailed}
-use Rattle.gear.specs.declared.goodput.Gear.{Gear}
+use Rattle.gear.specs.declared.Gear.{Gear}
 use Rattle.gear.specs.Setters.{withTries, withBurst, withClass}
 use Rattle.gear.specs.BurstLength.{adapted}
 use Rattle.gear.specs.declared.Outcome.{Outcome}

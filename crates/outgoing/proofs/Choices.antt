@@ -6,7 +6,7 @@ use Rattle.header.proofs.Laws.{burst-id-lt}
 use Rattle.config.specs.declared.Profile.{Profile}
 use Rattle.config.specs.Ranged.{Ranged}
 use Rattle.levels.proofs.rates.RateLaws.{cue-in}
-use Rattle.gear.specs.declared.goodput.Gear.{Gear}
+use Rattle.gear.specs.declared.Gear.{Gear}
 use Rattle.ledger.specs.Plan.{ChoiceRange, Longer}
 use Rattle.plan.specs.Planning.{CodesRange}
 use Rattle.plan.proofs.Increments.{codes-range}

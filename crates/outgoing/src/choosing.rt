@@ -1,6 +1,6 @@
 // What the gear, the level and the profile say of the next burst.
 use config::Profile;
-use gear::goodput::Gear;
+use gear::Gear;
 use plan::Choice;
 use record::Link;
 ghost use mathlib.Core.Path.{_≡_};
@@ -38,7 +38,7 @@ pub fn choose(p: Profile, g: Gear, k: Link) -> Choice
     let l = g.level;
     let air = p.air;
     let cue = g.cue_for(p, l);
-    let max_s = gear::burst_length::burst_len_s(g, p, l);
+    let max_s = g.burst_len_s(p, l);
     Choice {
         long: level::long_frame(l),
         same_wave: level::wave_rank(l) == k.peer_wave,

@@ -7,7 +7,7 @@ use Prim.Native.Nat.{ℕ}
 use Rattle.laws.specs.Bytes.{overwrite}
 use Rattle.laws.proofs.Bytes.{over-nil}
 use Rattle.laws.proofs.Little.{Bytes}
-use Rattle.gear.specs.declared.goodput.Gear.{Gear}
+use Rattle.gear.specs.declared.Gear.{Gear}
 use Rattle.ledger.specs.Ledger as L
 use Rattle.ledger.specs.Ledger.{clearBurst}
 use Rattle.record.specs.View.{view, store, storeArea, storeCounts, storeHeld, storeSent, storeLink}
