@@ -12,7 +12,7 @@ use Rattle.level.specs.Ladder.{waveRank}
 use Rattle.levels.specs.Usable.{airDb, heeded, familyOk}
 use Rattle.levels.specs.declared.memory.Tries.{Tries}
 use Rattle.levels.specs.declared.rates.Pace.{Pace}
-use Rattle.levels.specs.Paces.{paceAt, paceRate}
+use Rattle.levels.specs.Rates.{paceAt, paceRate}
 use Rattle.gear.specs.declared.goodput.Best.{Best}
 use Rattle.gear.specs.declared.Gear.{Gear}
 use Rattle.gear.specs.declared.goodput.Seen.{Seen}

@@ -6,7 +6,6 @@ use record::Link;
 ghost use mathlib.Core.Path.{_≡_};
 ghost use mathlib.Core.Bool.{cond};
 ghost use Prim.Native.Nat.{_<_};
-ghost use lib.Ieee.{binary64, ofBits};
 ghost use Rattle.float.specs.Pick.{maxF};
 ghost use Rattle.outgoing.specs.Choosing.{chosen};
 
@@ -18,16 +17,6 @@ fn parity_len_s(p: Profile, max_s: f64) -> f64
         return float::pick::max64(max_s, p.lengths.max_burst_long_s);
     }
     max_s
-}
-
-// The seconds of a cue, if one goes.
-fn cue_len_s(p: Profile, cue: bool) -> f64
-    ensures { λ r. ⌜ r ≡ cond cue (p .air .«cue_s») (ofBits binary64 0) ⌝ }
-{
-    if cue {
-        return p.air.cue_s;
-    }
-    0.0
 }
 
 // The first lines of data_burst.
@@ -46,7 +35,7 @@ pub fn choose(p: Profile, g: Gear, k: Link) -> Choice
         slot: air.slot(l),
         pre_s: air.pre_s[l],
         rate: air.rate[l],
-        cue_s: cue_len_s(p, cue),
+        cue_s: float::gear::cue_s(cue, air.cue_s),
         max_s,
         parity_s: parity_len_s(p, max_s),
         max_bits: air.most_bits(l),

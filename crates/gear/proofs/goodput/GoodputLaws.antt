@@ -12,10 +12,7 @@ use Rattle.levels.specs.Usable.{heeded}
 use Rattle.levels.proofs.usable.Laws.{usable-below-lt, usable-below-le}
 use Rattle.config.specs.Ranged.{Ranged}
 use Rattle.config.specs.declared.Profile.{Profile}
-use Rattle.config.specs.Durations.{slotAt, durationAt, dataS}
 use Rattle.config.specs.Entries.{entryAt}
-use Rattle.levels.specs.Rates.{payloadBits, levelRate}
-use Rattle.levels.specs.Paces.{paceS, paceBits, paceRate}
 use Rattle.gear.specs.declared.Gear.{Gear}
 use Rattle.gear.specs.declared.goodput.Best.{Best}
 use Rattle.gear.specs.Goodput.{chanceOf, cueFor, roomOf, inReach, scoreOf, candidate, worthOf, over, noBest, weighed, bestOf, pickByGoodput}
@@ -23,7 +20,7 @@ use Rattle.gear.specs.Levels.{viewOf, viewBest, seenChance, sightRoom, s
 
 -- what is said of a level on its numbers is what is said of it on the profile and the gear
 pub view-best : (p : Profile) (g : Gear) (aim now : Float) → viewBest p (viewOf p g now) (g .tries) aim ≡ bestOf p g aim now
-unfolding viewWeighed weighed viewCandidate candidate viewWorth worthOf scoreOf seenChance chanceOf sightRoom roomOf sightReach inReach entryAt cueFor paceRate levelRate paceS dataS durationAt slotAt paceBits payloadBits
+unfolding viewWeighed weighed viewCandidate candidate viewWorth worthOf scoreOf seenChance chanceOf sightRoom roomOf sightReach inReach entryAt cueFor
 view-best p g aim now = refl
 
 weighed-lt : (n : ℕ) (p : Profile) (g : Gear) (aim now : Float) (b : Best) (l : ℕ) → b .level < n → l < n → weighed p g aim now b l .level < n

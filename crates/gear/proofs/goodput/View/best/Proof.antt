@@ -8,7 +8,7 @@ use Rattle.levels.proofs.rates.RateLaws.{paced}
 use Rattle.config.specs.declared.Marks.{Marks}
 use Rattle.config.specs.declared.Profile.{Profile}
 use Rattle.levels.specs.declared.memory.Tries.{Tries}
-use Rattle.levels.specs.Paces.{paceAt}
+use Rattle.levels.specs.Rates.{paceAt}
 use Rattle.gear.specs.declared.goodput.Best.{Best}
 use Rattle.gear.specs.declared.goodput.View.{View}
 use Rattle.gear.specs.Goodput.{marksOf, noBest}
