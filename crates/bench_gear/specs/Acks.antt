@@ -6,7 +6,7 @@ use lib.Ieee.{Float, binary32, binary64, ofBits}
 use Rattle.laws.specs.Steps.{steps}
 use Rattle.defaults.specs.Default.{newProfile}
 use Rattle.config.specs.declared.MaybeDb.{MaybeDb}
-use Rattle.gear.specs.declared.goodput.Gear.{Gear}
+use Rattle.gear.specs.declared.Gear.{Gear}
 use Rattle.gear.specs.declared.Outcome.{Outcome}
 use Rattle.gear.specs.Judging.{onAck}
 

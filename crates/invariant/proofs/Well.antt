@@ -13,7 +13,7 @@ use Rattle.laws.proofs.Span.{every-all}
 use Rattle.laws.proofs.Bytes.{length-over}
 use Rattle.laws.specs.Bytes.{Bytes}
 use Rattle.config.specs.declared.Profile.{Profile}
-use Rattle.gear.specs.declared.goodput.Gear.{Gear}
+use Rattle.gear.specs.declared.Gear.{Gear}
 use Rattle.ledger.specs.Ledger as L
 use Rattle.ledger.specs.Ledger.{size}
 use Rattle.ledger.specs.Sound.{Sound}

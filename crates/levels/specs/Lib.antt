@@ -1,4 +1,3 @@
 pub mod Usable
 pub mod Memory
 pub mod Rates
-pub mod Paces

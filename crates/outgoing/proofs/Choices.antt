@@ -6,7 +6,7 @@ use Rattle.header.proofs.Laws.{burst-id-lt}
 use Rattle.config.specs.declared.Profile.{Profile}
 use Rattle.config.specs.Ranged.{Ranged}
 use Rattle.levels.proofs.rates.RateLaws.{cue-in}
-use Rattle.gear.specs.declared.goodput.Gear.{Gear}
+use Rattle.gear.specs.declared.Gear.{Gear}
 use Rattle.ledger.specs.Plan.{ChoiceRange, Longer}
 use Rattle.plan.specs.Planning.{CodesRange}
 use Rattle.plan.proofs.Increments.{codes-range}
@@ -30,4 +30,4 @@ module _ (p : Profile) (r : Ranged p) where
     unfolding chosen
     choice-long =
         let k = r .air .level (s .gear .level) l in
-        choice-longer (p .codes) (chosen p (s .gear) (s .link)) (p .«merge_pieces») (nextNumber (s .link)) (k .pre) (k .rate) (cue-in p r (s .gear .level) l (cue p (s .gear)))
+        choice-longer (p .codes) (chosen p (s .gear) (s .link)) (p .«merge_pieces») (nextNumber (s .link)) (k .pre) (k .rate) (cue-in (p .air .«cue_s») (r .air .cue) (cue p (s .gear)))

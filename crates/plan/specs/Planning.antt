@@ -4,8 +4,8 @@ use mathlib.Core.Bool.{Bool, cond, not, _&&_, _||_}
 use Prim.Native.Nat.{ℕ, zero, suc, _+_, _*_, _≤_, max}
 use lib.Dec.{leb, ltb, eqb}
 use lib.ListN.{length, take, getD}
-use lib.Ieee.{Float, binary64, add, le}
-use Rattle.float.specs.Gear.{duration}
+use lib.Ieee.{Float, le}
+use Rattle.float.specs.Gear.{dataS}
 use Rattle.harq.specs.Held.{incrementOf}
 use Rattle.harq.specs.declared.Harq.{Harq}
 use Rattle.ledger.specs.Plan as L
@@ -18,9 +18,9 @@ pub record CodesRange (q : Harq) (c : Choice) : Type 0 where
   pub slot : (1 ≤ c .slot) × (c .slot ≤ maxBits)
   pub ends : (k : ℕ) → getD (q .ends) k 0 ≤ maxBits
 
--- `self.data_s(level, bits, cue) <= s`: each operation rounded once
+-- `self.data_s(level, bits, cue) <= s`
 unfoldable pub fits : Choice → Float → ℕ → Bool
-fits c s bits = le (add binary64 (duration (c .«pre_s») (c .rate) bits) (c .«cue_s»)) s
+fits c s bits = le (dataS (c .«pre_s») (c .rate) bits (c .«cue_s»)) s
 
 -- what the ledger's plan takes of it (crates/ledger/specs/Plan.antt)
 abbrev pub choiceOf : Harq → Choice → Bool → ℕ → L.Choice

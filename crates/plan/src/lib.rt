@@ -49,7 +49,7 @@ impl Choice {
     fn fits(self, bits: u32, s: f64) -> bool
         ensures { λ r. ⌜ r ≡ fits self s bits ⌝ }
     {
-        float::gear::duration(self.pre_s, self.rate, bits as u64) + self.cue_s <= s
+        float::gear::data_s(self.pre_s, self.rate, bits as u64, self.cue_s) <= s
     }
 
     // too_big

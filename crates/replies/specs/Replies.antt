@@ -6,7 +6,7 @@ use lib.Ieee.{Float}
 use Rattle.report.specs.declared.ChanClass.{ChanClass}
 use Rattle.report.specs.declared.ack.AckInfo.{AckInfo}
 use Rattle.config.specs.declared.Profile.{Profile}
-use Rattle.gear.specs.declared.goodput.Gear.{Gear}
+use Rattle.gear.specs.declared.Gear.{Gear}
 use Rattle.gear.specs.Setters.{withBurst, withClass}
 use Rattle.gear.specs.OtherReplies.{connected, onTurn}
 use Rattle.ledger.specs.Reply.{Reply, shortAck, longAck}

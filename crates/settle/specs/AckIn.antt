@@ -7,7 +7,7 @@ use lib.Ieee.{Float}
 use Rattle.level.specs.Ladder.{waveRank, longFrame}
 use Rattle.harq.specs.Held.{hMax}
 use Rattle.config.specs.declared.Profile.{Profile}
-use Rattle.gear.specs.declared.goodput.Gear.{Gear}
+use Rattle.gear.specs.declared.Gear.{Gear}
 use Rattle.gear.specs.Judging.{onAck}
 use Rattle.ledger.specs.Reply.{Reply}
 use Rattle.ledger.specs.Ledger as L

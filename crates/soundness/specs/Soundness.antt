@@ -14,7 +14,7 @@ use Rattle.config.specs.declared.Profile.{Profile}
 use Rattle.levels.specs.declared.memory.Reports.{Reports}
 use Rattle.levels.specs.declared.memory.Tries.{Tries}
 use Rattle.levels.specs.declared.usable.Holds.{Holds}
-use Rattle.gear.specs.declared.goodput.Gear.{Gear}
+use Rattle.gear.specs.declared.Gear.{Gear}
 use Rattle.ledger.specs.Sound.{Sound}
 use Rattle.area.specs.Layout.{areaBytes}
 use Rattle.area.specs.Table.{rowsFrom, total}

@@ -14,7 +14,7 @@ use Rattle.laws.specs.Bytes.{Bytes}
 use Rattle.laws.proofs.Picks.{cond-yes, cond-no, test}
 use Rattle.report.specs.declared.ack.AckInfo.{AckInfo}
 use Rattle.config.specs.declared.Profile.{Profile}
-use Rattle.gear.specs.declared.goodput.Gear.{Gear}
+use Rattle.gear.specs.declared.Gear.{Gear}
 use Rattle.ledger.specs.Reply.{Reply, bitAt, shortAck, longAck}
 use Rattle.record.specs.Profiles.{sizesOf}
 use Rattle.record.specs.View.{sentIn, view}

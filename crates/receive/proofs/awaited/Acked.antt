@@ -10,7 +10,7 @@ use Rattle.laws.proofs.Picks.{cond-yes, cond-no}
 use Rattle.level.specs.Ladder.{waveRank, longFrame}
 use Rattle.harq.specs.Held.{hMax}
 use Rattle.config.specs.declared.Profile.{Profile}
-use Rattle.gear.specs.declared.goodput.Gear.{Gear}
+use Rattle.gear.specs.declared.Gear.{Gear}
 use Rattle.gear.specs.Judging.{onAck}
 use Rattle.gear.specs.declared.Outcome.{Outcome}
 use Rattle.record.specs.declared.Sender.{Sender}

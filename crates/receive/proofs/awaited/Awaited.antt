@@ -12,7 +12,7 @@ use Rattle.laws.proofs.Picks.{test}
 use Rattle.level.specs.Ladder.{waveRank}
 use Rattle.harq.specs.Held.{hMax}
 use Rattle.config.specs.declared.Profile.{Profile}
-use Rattle.gear.specs.declared.goodput.Gear.{Gear}
+use Rattle.gear.specs.declared.Gear.{Gear}
 use Rattle.gear.specs.Judging.{onAck}
 use Rattle.gear.specs.declared.Outcome.{Outcome}
 use Rattle.ledger.specs.Reply.{Reply}

@@ -6,7 +6,7 @@ use mathlib.Core.Bool.{false}
 use Prim.Native.Nat.{ℕ}
 use Rattle.laws.specs.Bytes.{overwrite, Bytes}
 use Rattle.laws.proofs.Bytes.{over-nil}
-use Rattle.gear.specs.declared.goodput.Gear.{Gear}
+use Rattle.gear.specs.declared.Gear.{Gear}
 use Rattle.ledger.specs.Ledger as L
 use Rattle.ledger.specs.Ledger.{clearBurst}
 use Rattle.record.specs.View.{view, store, storeArea, storeCounts, storeHeld, storeSent, storeLink}
