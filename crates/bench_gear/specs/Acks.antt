@@ -1,4 +1,4 @@
--- Acks one after the other. Definitions only.
+-- Acks one after the other. Follows the code or serves proofs: nothing here has to be believed.
 use Prim.Native.Nat.{ℕ}
 use mathlib.Core.Bool.{true, false}
 use lib.ListN.{replicate}

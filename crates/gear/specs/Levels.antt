@@ -1,4 +1,4 @@
--- What is looked at of one level, and what Goodput.antt says of it, on the numbers of that level. Definitions only.
+-- What is looked at of one level, and what Goodput.antt says of it, on the numbers of that level. Follows the code or serves proofs: nothing here has to be believed.
 use Prim.Native.Nat.{ℕ, _+_}
 use mathlib.Core.Bool.{Bool, false, cond, not, _&&_, _||_}
 use lib.ListN.{getD}

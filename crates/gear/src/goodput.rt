@@ -12,9 +12,9 @@ ghost use mathlib.Core.Bool.{false};
 ghost use Prim.Native.Nat.{_<_};
 ghost use lib.Ieee.{inf};
 ghost use Rattle.config.specs.Ranged.{Ranged};
-ghost use Rattle.levels.specs.Rates.{Paced};
 ghost use Rattle.gear.specs.Goodput.{priorOf, memoryS, remembered, marksOf, barOf, over, noBest};
 ghost use Rattle.gear.specs.Levels.{seenChance, sightRoom, sightReach, viewCandidate, viewWorth, viewWeighed, viewBest};
+ghost use Rattle.levels.specs.RatesCode.{Paced};
 
 // f64::INFINITY
 pub(crate) fn infinity() -> f64

@@ -23,8 +23,8 @@ use Rattle.gear.specs.OtherReplies.{connected, atTurn, unmatchedOutcome, onTurn
 use Rattle.gear_laws.specs.Sound as G
 use Rattle.gear_laws.specs.Sound.{OutcomeInRange, DbInRange, TimeInRange}
 use Rattle.gear_laws.proofs.SoundLaws.{kept-by-set, on-ack-sound, connected-sound, on-turn-sound}
-use Rattle.soundness.specs.Soundness.{SoundGear}
 use Rattle.invariant.specs.Invariant.{TypedGear}
+use Rattle.soundness.specs.SoundnessCode.{SoundGear}
 
 -- ---- success times
 

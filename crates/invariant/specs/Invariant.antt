@@ -1,4 +1,4 @@
--- What a reply that is not refused has in range, and what the types of a gear record say. Definitions only.
+-- What a reply that is not refused has in range, and what the types of a gear record say. Follows the code or serves proofs: nothing here has to be believed.
 use mathlib.Core.Path.{_≡_}
 use mathlib.Core.Bool.{false}
 use Prim.Native.Nat.{ℕ, _<_, _≤_}

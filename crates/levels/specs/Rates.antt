@@ -1,23 +1,15 @@
 -- What a level's rate goes by, and the rate: `level_rate` of gear.rs. Definitions only.
-use Prim.Native.Nat.{ℕ, _*_, _≤_}
+use Prim.Native.Nat.{ℕ, _*_}
 use mathlib.Core.Bool.{Bool, cond}
 use lib.ListN.{getD}
 use lib.Ieee.{Float, nan, binary64, sub, mul, div, ofBits}
-use Rattle.ieee.specs.Range.{In, w64}
+use Rattle.ieee.specs.Range.{w64}
 use Rattle.float.specs.Pick.{maxF}
 use Rattle.float.specs.Gear.{cueS, dataS}
 use Rattle.float.specs.Floor.{floorF, countOf}
 use Rattle.level.specs.Ladder.{longFrame}
 use Rattle.config.specs.declared.Profile.{Profile}
 use Rattle.levels.specs.declared.rates.Pace.{Pace}
-
--- the numbers are in the ranges of a profile
-pub record Paced (q : Pace) : Type 0 where
-  pub usual : In (w64 1) (w64 1000) (q .usual)
-  pub pre : In (w64 0) (w64 60) (q .«pre_s»)
-  pub rate : In (w64 1) (w64 100000) (q .rate)
-  pub cue : In (w64 0) (w64 10) (q .«cue_s»)
-  pub slot : q .slot ≤ 16384
 
 -- what a profile says of level l
 abbrev pub paceAt : Profile → ℕ → Pace

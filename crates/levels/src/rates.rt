@@ -3,7 +3,8 @@ use config::Profile;
 ghost use mathlib.Core.Path.{_≡_};
 ghost use Prim.Native.Nat.{_<_};
 ghost use Rattle.config.specs.Ranged.{Ranged};
-ghost use Rattle.levels.specs.Rates.{Paced, framesPerBurst, payloadBits, paceRate, levelRate};
+ghost use Rattle.levels.specs.Rates.{framesPerBurst, payloadBits, paceRate, levelRate};
+ghost use Rattle.levels.specs.RatesCode.{Paced};
 
 // What a level's rate goes by: the seconds of a usual burst, pre_s + bits / rate seconds for a burst at the level, those of a
 // cue, the coded bits of a frame, and the bytes of a short and a long one.

@@ -8,12 +8,12 @@ use Rattle.config.specs.Ranged.{Ranged}
 use Rattle.levels.proofs.rates.RateLaws.{cue-in}
 use Rattle.gear.specs.declared.Gear.{Gear}
 use Rattle.ledger.specs.Plan.{ChoiceRange, Longer}
-use Rattle.plan.specs.Planning.{CodesRange}
 use Rattle.plan.proofs.Increments.{codes-range}
 use Rattle.plan.proofs.Choices.{choice-range, choice-longer}
 use Rattle.record.specs.declared.Link.{Link}
 use Rattle.record.specs.declared.Sender.{Sender}
 use Rattle.outgoing.specs.Choosing.{chosen, choice, cue, nextNumber}
+use Rattle.plan.specs.PlanningCode.{CodesRange}
 
 module _ (p : Profile) (r : Ranged p) where
   pub chosen-codes : (g : Gear) (k : Link) → g .level < 17 → length (p .codes .ends) ≤ 6 → CodesRange (p .codes) (chosen p g k)

@@ -6,8 +6,9 @@ use limits::TINY_ACK_FRAMES;
 ghost use mathlib.Core.Path.{_≡_};
 ghost use Prim.Native.Nat.{_≤_};
 ghost use lib.ListN.{length};
-ghost use Rattle.plan.specs.Planning.{CodesRange, fits, parityBitsOf, capOf, tooBigFor, poppedFrom, parityOf, oneMoreFits, roomCounted, planned};
+ghost use Rattle.plan.specs.Planning.{fits};
 ghost use Rattle.limits.specs.Limits.{maxSlots, maxBits, maxBurstBits};
+ghost use Rattle.plan.specs.PlanningCode.{CodesRange, parityBitsOf, capOf, tooBigFor, poppedFrom, parityOf, oneMoreFits, roomCounted, planned};
 
 // What the gear, the level and the profile say of the next burst: seconds on the air are pre_s + bits / rate + cue_s.
 pub struct Choice {

@@ -10,7 +10,8 @@ use report::ack::AckInfo;
 use settle::outcome::bits_for;
 ghost use mathlib.Core.Path.{_≡_};
 ghost use Rattle.config.specs.Ranged.{Ranged};
-ghost use Rattle.replies.specs.Replies.{ackNoted, longDb, ReplyReady, shortAcked, longAcked};
+ghost use Rattle.replies.specs.Replies.{ackNoted, longDb, shortAcked, longAcked};
+ghost use Rattle.replies.specs.RepliesCode.{ReplyReady};
 
 // The wishes, the number last heard, and the time.
 fn note(k: Link, time: f64, turn: bool, disc: bool, number: u8) -> Link

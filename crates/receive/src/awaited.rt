@@ -8,7 +8,7 @@ ghost use mathlib.Core.Path.{_≡_};
 ghost use Prim.Native.Nat.{_<_};
 ghost use Rattle.config.specs.Ranged.{Ranged};
 ghost use Rattle.settle.specs.Settle.{Settling};
-ghost use Rattle.settle.specs.AckIn.{ackedBy};
+ghost use Rattle.settle.specs.AckInCode.{ackedBy};
 
 // ack_in: an ack that is awaited.
 pub fn ack_in(

@@ -9,8 +9,9 @@ use settle::outcome::outcome;
 ghost use mathlib.Core.Path.{_≡_};
 ghost use Prim.Native.Nat.{_≤_, _<_};
 ghost use Rattle.config.specs.Ranged.{Ranged};
-ghost use Rattle.replies.specs.Replies.{turnDb, turnedTo, connectedTo};
+ghost use Rattle.replies.specs.Replies.{turnDb, connectedTo};
 ghost use Rattle.limits.specs.Limits.{maxSlots};
+ghost use Rattle.replies.specs.RepliesCode.{turnedTo};
 
 fn turn_db(h: Heard, r: Turn) -> f32
     ensures { λ q. ⌜ q ≡ turnDb h r ⌝ }

@@ -21,7 +21,8 @@ use Rattle.config.specs.declared.Profile.{Profile}
 use Rattle.config.specs.Durations.{slotAt}
 use Rattle.config.specs.Ranged.{Ranged}
 use Rattle.levels.specs.declared.rates.Pace.{Pace}
-use Rattle.levels.specs.Rates.{Paced, paceAt, framesPerBurst, paceS}
+use Rattle.levels.specs.Rates.{paceAt, framesPerBurst, paceS}
+use Rattle.levels.specs.RatesCode.{Paced}
 
 abbrev pub largest : ℕ
 largest = 34001000

@@ -15,9 +15,10 @@ use Rattle.gear.specs.Judging.{onAck}
 use Rattle.gear.specs.declared.Outcome.{Outcome}
 use Rattle.record.specs.declared.Sender.{Sender}
 use Rattle.settle.specs.Settle.{settled}
-use Rattle.settle.specs.Outcomes.{outcomeIn}
-use Rattle.settle.specs.AckIn.{keeps, withoutBurst, ackedBy}
+use Rattle.settle.specs.AckIn.{keeps}
 use Rattle.record.specs.Setters.{withGear, withLink, withWave}
+use Rattle.settle.specs.AckInCode.{withoutBurst, ackedBy}
+use Rattle.settle.specs.OutcomesCode.{outcomeIn}
 
 module _ (p : Profile) (burst m : ℕ) (stored : Bool) (snr time : Float) (s : Sender) (a : List ℕ) where
   abbrev matched : Bool
