@@ -1,3 +1,4 @@
+-- `best` works on parts of the gear: `picked` says that its answer is `bestOf`, whose level is one of the ladder. Then by cases.
 use Rattle.gear.specs.Goodput.{bestOf, pickByGoodput}
 use Rattle.gear.proofs.goodput.GoodputLaws.{best-lt, view-best}
 use mathlib.Core.Path.{_≡_, _∙_, ap}

@@ -1,3 +1,5 @@
+-- The loop folds `turn` over the levels, on what is taken out before it; `turns` then says that by the profile. A level's numbers are in
+-- range by `paced`. The needs of the reads of an array are in bounds by `search`.
 use Prim.Native.Nat.{ℕ, _+_, _-_, _≤_, _<_}
 use mathlib.Core.Path.{_≡_, refl, sym, _∙_}
 use lib.Ieee.{Float}
