@@ -57,6 +57,10 @@ pub record Left (w : ℕ × List ℕ) (s : List ℕ) (b : ℕ × List ℕ) : Typ
 pub whole : (b : ℕ × List ℕ) (s : List ℕ) → Left (appended b s) s b
 whole b s = record { is = refl }
 
+-- the same by another name
+pub start : (b : ℕ × List ℕ) {s u : List ℕ} → u ≡ s → Left (appended b u) s b
+start b e = record { is = ap (appended b) e }
+
 -- at the end
 pub over : {w b : ℕ × List ℕ} → Left w [] b → b ≡ w
 unfolding appended
