@@ -72,7 +72,8 @@ module _ (f : Format) (k : ℕ) (x : Float) where
   float-zero h e = cond-no _ _ _ _ h (ap (λ (m : ℕ). text " 0x" ++ hexOf k m) (cond-yes _ _ _ _ e refl))
 
   -- r is what `to_bits64` or `to_bits32` gives: m for NaN
-  pub float-bits : (m : ℕ) {r : ℕ} → ne x x ≡ false → eq x (ofBits f 0) ≡ false → r ≡ cond (ne x x) m (toBits f x) → text " 0x" ++ hexOf k r ≡ float f k x
+  pub float-bits : (m : ℕ) {r : ℕ} → ne x x ≡ false → eq x (ofBits f 0) ≡ false → r ≡ cond (ne x x) m (toBits f x)
+      → text " 0x" ++ hexOf k r ≡ float f k x
   float-bits m h e p =
       cond-no _ _ _ _ h (ap (λ (i : ℕ). text " 0x" ++ hexOf k i) (cond-no _ _ _ _ e (p ∙ sym (cond-no _ _ _ _ h refl))))
 

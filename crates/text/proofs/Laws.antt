@@ -1,5 +1,5 @@
--- Laws of the text in a buffer: text after text is one text, a turn and the end of a loop that puts a text for each entry of a list; and what `appended` is
--- where there is room.
+-- Laws of the text in a buffer: text after text is one text; a turn and the end of a loop that puts a text for each entry of a list;
+-- and what `appended` is where there is room.
 -- Assumes nothing.
 use mathlib.Core.Path.{_≡_, refl, sym, ap, ap₂, _∙_}
 use mathlib.Core.List.{List, [], _∷_, _++_}
@@ -49,7 +49,7 @@ nothing b = record { is = refl }
 
 -- ---- loops: what is left to put
 
--- b₁ is what w is after the rest s of its text
+-- b, with s put behind what is used, is w
 pub record Left (w : ℕ × List ℕ) (s : List ℕ) (b : ℕ × List ℕ) : Type 0 where
   pub is : w ≡ appended b s
 
@@ -67,7 +67,8 @@ unfolding appended
 over f = sym (f .is)
 
 -- over a slice
-pub slice-turn : {w b b₁ : ℕ × List ℕ} (s : List ℕ) (i : ℕ) → i < length s → Left w (drop i s) b → Added b (getD s i 0 ∷ []) b₁ → Left w (drop (i + 1) s) b₁
+pub slice-turn : {w b b₁ : ℕ × List ℕ} (s : List ℕ) (i : ℕ) → i < length s → Left w (drop i s) b
+    → Added b (getD s i 0 ∷ []) b₁ → Left w (drop (i + 1) s) b₁
 slice-turn {w} {b} {b₁} s i h f e =
     record {
       is =
@@ -80,10 +81,15 @@ slice-end s i h f = over (record { is = f .is ∙ ap (appended _) (drop-of-lengt
 
 -- over a list
 module _ {A : Type 0} (f : A → List ℕ) where
-  pub each-turn : {w b b₁ : ℕ × List ℕ} {x : A} {xs ys : List A} → xs ≡ x ∷ ys → Left w (each f xs) b → Added b (f x) b₁ → Left w (each f ys) b₁
+  pub each-turn : {w b b₁ : ℕ × List ℕ} {x : A} {xs ys : List A} → xs ≡ x ∷ ys → Left w (each f xs) b
+      → Added b (f x) b₁ → Left w (each f ys) b₁
   unfolding each
   each-turn {w} {b} {b₁} {x} {xs} {ys} p q e =
-      record { is = q .is ∙ ap (λ (zs : List A). appended b (each f zs)) p ∙ appended-cat b (f x) (each f ys) ∙ ap (λ (v : ℕ × List ℕ). appended v (each f ys)) (sym (e .is)) }
+      record {
+        is =
+            q .is ∙ ap (λ (zs : List A). appended b (each f zs)) p ∙ appended-cat b (f x) (each f ys)
+            ∙ ap (λ (v : ℕ × List ℕ). appended v (each f ys)) (sym (e .is));
+      }
 
   pub each-end : {w b : ℕ × List ℕ} {xs : List A} → xs ≡ [] → Left w (each f xs) b → b ≡ w
   unfolding each

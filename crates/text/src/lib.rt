@@ -1,4 +1,4 @@
-// Text put into a lent buffer, of which n bytes are used: what runs past the buffer's end is left out. Each function gives what is used then.
+// Text put into a lent buffer, of which n bytes are used: what runs past its end is left out. Each function gives what is used then.
 use float_bits::to_bits32;
 use float_bits::to_bits64;
 ghost use mathlib.Core.Path.{_≡_};

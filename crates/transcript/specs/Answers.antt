@@ -33,7 +33,8 @@ frameLine off len start bits bytes = text "frame" ++ number off ++ number len ++
 
 -- frame i, of `size` bytes; the frames stand in the output one after the other
 abbrev pub frameOf : Frames → ℕ → List ℕ → ℕ → List ℕ
-frameOf f size out i = frameLine (getD (f .off) i 0) (getD (f .len) i 0) (getD (f .start) i 0) (getD (f .bits) i 0) (part out (size * i) size)
+frameOf f size out i =
+    frameLine (getD (f .off) i 0) (getD (f .len) i 0) (getD (f .start) i 0) (getD (f .bits) i 0) (part out (size * i) size)
 
 -- a burst's line, then COUNT lines, 64 at most
 unfoldable pub burstLines : Outgoing → ℕ → List ℕ → List ℕ
@@ -45,7 +46,9 @@ pieceLine bytes = text "piece" ++ hex bytes ++ text "\n"
 
 -- TAKEN WAITING FLYING ACKED
 abbrev pub tally : Sender → List ℕ
-tally s = number (s .counts .«next_offset» + s .counts .waiting) ++ number (s .counts .waiting) ++ number (s .counts .flying) ++ number (s .counts .«bytes_acked»)
+tally s =
+    number (s .counts .«next_offset» + s .counts .waiting) ++ number (s .counts .waiting) ++ number (s .counts .flying)
+    ++ number (s .counts .«bytes_acked»)
 
 -- `end TAKEN WAITING FLYING ACKED`
 abbrev pub endLine : Sender → List ℕ

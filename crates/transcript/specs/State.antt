@@ -31,7 +31,8 @@ stateLine g k =
 -- `link WANTS_TURN WANTS_DISC ECHO DOPPLER SLOT DOPPLER_HZ CUE`
 unfoldable pub linkLine : Gear → Link → List ℕ
 linkLine g k =
-    text "link" ++ flag (k .«peer_wants_turn») ++ flag (k .«peer_wants_disc») ++ flag (g .«peer_class» .echo) ++ flag (g .«peer_class» .doppler)
+    text "link" ++ flag (k .«peer_wants_turn») ++ flag (k .«peer_wants_disc»)
+    ++ flag (g .«peer_class» .echo) ++ flag (g .«peer_class» .doppler)
     ++ number (k .«peer_slot») ++ single (k .«peer_doppler_hz») ++ flag (g .cue) ++ text "\n"
 
 -- a word where a test passes
@@ -56,8 +57,8 @@ gearLine l tried success at fails until all =
 -- level l's
 unfoldable pub gearOf : Gear → ℕ → List ℕ
 gearOf g l =
-    gearLine l (getD (g .tries .tried) l false) (getD (g .tries .success) l nan) (getD (g .tries .«success_at») l nan) (getD (g .tries .fails) l 0)
-    (getD (g .holds .«blocked_until») l nan) (getD (g .holds .«hold_all») l false)
+    gearLine l (getD (g .tries .tried) l false) (getD (g .tries .success) l nan) (getD (g .tries .«success_at») l nan)
+    (getD (g .tries .fails) l 0) (getD (g .holds .«blocked_until») l nan) (getD (g .holds .«hold_all») l false)
 
 -- `counts TAKEN WAITING FLYING ACKED AIRTIME_MS`
 unfoldable pub countsLine : Sender → List ℕ
@@ -101,5 +102,6 @@ sentLine b = text "sent" ++ number (b .n) ++ each sentWord (sentIn b) ++ text "\
 
 unfoldable pub stateLines : Sender → List ℕ → List ℕ
 stateLines s a =
-    stateLine (s .gear) (s .link) ++ linkLine (s .gear) (s .link) ++ aimLine (s .gear) ++ each (gearOf (s .gear)) (upto 0 17) ++ countsLine s
-    ++ piecesLine a (s .counts .pieces) ++ heldLine (s .«at_peer») (s .link .«peer_wave») ++ restLine (s .«at_peer») ++ sentLine (s .«last_burst»)
+    stateLine (s .gear) (s .link) ++ linkLine (s .gear) (s .link) ++ aimLine (s .gear) ++ each (gearOf (s .gear)) (upto 0 17)
+    ++ countsLine s ++ piecesLine a (s .counts .pieces) ++ heldLine (s .«at_peer») (s .link .«peer_wave»)
+    ++ restLine (s .«at_peer») ++ sentLine (s .«last_burst»)

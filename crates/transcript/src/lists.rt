@@ -139,7 +139,8 @@ fn long_entry(t: &mut [u8], n: usize, a: u32, b: u32, c: u32) -> usize
 // The first `to` frames.
 fn sent_frames(t: &mut [u8], n: usize, off: &[u32], bits: &[u32], held: &[u32], to: usize) -> usize
     ensures { λ r. ⌜ (r, now (t .exit))
-        ≡ appended (n, now (t .entry)) (each sentWord (sentOf (take to (now (off .entry))) (take to (now (bits .entry))) (take to (now (held .entry))))) ⌝ }
+        ≡ appended (n, now (t .entry))
+        (each sentWord (sentOf (take to (now (off .entry))) (take to (now (bits .entry))) (take to (now (held .entry))))) ⌝ }
 {
     let mut n = n;
     let mut i: usize = 0;

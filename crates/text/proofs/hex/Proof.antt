@@ -41,7 +41,8 @@ returns-2 : tie.Need-returns-2
 returns-2 c =
     let p2 = c .before .before in
     let p1 = p2 .before .before .before .before in
-    told (by (p1 .puts2 .ensures) ⨾ by (p2 .pairs .ensures)) (sym (hex-some _ (c .before .before .before .before .before .before .before .before .before .if1 .left)))
+    told (by (p1 .puts2 .ensures)
+    ⨾ by (p2 .pairs .ensures)) (sym (hex-some _ (c .before .before .before .before .before .before .before .before .before .if1 .left)))
 
 pub hex-spec : {M : Type 1} → statement M
 hex-spec =

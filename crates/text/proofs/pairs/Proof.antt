@@ -14,7 +14,8 @@ use Rattle.text.proofs.pairs.Statement.{statement}
 use Rattle.text.proofs.pairs.Tie as tie
 
 abbrev Inv-loop : tie.InvT-loop
-Inv-loop t₀ n a n₀ i₀ t n' i = (i ≤ length a) × Left (appended (n, t₀) (each pair a)) (each pair (drop i a)) (n', t) × (length t ≡ length t₀)
+Inv-loop t₀ n a n₀ i₀ t n' i =
+    (i ≤ length a) × Left (appended (n, t₀) (each pair a)) (each pair (drop i a)) (n', t) × (length t ≡ length t₀)
 
 abbrev μ-loop : tie.MeasureT-loop
 μ-loop t₀ n a n₀ i₀ t n' i = length a - i

@@ -33,8 +33,12 @@ loop-less c = search needs
 loop-again : tie.Need-loop-again Inv-loop μ-loop
 loop-again c = let q = c .before .before in
     let l = q .before .before .before in
-    let p = l .before in
-    (omega arith, slice-turn _ (p .loop .i) (l .loop-test .taken) (p .loop .inv .1) (by-one (q .put .ensures)), q .put .kept .0 ∙ p .loop .inv .2)
+    let p = l .before in (
+      omega arith,
+      slice-turn _ (p .loop .i) (l .loop-test .taken) (p .loop .inv .1) (by-one (q .put .ensures)),
+      q .put .kept .0
+          ∙ p .loop .inv .2,
+    )
 
 same-length : tie.Need-same-length Inv-loop μ-loop
 same-length c = c .before .loop .inv .2

@@ -57,7 +57,8 @@ returns-3 : tie.Need-returns-3
 unfolding single
 returns-3 c =
     let p1 = c .before .before in
-    told (by (p1 .bits2 .ensures)) (float-bits binary32 8 _ 4294967295 (c .before .before .before .before .before .before .before .if1 .left) (c .before .before .before .before .before .before .if2 .left) (p1 .before .wide .ensures ∙ p1 .before .before .to-bits32 .ensures))
+    told (by (p1 .bits2 .ensures)) (float-bits binary32 8 _ 4294967295 (c .before .before .before .before .before .before .before .if1 .left) (c .before .before .before .before .before .before .if2 .left) (p1 .before .wide .ensures
+    ∙ p1 .before .before .to-bits32 .ensures))
 
 pub single-spec : {M : Type 1} → statement M
 single-spec =

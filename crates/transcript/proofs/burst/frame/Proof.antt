@@ -41,7 +41,8 @@ same-length c =
     let p3 = p4 .before .before .before .before in
     let p2 = p3 .before .before .before .before in
     let p1 = p2 .before .before .before .before in
-    p7 .puts2 .kept .0 ∙ p6 .hex .kept .0 ∙ p5 .number4 .kept .0 ∙ p4 .number3 .kept .0 ∙ p3 .number2 .kept .0 ∙ p2 .number .kept .0 ∙ p1 .puts .kept .0
+    p7 .puts2 .kept .0 ∙ p6 .hex .kept .0 ∙ p5 .number4 .kept .0 ∙ p4 .number3 .kept .0 ∙ p3 .number2 .kept .0 ∙ p2 .number .kept .0
+    ∙ p1 .puts .kept .0
 
 returns : tie.Need-returns
 returns c =
@@ -52,7 +53,8 @@ returns c =
     let p3 = p4 .before .before .before .before in
     let p2 = p3 .before .before .before .before in
     let p1 = p2 .before .before .before .before in
-    (by (p1 .puts .ensures) ⨾ by (p2 .number .ensures) ⨾ by (p3 .number2 .ensures) ⨾ by (p4 .number3 .ensures) ⨾ by (p5 .number4 .ensures) ⨾ by (p6 .hex .ensures) ⨾ by (p7 .puts2 .ensures)) .is
+    (by (p1 .puts .ensures) ⨾ by (p2 .number .ensures) ⨾ by (p3 .number2 .ensures) ⨾ by (p4 .number3 .ensures) ⨾ by (p5 .number4 .ensures)
+    ⨾ by (p6 .hex .ensures) ⨾ by (p7 .puts2 .ensures)) .is
 
 pub frame-spec : {M : Type 1} → statement M
 frame-spec =

@@ -15,7 +15,10 @@ use Rattle.transcript.proofs.burst.frames.Statement.{statement}
 use Rattle.transcript.proofs.burst.frames.Tie as tie
 
 abbrev Inv-loop : tie.InvT-loop
-Inv-loop t₀ n count size out f n₀ from₀ i₀ t n' from i = (i ≤ count) × (from ≤ length out) × (drop from out ≡ drop (size * i) out) × Left (appended (n, t₀) (each (frameOf f size out) (upto 0 count))) (each (frameOf f size out) (upto i count)) (n', t) × (length t ≡ length t₀)
+Inv-loop t₀ n count size out f n₀ from₀ i₀ t n' from i =
+    (i ≤ count) × (from ≤ length out) × (drop from out ≡ drop (size * i) out)
+    × Left (appended (n, t₀) (each (frameOf f size out) (upto 0 count))) (each (frameOf f size out) (upto i count)) (n', t)
+    × (length t ≡ length t₀)
 
 abbrev μ-loop : tie.MeasureT-loop
 μ-loop t₀ n count size out f n₀ from₀ i₀ t n' from i = count - i
@@ -85,7 +88,8 @@ loop-again c = let q = c .before .before in
     let turn = each-turn (frameOf (a .t3) (a .size) out) (upto-more i (a .count) (l .loop-test .taken)) (v .3) (by (told (by (q .frame .ensures)) (ap (frameLine _ _ _ _) bytes))) in (
       omega arith,
       omega (arith, z .end-of .ensures),
-      frame-next out from (a .size) (a .size * i) to (v .1) (v .2) (z .end-of .ensures) ∙ ap (λ (k : ℕ). drop k out) (let e : a .size * i + a .size ≡ a .size * (i + 1) = omega (arith, mul-add (a .size) i 1) in e),
+      frame-next out from (a .size) (a .size * i) to (v .1) (v .2) (z .end-of .ensures)
+          ∙ ap (λ (k : ℕ). drop k out) (let e : a .size * i + a .size ≡ a .size * (i + 1) = omega (arith, mul-add (a .size) i 1) in e),
       turn,
       q .frame .kept .0 ∙ v .4,
     )

@@ -50,7 +50,8 @@ returns c =
     let p3 = p4 .before .before .before .before .before .before in
     let p2 = p3 .before .before .before .before in
     let p1 = p2 .before .before .before .before in
-    (by (p1 .puts .ensures) ⨾ by (p2 .number .ensures) ⨾ by (p3 .number2 .ensures) ⨾ by (p4 .held-from .ensures) ⨾ by (p5 .puts2 .ensures)) .is
+    (by (p1 .puts .ensures) ⨾ by (p2 .number .ensures) ⨾ by (p3 .number2 .ensures) ⨾ by (p4 .held-from .ensures)
+    ⨾ by (p5 .puts2 .ensures)) .is
 
 pub held-spec : {M : Type 1} → statement M
 held-spec =

@@ -49,7 +49,9 @@ returns c =
     let p2 = p3 .before .before .before .before .before .before in
     let p1 = p2 .before .before .before .before in
     let a = p1 .before .before .before .before .before .args in
-    (by (p1 .puts .ensures) ⨾ by (p2 .number .ensures) ⨾ by (told (by (p3 .rows .ensures)) (ap (λ (k : ℕ). each pieceWord (rowsFrom (a .area .now) 0 k)) (p3 .before .least .ensures ∙ ap (min (a .count)) (p3 .before .before .rows-in .ensures)))) ⨾ by (p4 .puts2 .ensures)) .is
+    (by (p1 .puts .ensures) ⨾ by (p2 .number .ensures)
+    ⨾ by (told (by (p3 .rows .ensures)) (ap (λ (k : ℕ). each pieceWord (rowsFrom (a .area .now) 0 k)) (p3 .before .least .ensures ∙ ap (min (a .count)) (p3 .before .before .rows-in .ensures))))
+    ⨾ by (p4 .puts2 .ensures)) .is
 
 pub pieces-spec : {M : Type 1} → statement M
 pieces-spec =

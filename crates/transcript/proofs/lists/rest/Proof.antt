@@ -53,7 +53,9 @@ returns c =
     let p2 = p3 .before .before .before .before .before .before .before in
     let p1 = p2 .before .before .before .before in
     let h = p1 .before .before .before .before .before .before .args .h in
-    (by (p1 .puts .ensures) ⨾ by (p2 .number .ensures) ⨾ by (told (by (p3 .held-from .ensures)) (ap (λ (k : ℕ). each heldWord (drop k (heldIn h))) (p3 .before .less .ensures))) ⨾ by (p4 .puts2 .ensures)) .is
+    (by (p1 .puts .ensures) ⨾ by (p2 .number .ensures)
+    ⨾ by (told (by (p3 .held-from .ensures)) (ap (λ (k : ℕ). each heldWord (drop k (heldIn h))) (p3 .before .less .ensures)))
+    ⨾ by (p4 .puts2 .ensures)) .is
 
 pub rest-spec : {M : Type 1} → statement M
 rest-spec =

@@ -13,7 +13,9 @@ use Rattle.transcript.proofs.lists.rows.Statement.{statement}
 use Rattle.transcript.proofs.lists.rows.Tie as tie
 
 abbrev Inv-loop : tie.InvT-loop
-Inv-loop t₀ n area count n₀ i₀ t n' i = (i ≤ count) × Left (appended (n, t₀) (each pieceWord (rowsFrom area 0 count))) (each pieceWord (rowsFrom area i (count - i))) (n', t) × (length t ≡ length t₀)
+Inv-loop t₀ n area count n₀ i₀ t n' i =
+    (i ≤ count) × Left (appended (n, t₀) (each pieceWord (rowsFrom area 0 count))) (each pieceWord (rowsFrom area i (count - i))) (n', t)
+    × (length t ≡ length t₀)
 
 abbrev μ-loop : tie.MeasureT-loop
 μ-loop t₀ n area count n₀ i₀ t n' i = count - i
@@ -36,8 +38,12 @@ loop-again : tie.Need-loop-again Inv-loop μ-loop
 loop-again c = let q = c .before .before in
     let l = q .before .before in
     let p = l .before in
-    let a = p .before .before .before .args in
-    (omega arith, each-turn pieceWord (rows-turn (a .area .now) (p .loop .i) (a .count) _ (l .loop-test .taken) refl) (p .loop .inv .1) (by (q .row .ensures)), q .row .kept .0 ∙ p .loop .inv .2)
+    let a = p .before .before .before .args in (
+      omega arith,
+      each-turn pieceWord (rows-turn (a .area .now) (p .loop .i) (a .count) _ (l .loop-test .taken) refl) (p .loop .inv .1) (by (q .row .ensures)),
+      q .row .kept .0
+          ∙ p .loop .inv .2,
+    )
 
 same-length : tie.Need-same-length Inv-loop μ-loop
 same-length c = c .before .loop .inv .2

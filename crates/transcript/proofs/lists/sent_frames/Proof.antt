@@ -13,7 +13,9 @@ use Rattle.transcript.proofs.lists.sent_frames.Statement.{statement}
 use Rattle.transcript.proofs.lists.sent_frames.Tie as tie
 
 abbrev Inv-loop : tie.InvT-loop
-Inv-loop t₀ n off bits held to n₀ i₀ t n' i = Left (appended (n, t₀) (each sentWord (sentOf (take to off) (take to bits) (take to held)))) (each sentWord (drop i (sentOf (take to off) (take to bits) (take to held)))) (n', t) × (length t ≡ length t₀)
+Inv-loop t₀ n off bits held to n₀ i₀ t n' i =
+    Left (appended (n, t₀) (each sentWord (sentOf (take to off) (take to bits) (take to held)))) (each sentWord (drop i (sentOf (take to off) (take to bits) (take to held)))) (n', t)
+    × (length t ≡ length t₀)
 
 abbrev μ-loop : tie.MeasureT-loop
 μ-loop t₀ n off bits held to n₀ i₀ t n' i = to - i

@@ -67,7 +67,8 @@ same-length c =
     let p3 = p4 .before .before .before .before in
     let p2 = p3 .before .before .before .before in
     let p1 = p2 .before .before .before .before in
-    p11 .puts2 .kept .0 ∙ p10 .maybe-double2 .kept .0 ∙ p9 .maybe-number .kept .0 ∙ p8 .number4 .kept .0 ∙ p7 .number3 .kept .0 ∙ p6 .flag2 .kept .0 ∙ p5 .flag .kept .0 ∙ p4 .maybe-double .kept .0 ∙ p3 .number2 .kept .0 ∙ p2 .number .kept .0 ∙ p1 .puts .kept .0
+    p11 .puts2 .kept .0 ∙ p10 .maybe-double2 .kept .0 ∙ p9 .maybe-number .kept .0 ∙ p8 .number4 .kept .0 ∙ p7 .number3 .kept .0
+    ∙ p6 .flag2 .kept .0 ∙ p5 .flag .kept .0 ∙ p4 .maybe-double .kept .0 ∙ p3 .number2 .kept .0 ∙ p2 .number .kept .0 ∙ p1 .puts .kept .0
 
 returns : tie.Need-returns
 unfolding stateLine
@@ -83,7 +84,9 @@ returns c =
     let p3 = p4 .before .before .before .before in
     let p2 = p3 .before .before .before .before in
     let p1 = p2 .before .before .before .before in
-    (by (p1 .puts .ensures) ⨾ by (p2 .number .ensures) ⨾ by (p3 .number2 .ensures) ⨾ by (p4 .maybe-double .ensures) ⨾ by (p5 .flag .ensures) ⨾ by (p6 .flag2 .ensures) ⨾ by (p7 .number3 .ensures) ⨾ by (p8 .number4 .ensures) ⨾ by (p9 .maybe-number .ensures) ⨾ by (p10 .maybe-double2 .ensures) ⨾ by (p11 .puts2 .ensures)) .is
+    (by (p1 .puts .ensures) ⨾ by (p2 .number .ensures) ⨾ by (p3 .number2 .ensures) ⨾ by (p4 .maybe-double .ensures)
+    ⨾ by (p5 .flag .ensures) ⨾ by (p6 .flag2 .ensures) ⨾ by (p7 .number3 .ensures) ⨾ by (p8 .number4 .ensures)
+    ⨾ by (p9 .maybe-number .ensures) ⨾ by (p10 .maybe-double2 .ensures) ⨾ by (p11 .puts2 .ensures)) .is
 
 pub first-spec : {M : Type 1} → statement M
 first-spec =

@@ -45,7 +45,8 @@ same-length c =
     let p3 = p4 .before .before .before .before in
     let p2 = p3 .before .before .before .before in
     let p1 = p2 .before .before .before .before in
-    p8 .puts2 .kept .0 ∙ p7 .flag .kept .0 ∙ p6 .double2 .kept .0 ∙ p5 .number2 .kept .0 ∙ p4 .double .kept .0 ∙ p3 .maybe-single .kept .0 ∙ p2 .number .kept .0 ∙ p1 .puts .kept .0
+    p8 .puts2 .kept .0 ∙ p7 .flag .kept .0 ∙ p6 .double2 .kept .0 ∙ p5 .number2 .kept .0 ∙ p4 .double .kept .0 ∙ p3 .maybe-single .kept .0
+    ∙ p2 .number .kept .0 ∙ p1 .puts .kept .0
 
 returns : tie.Need-returns
 returns c =
@@ -57,7 +58,8 @@ returns c =
     let p3 = p4 .before .before .before .before in
     let p2 = p3 .before .before .before .before in
     let p1 = p2 .before .before .before .before in
-    (by (p1 .puts .ensures) ⨾ by (p2 .number .ensures) ⨾ by (p3 .maybe-single .ensures) ⨾ by (p4 .double .ensures) ⨾ by (p5 .number2 .ensures) ⨾ by (p6 .double2 .ensures) ⨾ by (p7 .flag .ensures) ⨾ by (p8 .puts2 .ensures)) .is
+    (by (p1 .puts .ensures) ⨾ by (p2 .number .ensures) ⨾ by (p3 .maybe-single .ensures) ⨾ by (p4 .double .ensures)
+    ⨾ by (p5 .number2 .ensures) ⨾ by (p6 .double2 .ensures) ⨾ by (p7 .flag .ensures) ⨾ by (p8 .puts2 .ensures)) .is
 
 pub gear-line-spec : {M : Type 1} → statement M
 gear-line-spec =

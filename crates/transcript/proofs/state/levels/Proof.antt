@@ -13,7 +13,8 @@ use Rattle.transcript.proofs.state.levels.Statement.{statement}
 use Rattle.transcript.proofs.state.levels.Tie as tie
 
 abbrev Inv-loop : tie.InvT-loop
-Inv-loop t₀ n g n₀ l₀ t n' l = (l ≤ 17) × Left (appended (n, t₀) (each (gearOf g) (upto 0 17))) (each (gearOf g) (upto l 17)) (n', t) × (length t ≡ length t₀)
+Inv-loop t₀ n g n₀ l₀ t n' l =
+    (l ≤ 17) × Left (appended (n, t₀) (each (gearOf g) (upto 0 17))) (each (gearOf g) (upto l 17)) (n', t) × (length t ≡ length t₀)
 
 abbrev μ-loop : tie.MeasureT-loop
 μ-loop t₀ n g n₀ l₀ t n' l = 17 - l
@@ -34,8 +35,12 @@ loop-again : tie.Need-loop-again Inv-loop μ-loop
 loop-again c = let q = c .before .before in
     let l = q .before .before in
     let p = l .before in
-    let a = p .before .before .args in
-    (omega arith, each-turn (gearOf (a .g)) (upto-more (p .loop .l) 17 (l .loop-test .taken)) (p .loop .inv .1) (by (q .level .ensures)), q .level .kept .0 ∙ p .loop .inv .2)
+    let a = p .before .before .args in (
+      omega arith,
+      each-turn (gearOf (a .g)) (upto-more (p .loop .l) 17 (l .loop-test .taken)) (p .loop .inv .1) (by (q .level .ensures)),
+      q .level .kept .0
+          ∙ p .loop .inv .2,
+    )
 
 same-length : tie.Need-same-length Inv-loop μ-loop
 same-length c = c .before .loop .inv .2

@@ -53,7 +53,8 @@ same-length c =
     let p3 = p4 .before .before .before .before in
     let p2 = p3 .before .before .before .before in
     let p1 = p2 .before .before .before .before in
-    p9 .puts2 .kept .0 ∙ p8 .flag5 .kept .0 ∙ p7 .single .kept .0 ∙ p6 .number .kept .0 ∙ p5 .flag4 .kept .0 ∙ p4 .flag3 .kept .0 ∙ p3 .flag2 .kept .0 ∙ p2 .flag .kept .0 ∙ p1 .puts .kept .0
+    p9 .puts2 .kept .0 ∙ p8 .flag5 .kept .0 ∙ p7 .single .kept .0 ∙ p6 .number .kept .0 ∙ p5 .flag4 .kept .0 ∙ p4 .flag3 .kept .0
+    ∙ p3 .flag2 .kept .0 ∙ p2 .flag .kept .0 ∙ p1 .puts .kept .0
 
 returns : tie.Need-returns
 unfolding linkLine
@@ -67,7 +68,8 @@ returns c =
     let p3 = p4 .before .before .before .before in
     let p2 = p3 .before .before .before .before in
     let p1 = p2 .before .before .before .before in
-    (by (p1 .puts .ensures) ⨾ by (p2 .flag .ensures) ⨾ by (p3 .flag2 .ensures) ⨾ by (p4 .flag3 .ensures) ⨾ by (p5 .flag4 .ensures) ⨾ by (p6 .number .ensures) ⨾ by (p7 .single .ensures) ⨾ by (p8 .flag5 .ensures) ⨾ by (p9 .puts2 .ensures)) .is
+    (by (p1 .puts .ensures) ⨾ by (p2 .flag .ensures) ⨾ by (p3 .flag2 .ensures) ⨾ by (p4 .flag3 .ensures) ⨾ by (p5 .flag4 .ensures)
+    ⨾ by (p6 .number .ensures) ⨾ by (p7 .single .ensures) ⨾ by (p8 .flag5 .ensures) ⨾ by (p9 .puts2 .ensures)) .is
 
 pub link-spec : {M : Type 1} → statement M
 link-spec =

@@ -44,7 +44,8 @@ same-length c =
     let p3 = p4 .before .before .before .before in
     let p2 = p3 .before .before .before .before in
     let p1 = p2 .before .before .before .before in
-    p9 .sent .kept .0 ∙ p8 .rest .kept .0 ∙ p7 .held .kept .0 ∙ p6 .pieces .kept .0 ∙ p5 .counts .kept .0 ∙ p4 .levels .kept .0 ∙ p3 .aim .kept .0 ∙ p2 .link .kept .0 ∙ p1 .first .kept .0
+    p9 .sent .kept .0 ∙ p8 .rest .kept .0 ∙ p7 .held .kept .0 ∙ p6 .pieces .kept .0 ∙ p5 .counts .kept .0 ∙ p4 .levels .kept .0
+    ∙ p3 .aim .kept .0 ∙ p2 .link .kept .0 ∙ p1 .first .kept .0
 
 returns : tie.Need-returns
 unfolding stateLines
@@ -58,7 +59,8 @@ returns c =
     let p3 = p4 .before .before .before .before in
     let p2 = p3 .before .before .before .before in
     let p1 = p2 .before .before .before .before in
-    (by (p1 .first .ensures) ⨾ by (p2 .link .ensures) ⨾ by (p3 .aim .ensures) ⨾ by (p4 .levels .ensures) ⨾ by (p5 .counts .ensures) ⨾ by (p6 .pieces .ensures) ⨾ by (p7 .held .ensures) ⨾ by (p8 .rest .ensures) ⨾ by (p9 .sent .ensures)) .is
+    (by (p1 .first .ensures) ⨾ by (p2 .link .ensures) ⨾ by (p3 .aim .ensures) ⨾ by (p4 .levels .ensures) ⨾ by (p5 .counts .ensures)
+    ⨾ by (p6 .pieces .ensures) ⨾ by (p7 .held .ensures) ⨾ by (p8 .rest .ensures) ⨾ by (p9 .sent .ensures)) .is
 
 pub state-spec : {M : Type 1} → statement M
 state-spec =
