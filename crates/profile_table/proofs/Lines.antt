@@ -29,10 +29,6 @@ pub level-line : (k : ℕ) → k < 17 → lineOf (text "level") level 4 (4 * k) 
 unfolding lineAt
 level-line k h = cond-yes _ _ _ _ (lt-ltb k 17 h) refl
 
--- from n on and not n
-pub up : (k n : ℕ) → n ≤ k → (k ≡ n → ⊥) → n + 1 ≤ k
-up k n h e = omega arith
-
 past : (k : ℕ) → 32 ≤ k → length lines ≤ k - 17
 unfolding lines
 past k h = omega arith

@@ -159,6 +159,62 @@ fn values(line: &[u8], name: &[u8], kind: u8, n: usize, v: &mut [u64; 147], at: 
     done(line, q)
 }
 
+// The lines 17 to 20.
+fn air_line(line: &[u8], k: usize, v: &mut [u64; 147]) -> bool
+    requires { ⌜ (17 ≤ k) × (k ≤ 20) ⌝ }
+    ensures { λ r. ⌜ (r ≡ lineOk (now (line .entry)) (lineAt k) (now (v .entry)))
+        × (now (v .exit) ≡ lineRead (now (line .entry)) (lineAt k) (now (v .entry)) .1) ⌝ }
+{
+    match k {
+        17 => values(line, b"ack_s", DOUBLE, 6, v, 68),
+        18 => values(line, b"cue_s", DOUBLE, 1, v, 74),
+        19 => values(line, b"frame_bytes", WHOLE, 2, v, 75),
+        _ => values(line, b"harq", WHOLE, 7, v, 77),
+    }
+}
+
+// The lines 21 to 24.
+fn times_line(line: &[u8], k: usize, v: &mut [u64; 147]) -> bool
+    requires { ⌜ (21 ≤ k) × (k ≤ 24) ⌝ }
+    ensures { λ r. ⌜ (r ≡ lineOk (now (line .entry)) (lineAt k) (now (v .entry)))
+        × (now (v .exit) ≡ lineRead (now (line .entry)) (lineAt k) (now (v .entry)) .1) ⌝ }
+{
+    match k {
+        21 => values(line, b"burst", DOUBLE, 4, v, 84),
+        22 => values(line, b"hold", DOUBLE, 3, v, 88),
+        23 => values(line, b"thresholds_db", SINGLE, 17, v, 91),
+        _ => values(line, b"eff_thresholds_db", SINGLE, 17, v, 108),
+    }
+}
+
+// The lines 25 to 28.
+fn db_line(line: &[u8], k: usize, v: &mut [u64; 147]) -> bool
+    requires { ⌜ (25 ≤ k) × (k ≤ 28) ⌝ }
+    ensures { λ r. ⌜ (r ≡ lineOk (now (line .entry)) (lineAt k) (now (v .entry)))
+        × (now (v .exit) ≡ lineRead (now (line .entry)) (lineAt k) (now (v .entry)) .1) ⌝ }
+{
+    match k {
+        25 => values(line, b"db", SINGLE, 4, v, 125),
+        26 => values(line, b"start_margin_db", MAYBE_SINGLE, 1, v, 129),
+        27 => values(line, b"burst_climb_db", MAYBE_SINGLE, 1, v, 130),
+        _ => values(line, b"levels", WHOLE, 2, v, 131),
+    }
+}
+
+// The lines from 29 on; the last stands for all after it.
+fn option_line(line: &[u8], k: usize, v: &mut [u64; 147]) -> bool
+    requires { ⌜ 29 ≤ k ⌝ }
+    ensures { λ r. ⌜ (r ≡ lineOk (now (line .entry)) (lineAt k) (now (v .entry)))
+        × (now (v .exit) ≡ lineRead (now (line .entry)) (lineAt k) (now (v .entry)) .1) ⌝ }
+{
+    match k {
+        29 => values(line, b"pin_level", MAYBE_LEVEL, 1, v, 133),
+        30 => values(line, b"gear", GEAR, 1, v, 134),
+        31 => values(line, b"power", POWER, 1, v, 135),
+        _ => values(line, b"on", FLAG, 11, v, 136),
+    }
+}
+
 // The line k after `profile`, from 0 up.
 pub fn profile_line(line: &[u8], k: usize, v: &mut [u64; 147]) -> bool
     ensures { λ r. ⌜ (r ≡ lineOk (now (line .entry)) (lineAt k) (now (v .entry)))
@@ -167,22 +223,14 @@ pub fn profile_line(line: &[u8], k: usize, v: &mut [u64; 147]) -> bool
     if k < 17 {
         return values(line, b"level", LEVEL, 4, v, 4 * k);
     }
-    match k {
-        17 => values(line, b"ack_s", DOUBLE, 6, v, 68),
-        18 => values(line, b"cue_s", DOUBLE, 1, v, 74),
-        19 => values(line, b"frame_bytes", WHOLE, 2, v, 75),
-        20 => values(line, b"harq", WHOLE, 7, v, 77),
-        21 => values(line, b"burst", DOUBLE, 4, v, 84),
-        22 => values(line, b"hold", DOUBLE, 3, v, 88),
-        23 => values(line, b"thresholds_db", SINGLE, 17, v, 91),
-        24 => values(line, b"eff_thresholds_db", SINGLE, 17, v, 108),
-        25 => values(line, b"db", SINGLE, 4, v, 125),
-        26 => values(line, b"start_margin_db", MAYBE_SINGLE, 1, v, 129),
-        27 => values(line, b"burst_climb_db", MAYBE_SINGLE, 1, v, 130),
-        28 => values(line, b"levels", WHOLE, 2, v, 131),
-        29 => values(line, b"pin_level", MAYBE_LEVEL, 1, v, 133),
-        30 => values(line, b"gear", GEAR, 1, v, 134),
-        31 => values(line, b"power", POWER, 1, v, 135),
-        _ => values(line, b"on", FLAG, 11, v, 136),
+    if k <= 20 {
+        return air_line(line, k, v);
     }
+    if k <= 24 {
+        return times_line(line, k, v);
+    }
+    if k <= 28 {
+        return db_line(line, k, v);
+    }
+    option_line(line, k, v)
 }
