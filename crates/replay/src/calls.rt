@@ -1,21 +1,12 @@
-// The calls of a list and their answers (call-list.md, Calls and their answers).
+// The calls of a list and their answers (docs/CALLS.md, Calls).
 use crate::buffer::least;
 use crate::held;
-use crate::profile::single_of;
-use crate::words::NONE;
-use crate::words::Read;
-use crate::words::done;
-use crate::words::double;
-use crate::words::flag;
-use crate::words::hex;
-use crate::words::none;
-use crate::words::single;
-use crate::words::whole;
 use config::MaybeDb;
 use config::Profile;
 use float_bits::of_bits64;
 use numbered::Left;
 use numbered::LeftBurst;
+use profile_table::single_of;
 use record::Sender;
 use replies::Ack;
 use replies::ConnAck;
@@ -23,6 +14,14 @@ use replies::Heard;
 use replies::LongAck;
 use replies::Turn;
 use report::ChanClass;
+use words::Read;
+use words::done;
+use words::double;
+use words::flag;
+use words::hex;
+use words::none;
+use words::single;
+use words::whole;
 ghost use Prim.Native.Nat.{_≤_, _<_};
 
 // The run so far: the profile and the sender, what is lent of the work area and of the output, and what is used of the text's
