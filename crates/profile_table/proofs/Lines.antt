@@ -8,9 +8,9 @@ use borrow.Author.Tests.{lt-ltb, le-ltb}
 use lib.ListN.{length, set, List·getD-eq-default}
 use Rattle.laws.proofs.Picks.{cond-yes, cond-no}
 use Rattle.words.specs.declared.Read.{Read}
-use Rattle.words.specs.Text.{text}
+use Rattle.laws.specs.Text.{text}
 use Rattle.words.specs.Lines.{readAs}
-use Rattle.profile_table.specs.ProfileLines.{level, flag, meaningOf, kindAt, Line, lineOf, lines, lineAt, Reading, valueRead, lineRead, lineOk}
+use Rattle.profile_table.specs.ProfileLines.{levelKind, flagKind, meaningOf, kindAt, Line, lineOf, lines, lineAt, Reading, valueRead, lineRead, lineOk}
 
 module _ (chars : List ℕ) (kind at i : ℕ) where
   -- value i is read and stored
@@ -25,7 +25,7 @@ pub arm : (chars : List ℕ) (k : ℕ) (v : List ℕ) (l : Line) (r : Bool) (x :
     → (r ≡ lineOk chars (lineAt k) v) × (x ≡ lineRead chars (lineAt k) v .1)
 arm chars k v l r x e h = (h .0 ∙ ap (λ (y : Line). lineOk chars y v) e, h .1 ∙ ap (λ (y : Line). lineRead chars y v .1) e)
 
-pub level-line : (k : ℕ) → k < 17 → lineOf (text "level") level 4 (4 * k) ≡ lineAt k
+pub level-line : (k : ℕ) → k < 17 → lineOf (text "levelKind") levelKind 4 (4 * k) ≡ lineAt k
 unfolding lineAt
 level-line k h = cond-yes _ _ _ _ (lt-ltb k 17 h) refl
 
@@ -33,6 +33,6 @@ past : (k : ℕ) → 32 ≤ k → length lines ≤ k - 17
 unfolding lines
 past k h = omega arith
 
-pub on-line : (k : ℕ) → 32 ≤ k → lineOf (text "on") flag 11 136 ≡ lineAt k
+pub on-line : (k : ℕ) → 32 ≤ k → lineOf (text "on") flagKind 11 136 ≡ lineAt k
 unfolding lineAt
-on-line k h = cond-no _ _ _ _ (le-ltb k 17 (omega arith)) (sym (List·getD-eq-default lines (lineOf (text "on") flag 11 136) (past k h)))
+on-line k h = cond-no _ _ _ _ (le-ltb k 17 (omega arith)) (sym (List·getD-eq-default lines (lineOf (text "on") flagKind 11 136) (past k h)))

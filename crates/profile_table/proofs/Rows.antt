@@ -6,16 +6,16 @@ use native.Mathlib.Numerals.{add-one}
 use native.Mathlib.Omega.{arith}
 use lib.ListN.{length, take, set}
 use lib.Seq.{take-suc-set, take-all}
-use Rattle.profile_table.specs.Table.{row}
+use Rattle.profile_table.specs.Table.{rowOf}
 
 module _ {A : Type 0} (f : ℕ → A) where
-  pub row-none : _≡_ {A = List A} [] (row f 0)
-  unfolding row
+  pub row-none : _≡_ {A = List A} [] (rowOf f 0)
+  unfolding rowOf
   row-none = refl
 
-  pub row-turn : (l : ℕ) (x : List A) (v : A) → l < length x → take l x ≡ row f l → v ≡ f l → take (l + 1) (set x l v) ≡ row f (l + 1)
-  unfolding row
+  pub row-turn : (l : ℕ) (x : List A) (v : A) → l < length x → take l x ≡ rowOf f l → v ≡ f l → take (l + 1) (set x l v) ≡ rowOf f (l + 1)
+  unfolding rowOf
   row-turn l x v h e q = rw add-one (take-suc-set x l v h ∙ ap₂ (λ (xs : List A) (w : A). xs ++ (w ∷ [])) e q)
 
-  pub row-end : (n l : ℕ) (x : List A) → length x ≡ n → n ≤ l → l ≤ n → take l x ≡ row f l → x ≡ row f n
-  row-end n l x h a b e = let d : l ≡ n = omega arith in sym (take-all l x (omega arith)) ∙ e ∙ ap (row f) d
+  pub row-end : (n l : ℕ) (x : List A) → length x ≡ n → n ≤ l → l ≤ n → take l x ≡ rowOf f l → x ≡ rowOf f n
+  row-end n l x h a b e = let d : l ≡ n = omega arith in sym (take-all l x (omega arith)) ∙ e ∙ ap (rowOf f) d

@@ -15,19 +15,19 @@ use Rattle.config.specs.declared.MaybeLevel.{MaybeLevel}
 use Rattle.config.specs.declared.Profile.{Profile}
 
 -- f 0, f 1, .., f (n - 1)
-unfoldable pub row : {A : Type 0} → (ℕ → A) → ℕ → List A
-row f zero = []
-row f (suc n) = row f n ++ (f n ∷ [])
+unfoldable pub rowOf : {A : Type 0} → (ℕ → A) → ℕ → List A
+rowOf f zero = []
+rowOf f (suc n) = rowOf f n ++ (f n ∷ [])
 
 -- ---- a number of the table
 
 -- where it is too wide for its field of 32 bits, `most` stands there
-abbrev pub narrow : ℕ → ℕ → ℕ
-narrow most n = cond (ltb n 4294967296) n most
+abbrev pub orMost : ℕ → ℕ → ℕ
+orMost most n = cond (ltb n 4294967296) n most
 
 -- as a field of 32 bits: the largest
 abbrev pub u32At : List ℕ → ℕ → ℕ
-u32At v k = narrow 4294967295 (getD v k 0)
+u32At v k = orMost 4294967295 (getD v k 0)
 
 -- as a field of 8 bits: the largest
 abbrev pub u8At : List ℕ → ℕ → ℕ
@@ -61,10 +61,10 @@ maybeLevelAt v k = cond (eqb (getD v k 0) 18446744073709551615) (record { set = 
 unfoldable pub airOf : List ℕ → Air
 airOf v =
     record {
-      «slot_bits» = row (λ (l : ℕ). u32At v (0 + 4 * l)) 17;
-      «pre_s» = row (λ (l : ℕ). doubleAt v (1 + 4 * l)) 17;
-      rate = row (λ (l : ℕ). doubleAt v (2 + 4 * l)) 17;
-      «max_bits» = row (λ (l : ℕ). narrow 0 (getD v (3 + 4 * l) 0)) 17;
+      «slot_bits» = rowOf (λ (l : ℕ). u32At v (0 + 4 * l)) 17;
+      «pre_s» = rowOf (λ (l : ℕ). doubleAt v (1 + 4 * l)) 17;
+      rate = rowOf (λ (l : ℕ). doubleAt v (2 + 4 * l)) 17;
+      «max_bits» = rowOf (λ (l : ℕ). orMost 0 (getD v (3 + 4 * l) 0)) 17;
       «ack_s» = doubleAt v 68 ∷ doubleAt v 69 ∷ doubleAt v 70 ∷ doubleAt v 71 ∷ doubleAt v 72 ∷ doubleAt v 73 ∷ [];
       «cue_s» = doubleAt v 74;
     }
@@ -88,8 +88,8 @@ unfoldable pub holdTimesOf : List ℕ → HoldTimes
 holdTimesOf v = record { «fail_hold_s» = doubleAt v 88; «fail_hold_max_s» = doubleAt v 89; «loss_hold_s» = doubleAt v 90 }
 
 -- 17 thresholds from a place on, and a margin
-unfoldable pub marksOf : List ℕ → ℕ → ℕ → Marks
-marksOf v at margin = record { «thresholds_db» = row (λ (l : ℕ). singleAt v (at + l)) 17; «margin_db» = singleAt v margin }
+unfoldable pub marksFrom : List ℕ → ℕ → ℕ → Marks
+marksFrom v at margin = record { «thresholds_db» = rowOf (λ (l : ℕ). singleAt v (at + l)) 17; «margin_db» = singleAt v margin }
 
 unfoldable pub profileOf : List ℕ → Profile
 profileOf v =
@@ -100,8 +100,8 @@ profileOf v =
       codes = codesOf v;
       lengths = lengthsOf v;
       «hold_times» = holdTimesOf v;
-      plain = marksOf v 91 125;
-      eff = marksOf v 108 126;
+      plain = marksFrom v 91 125;
+      eff = marksFrom v 108 126;
       «eff_snr» = flagAt v 138;
       «cue_below_db» = singleAt v 127;
       «start_margin_db» = maybeDbAt v 129;

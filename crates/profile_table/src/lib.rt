@@ -12,8 +12,8 @@ use harq::Harq;
 ghost use mathlib.Core.Path.{_≡_};
 ghost use Prim.Native.Nat.{ℕ, _+_, _*_, _≤_, _<_};
 ghost use lib.ListN.{getD};
-ghost use Rattle.profile_table.specs.Table.{row, narrow, u32At, u8At, doubleAt, singleOf, singleAt, flagAt, maybeDbAt, maybeLevelAt};
-ghost use Rattle.profile_table.specs.Table.{airOf, codesOf, lengthsOf, holdTimesOf, marksOf, profileOf};
+ghost use Rattle.profile_table.specs.Table.{rowOf, orMost, u32At, u8At, doubleAt, singleOf, singleAt, flagAt, maybeDbAt, maybeLevelAt};
+ghost use Rattle.profile_table.specs.Table.{airOf, codesOf, lengthsOf, holdTimesOf, marksFrom, profileOf};
 
 pub mod listed;
 
@@ -34,7 +34,7 @@ fn at(v: &[u64; 147], k: usize) -> u64
 
 // A number too wide for 32 bits is `most`.
 fn narrowed(n: u64, most: u32) -> u32
-    ensures { λ r. ⌜ r ≡ narrow most n ⌝ }
+    ensures { λ r. ⌜ r ≡ orMost most n ⌝ }
 {
     if n < 4294967296 {
         return n as u32;
@@ -124,7 +124,7 @@ fn level_at(v: &[u64; 147], k: usize) -> MaybeLevel
 // For each level the number from `from` on, every fourth.
 fn u32s(v: &[u64; 147], from: usize, most: u32) -> [u32; 17]
     requires { ⌜ from < 4 ⌝ }
-    ensures { λ r. ⌜ r ≡ row (λ (l : ℕ). narrow most (getD (now (v .entry)) (from + 4 * l) 0)) 17 ⌝ }
+    ensures { λ r. ⌜ r ≡ rowOf (λ (l : ℕ). orMost most (getD (now (v .entry)) (from + 4 * l) 0)) 17 ⌝ }
 {
     let mut x = [0u32; 17];
     let mut l: usize = 0;
@@ -137,7 +137,7 @@ fn u32s(v: &[u64; 147], from: usize, most: u32) -> [u32; 17]
 
 fn f64s(v: &[u64; 147], from: usize) -> [f64; 17]
     requires { ⌜ from < 4 ⌝ }
-    ensures { λ r. ⌜ r ≡ row (λ (l : ℕ). doubleAt (now (v .entry)) (from + 4 * l)) 17 ⌝ }
+    ensures { λ r. ⌜ r ≡ rowOf (λ (l : ℕ). doubleAt (now (v .entry)) (from + 4 * l)) 17 ⌝ }
 {
     let mut x: [f64; 17] = [0.0; 17];
     let mut l: usize = 0;
@@ -151,7 +151,7 @@ fn f64s(v: &[u64; 147], from: usize) -> [f64; 17]
 // 17 thresholds.
 fn f32s(v: &[u64; 147], from: usize) -> [f32; 17]
     requires { ⌜ from + 17 ≤ 147 ⌝ }
-    ensures { λ r. ⌜ r ≡ row (λ (l : ℕ). singleAt (now (v .entry)) (from + l)) 17 ⌝ }
+    ensures { λ r. ⌜ r ≡ rowOf (λ (l : ℕ). singleAt (now (v .entry)) (from + l)) 17 ⌝ }
 {
     let mut x: [f32; 17] = [0.0; 17];
     let mut l: usize = 0;
@@ -231,7 +231,7 @@ fn hold_times(v: &[u64; 147]) -> HoldTimes
 
 fn marks(v: &[u64; 147], from: usize, margin: usize) -> Marks
     requires { ⌜ (from + 17 ≤ 147) × (margin < 147) ⌝ }
-    ensures { λ r. ⌜ r ≡ marksOf (now (v .entry)) from margin ⌝ }
+    ensures { λ r. ⌜ r ≡ marksFrom (now (v .entry)) from margin ⌝ }
 {
     Marks {
         thresholds_db: f32s(v, from),

@@ -13,7 +13,7 @@ ghost use mathlib.Core.Path.{_≡_};
 ghost use Prim.Native.Nat.{_+_, _≤_, _<_};
 ghost use mathlib.Core.List.{List};
 ghost use Rattle.words.specs.Words.{orElse, noneOf, bitsOf, decimalOf, namedOf};
-ghost use Rattle.words.specs.Text.{text};
+ghost use Rattle.laws.specs.Text.{text};
 ghost use Rattle.words.specs.Lines.{readAs};
 ghost use Rattle.profile_table.specs.ProfileLines.{atMost17, meaningOf, kindAt, lineAt, lineRead, lineOk, lineOf};
 

@@ -2,15 +2,8 @@
 use mathlib.Core.Bool.{cond}
 use mathlib.Core.List.{List, [], _∷_, _++_}
 use Prim.Native.Nat.{ℕ, _+_}
-use Prim.Native.Char.{code}
-use Prim.Native.String.{String, [] as no-more, _∷_ as _then_}
 use lib.Dec.{ltb}
 use lib.ListN.{length, set}
-
--- the characters of a quoted text
-abbrev pub text : String → List ℕ
-text no-more = []
-text (c then s) = code c ∷ text s
 
 -- one character at the place n of the buffer t, and the place after it. A full buffer stays as it is: the character is left out
 abbrev pub put : ℕ × List ℕ → ℕ → ℕ × List ℕ

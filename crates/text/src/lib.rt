@@ -4,9 +4,10 @@ use float_bits::to_bits64;
 ghost use mathlib.Core.Path.{_≡_};
 ghost use mathlib.Core.List.{[], _∷_, _++_};
 ghost use Prim.Native.Nat.{_<_};
-ghost use Rattle.text.specs.Buffer.{text, put, appended, each};
-ghost use Rattle.text.specs.Digits.{digit, decimal, hexOf, pair};
-ghost use Rattle.text.specs.Words.{number, flag, maybe, single, double, hex, afterColon};
+ghost use Rattle.text.specs.Buffer.{put, appended, each};
+ghost use Rattle.laws.specs.Text.{text};
+ghost use Rattle.text.specs.Digits.{digitChar, decimal, hexDigits, pair};
+ghost use Rattle.text.specs.Words.{numberWord, flagWord, maybe, singleWord, doubleWord, hex, afterColon};
 
 // One character.
 pub fn put(t: &mut [u8], n: usize, c: u8) -> usize
@@ -35,7 +36,7 @@ pub fn puts(t: &mut [u8], n: usize, s: &[u8]) -> usize
 // A digit's character.
 fn character(d: u64) -> u8
     requires { ⌜ d < 16 ⌝ }
-    ensures { λ r. ⌜ r ≡ digit d ⌝ }
+    ensures { λ r. ⌜ r ≡ digitChar d ⌝ }
 {
     if d < 10 {
         return (48 + d) as u8;
@@ -45,7 +46,7 @@ fn character(d: u64) -> u8
 
 fn digit(t: &mut [u8], n: usize, d: u64) -> usize
     requires { ⌜ d < 16 ⌝ }
-    ensures { λ r. ⌜ (r, now (t .exit)) ≡ appended (n, now (t .entry)) (digit d ∷ []) ⌝ }
+    ensures { λ r. ⌜ (r, now (t .exit)) ≡ appended (n, now (t .entry)) (digitChar d ∷ []) ⌝ }
 {
     put(t, n, character(d))
 }
@@ -63,7 +64,7 @@ fn decimal(t: &mut [u8], n: usize, x: u64) -> usize
 
 // The lowest k hexadecimal digits of a number.
 fn hexadecimal(t: &mut [u8], n: usize, k: usize, x: u64) -> usize
-    ensures { λ r. ⌜ (r, now (t .exit)) ≡ appended (n, now (t .entry)) (hexOf k x) ⌝ }
+    ensures { λ r. ⌜ (r, now (t .exit)) ≡ appended (n, now (t .entry)) (hexDigits k x) ⌝ }
 {
     if k == 0 {
         return n;
@@ -95,7 +96,7 @@ fn pairs(t: &mut [u8], n: usize, a: &[u8]) -> usize
 
 // N.
 pub fn number(t: &mut [u8], n: usize, x: u64) -> usize
-    ensures { λ r. ⌜ (r, now (t .exit)) ≡ appended (n, now (t .entry)) (number x) ⌝ }
+    ensures { λ r. ⌜ (r, now (t .exit)) ≡ appended (n, now (t .entry)) (numberWord x) ⌝ }
 {
     let n = puts(t, n, b" ");
     decimal(t, n, x)
@@ -111,7 +112,7 @@ pub fn after_colon(t: &mut [u8], n: usize, x: u64) -> usize
 
 // B.
 pub fn flag(t: &mut [u8], n: usize, b: bool) -> usize
-    ensures { λ r. ⌜ (r, now (t .exit)) ≡ appended (n, now (t .entry)) (flag b) ⌝ }
+    ensures { λ r. ⌜ (r, now (t .exit)) ≡ appended (n, now (t .entry)) (flagWord b) ⌝ }
 {
     if b {
         return puts(t, n, b" 1");
@@ -120,7 +121,7 @@ pub fn flag(t: &mut [u8], n: usize, b: bool) -> usize
 }
 
 fn bits(t: &mut [u8], n: usize, k: usize, x: u64) -> usize
-    ensures { λ r. ⌜ (r, now (t .exit)) ≡ appended (n, now (t .entry)) (text " 0x" ++ hexOf k x) ⌝ }
+    ensures { λ r. ⌜ (r, now (t .exit)) ≡ appended (n, now (t .entry)) (text " 0x" ++ hexDigits k x) ⌝ }
 {
     let n = puts(t, n, b" 0x");
     hexadecimal(t, n, k, x)
@@ -128,7 +129,7 @@ fn bits(t: &mut [u8], n: usize, k: usize, x: u64) -> usize
 
 // F64.
 pub fn double(t: &mut [u8], n: usize, x: f64) -> usize
-    ensures { λ r. ⌜ (r, now (t .exit)) ≡ appended (n, now (t .entry)) (double x) ⌝ }
+    ensures { λ r. ⌜ (r, now (t .exit)) ≡ appended (n, now (t .entry)) (doubleWord x) ⌝ }
 {
     if x != x {
         return puts(t, n, b" nan");
@@ -147,7 +148,7 @@ fn wide(x: u32) -> u64
 
 // F32.
 pub fn single(t: &mut [u8], n: usize, x: f32) -> usize
-    ensures { λ r. ⌜ (r, now (t .exit)) ≡ appended (n, now (t .entry)) (single x) ⌝ }
+    ensures { λ r. ⌜ (r, now (t .exit)) ≡ appended (n, now (t .entry)) (singleWord x) ⌝ }
 {
     if x != x {
         return puts(t, n, b" nan");
@@ -160,7 +161,7 @@ pub fn single(t: &mut [u8], n: usize, x: f32) -> usize
 
 // F64, or `none`.
 pub fn maybe_double(t: &mut [u8], n: usize, set: bool, x: f64) -> usize
-    ensures { λ r. ⌜ (r, now (t .exit)) ≡ appended (n, now (t .entry)) (maybe set (double x)) ⌝ }
+    ensures { λ r. ⌜ (r, now (t .exit)) ≡ appended (n, now (t .entry)) (maybe set (doubleWord x)) ⌝ }
 {
     if set {
         return double(t, n, x);
@@ -170,7 +171,7 @@ pub fn maybe_double(t: &mut [u8], n: usize, set: bool, x: f64) -> usize
 
 // F32, or `none`.
 pub fn maybe_single(t: &mut [u8], n: usize, set: bool, x: f32) -> usize
-    ensures { λ r. ⌜ (r, now (t .exit)) ≡ appended (n, now (t .entry)) (maybe set (single x)) ⌝ }
+    ensures { λ r. ⌜ (r, now (t .exit)) ≡ appended (n, now (t .entry)) (maybe set (singleWord x)) ⌝ }
 {
     if set {
         return single(t, n, x);
@@ -180,7 +181,7 @@ pub fn maybe_single(t: &mut [u8], n: usize, set: bool, x: f32) -> usize
 
 // N, or `none`.
 pub fn maybe_number(t: &mut [u8], n: usize, set: bool, x: u64) -> usize
-    ensures { λ r. ⌜ (r, now (t .exit)) ≡ appended (n, now (t .entry)) (maybe set (number x)) ⌝ }
+    ensures { λ r. ⌜ (r, now (t .exit)) ≡ appended (n, now (t .entry)) (maybe set (numberWord x)) ⌝ }
 {
     if set {
         return number(t, n, x);

@@ -11,8 +11,8 @@ use lib.Dec.{leb}
 use borrow.Author.Tests.{eq-eqb, ne-eqb, leb-true, leb-false}
 use Rattle.laws.specs.Bytes.{part}
 use Rattle.laws.proofs.Picks.{cond-yes, cond-no, test}
-use Rattle.text.specs.Buffer.{text}
-use Rattle.text.specs.Words.{number}
+use Rattle.laws.specs.Text.{text}
+use Rattle.text.specs.Words.{numberWord}
 use Rattle.ledger.specs.Ledger.{Held, Sent}
 use Rattle.pieces.specs.Lists.{heldOf, sentOf}
 use Rattle.transcript.specs.Answers.{outcome}
@@ -26,7 +26,7 @@ pub accepted : (k : ℕ) → k ≡ 0 → text " ok" ≡ outcome k
 unfolding outcome
 accepted k e = cond-yes _ _ _ _ (eq-eqb k 0 e) refl
 
-pub refused : (k : ℕ) → (k ≡ 0 → ⊥) → text " refused" ++ number k ≡ outcome k
+pub refused : (k : ℕ) → (k ≡ 0 → ⊥) → text " refused" ++ numberWord k ≡ outcome k
 unfolding outcome
 refused k h = cond-no _ _ _ _ (ne-eqb k 0 h) refl
 

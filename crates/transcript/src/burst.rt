@@ -9,7 +9,7 @@ ghost use mathlib.Core.Path.{_≡_};
 ghost use Prim.Native.Nat.{_+_, _≤_, min};
 ghost use Rattle.laws.specs.Span.{upto};
 ghost use Rattle.text.specs.Buffer.{appended, each};
-ghost use Rattle.transcript.specs.Answers.{burstLine, frameLine, frameOf, burstLines};
+ghost use Rattle.transcript.specs.Answers.{burstLine, frameLine, frameEntry, burstLines};
 
 fn line(t: &mut [u8], n: usize, b: Outgoing) -> usize
     ensures { λ r. ⌜ (r, now (t .exit)) ≡ appended (n, now (t .entry)) (burstLine b) ⌝ }
@@ -52,7 +52,7 @@ fn end_of(from: usize, size: usize, len: usize) -> usize
 // The lines of the first `count` frames.
 fn frames(t: &mut [u8], n: usize, f: Frames, count: usize, size: usize, out: &[u8]) -> usize
     requires { ⌜ count ≤ 64 ⌝ }
-    ensures { λ r. ⌜ (r, now (t .exit)) ≡ appended (n, now (t .entry)) (each (frameOf f size (now (out .entry))) (upto 0 count)) ⌝ }
+    ensures { λ r. ⌜ (r, now (t .exit)) ≡ appended (n, now (t .entry)) (each (frameEntry f size (now (out .entry))) (upto 0 count)) ⌝ }
 {
     let mut n = n;
     let mut from: usize = 0;

@@ -5,8 +5,9 @@ use text::number;
 use text::puts;
 ghost use mathlib.Core.Path.{_≡_};
 ghost use mathlib.Core.List.{_++_};
-ghost use Rattle.text.specs.Buffer.{text, appended};
-ghost use Rattle.transcript.specs.Answers.{answerLine, pieceLine, tally, endLine, errorLine};
+ghost use Rattle.text.specs.Buffer.{appended};
+ghost use Rattle.laws.specs.Text.{text};
+ghost use Rattle.transcript.specs.Answers.{answerLine, pieceLine, tallyWords, endLine, errorLine};
 
 pub mod burst;
 pub mod lists;
@@ -43,7 +44,7 @@ pub fn no_piece(t: &mut [u8], n: usize) -> usize
 
 // TAKEN WAITING FLYING ACKED.
 pub(crate) fn tally(t: &mut [u8], n: usize, s: Sender) -> usize
-    ensures { λ r. ⌜ (r, now (t .exit)) ≡ appended (n, now (t .entry)) (tally s) ⌝ }
+    ensures { λ r. ⌜ (r, now (t .exit)) ≡ appended (n, now (t .entry)) (tallyWords s) ⌝ }
 {
     let c = s.counts;
     let n = number(t, n, (c.next_offset as u64) + (c.waiting as u64));

@@ -4,7 +4,7 @@ use crate::lists::pieces;
 use crate::lists::rest;
 use crate::lists::sent;
 use crate::tally;
-use gear::goodput::Gear;
+use gear::Gear;
 use levels::memory::Reports;
 use record::Link;
 use record::Sender;
@@ -20,7 +20,7 @@ ghost use mathlib.Core.Path.{_≡_};
 ghost use Prim.Native.Nat.{_<_};
 ghost use Rattle.laws.specs.Span.{upto};
 ghost use Rattle.text.specs.Buffer.{appended, each};
-ghost use Rattle.text.specs.Words.{single};
+ghost use Rattle.text.specs.Words.{singleWord};
 ghost use Rattle.transcript.specs.State.{stateLine, linkLine, given, reports, aimLine, gearLine, gearOf, countsLine, stateLines};
 
 fn first(t: &mut [u8], n: usize, g: Gear, k: Link) -> usize
@@ -56,7 +56,7 @@ fn link(t: &mut [u8], n: usize, g: Gear, k: Link) -> usize
 
 // F32 where a test passes, else nothing.
 fn if_set(t: &mut [u8], n: usize, set: bool, x: f32) -> usize
-    ensures { λ r. ⌜ (r, now (t .exit)) ≡ appended (n, now (t .entry)) (given set (single x)) ⌝ }
+    ensures { λ r. ⌜ (r, now (t .exit)) ≡ appended (n, now (t .entry)) (given set (singleWord x)) ⌝ }
 {
     if set {
         return single(t, n, x);

@@ -18,19 +18,19 @@ use Rattle.words.specs.declared.Number.{Number}
 use Rattle.words.specs.declared.Input.{Input}
 use Rattle.words.specs.declared.Cut.{Cut}
 use Rattle.words.specs.declared.Read.{Read}
-use Rattle.words.specs.Lines.{Inside, noCut, endOf, nextOf, charsOf, readTo, readAs, endedOf, takenOf, lineOf}
-use Rattle.words.specs.Words.{is, isNot, anyDigit, shifted, spelled, same, digit, digits, bytesOf, bitsOf, hexOf}
+use Rattle.words.specs.Lines.{Inside, noCut, endOf, nextWord, charsOf, readTo, readAs, endedOf, oneTaken, lineTaken}
+use Rattle.words.specs.Words.{is, isNot, anyDigit, oneDigitMore, spelled, same, digitValue, digits, pairBytes, bitsOf, hexCount}
 
 -- what a drop begins with
 drop-more : (w : List ℕ) (i : ℕ) → i < length w → drop i w ≡ getD w i 0 ∷ drop (i + 1) w
 drop-more w i h = rw add-one (drop-cons w i 0 h)
 
 module _ (w : List ℕ) (i : ℕ) where
-  pub spelled-more : (b : ℕ) (n : Number) → i < length w → spelled b n (drop i w) ≡ spelled b (shifted b n (getD w i 0)) (drop (i + 1) w)
+  pub spelled-more : (b : ℕ) (n : Number) → i < length w → spelled b n (drop i w) ≡ spelled b (oneDigitMore b n (getD w i 0)) (drop (i + 1) w)
   unfolding spelled
   spelled-more b n h = rw (drop-more w i h) refl
 
-  pub spelled-turn : (b : ℕ) (n m z : Number) → z ≡ spelled b n (drop i w) → i < length w → m ≡ shifted b n (getD w i 0) → z ≡ spelled b
+  pub spelled-turn : (b : ℕ) (n m z : Number) → z ≡ spelled b n (drop i w) → i < length w → m ≡ oneDigitMore b n (getD w i 0) → z ≡ spelled b
       m (drop (i + 1) w)
   spelled-turn b n m z p h q = rw q (p ∙ spelled-more b n h)
 
@@ -38,7 +38,7 @@ module _ (w : List ℕ) (i : ℕ) where
   unfolding spelled
   spelled-end b n h = rw (drop-of-length-le w h) refl
 
-  digits-more : i < length w → digits (drop i w) ≡ (ltb (digit (getD w i 0)) 16 && digits (drop (i + 1) w))
+  digits-more : i < length w → digits (drop i w) ≡ (ltb (digitValue (getD w i 0)) 16 && digits (drop (i + 1) w))
   unfolding digits
   digits-more h = rw (drop-more w i h) refl
 
@@ -55,11 +55,11 @@ module _ (w : List ℕ) (i : ℕ) where
   unfolding same
   same-end v h k = rw (drop-of-length-le w h, drop-of-length-le v k) refl
 
-  pub digits-pass : i < length w → digit (getD w i 0) < 16 → digits (drop i w) ≡ digits (drop (i + 1) w)
-  digits-pass h k = digits-more h ∙ rw (lt-ltb (digit (getD w i 0)) 16 k) refl
+  pub digits-pass : i < length w → digitValue (getD w i 0) < 16 → digits (drop i w) ≡ digits (drop (i + 1) w)
+  digits-pass h k = digits-more h ∙ rw (lt-ltb (digitValue (getD w i 0)) 16 k) refl
 
-  pub digits-fail : i < length w → 16 ≤ digit (getD w i 0) → digits (drop i w) ≡ false
-  digits-fail h k = digits-more h ∙ and-left _ _ (le-ltb (digit (getD w i 0)) 16 k)
+  pub digits-fail : i < length w → 16 ≤ digitValue (getD w i 0) → digits (drop i w) ≡ false
+  digits-fail h k = digits-more h ∙ and-left _ _ (le-ltb (digitValue (getD w i 0)) 16 k)
 
   pub same-pass : (v : List ℕ) → i < length w → i < length v → getD w i 0 ≡ getD v i 0 → same (drop i w) (drop i v) ≡ same
       (drop (i + 1) w) (drop (i + 1) v)
@@ -93,23 +93,23 @@ module _ (v b d m : ℕ) (p : 0 < b) (q : d ≤ m) where
 
 -- one digit more, for a digit d
 module _ (b : ℕ) (n : Number) (c d : ℕ) (e : d ≡ anyDigit c) where
-  pub shifted-bad : n .ok ≡ false → isNot ≡ shifted b n c
-  unfolding shifted
+  pub shifted-bad : n .ok ≡ false → isNot ≡ oneDigitMore b n c
+  unfolding oneDigitMore
   shifted-bad h = cond-no _ _ _ _ (and-left _ _ h) refl
 
-  pub shifted-other : b ≤ d → isNot ≡ shifted b n c
-  unfolding shifted
+  pub shifted-other : b ≤ d → isNot ≡ oneDigitMore b n c
+  unfolding oneDigitMore
   shifted-other h = cond-no _ _ _ _ (and-right (n .ok) _ (and-left _ _ (le-ltb (anyDigit c) b (omega arith)))) refl
 
-  pub shifted-over : 0 < b → d ≤ 18446744073709551615 → (18446744073709551615 - d) / b < n .value → isNot ≡ shifted b n c
-  unfolding shifted
+  pub shifted-over : 0 < b → d ≤ 18446744073709551615 → (18446744073709551615 - d) / b < n .value → isNot ≡ oneDigitMore b n c
+  unfolding oneDigitMore
   shifted-over p q h =
       let o = over (n .value) b d 18446744073709551615 p q h in
       cond-no _ _ _ _ (and-right (n .ok) _ (and-right (ltb (anyDigit c) b) _
       (lt-leb (n .value * b + anyDigit c) 18446744073709551615 (rw (← e) o)))) refl
 
-  pub shifted-yes : n .ok ≡ true → d < b → n .value * b + d ≤ 18446744073709551615 → is (n .value * b + d) ≡ shifted b n c
-  unfolding shifted
+  pub shifted-yes : n .ok ≡ true → d < b → n .value * b + d ≤ 18446744073709551615 → is (n .value * b + d) ≡ oneDigitMore b n c
+  unfolding oneDigitMore
   shifted-yes t h f =
       cond-yes _ _ _ _ (and-yes _ _ t (and-yes _ _ (lt-ltb (anyDigit c) b (omega arith))
       (le-leb (n .value * b + anyDigit c) 18446744073709551615 (rw (← e) f)))) (ap (λ (k : ℕ). is (n .value * b + k)) e)
@@ -131,26 +131,26 @@ module _ (line : List ℕ) (e : ℕ) where
 
 -- ---- pairs of digits
 
-pub bytes-length : (w : List ℕ) → length (bytesOf w) ≡ length w / 2
-unfolding bytesOf
+pub bytes-length : (w : List ℕ) → length (pairBytes w) ≡ length w / 2
+unfolding pairBytes
 bytes-length [] = omega arith
 bytes-length (h ∷ []) = omega arith
 bytes-length (h ∷ l ∷ w) = let i = bytes-length w in omega arith
 
-pub bytes-at : (w : List ℕ) (k : ℕ) → 2 * k + 1 < length w → getD (bytesOf w) k 0 ≡ digit (getD w (2 * k) 0) % 16 * 16 + digit
+pub bytes-at : (w : List ℕ) (k : ℕ) → 2 * k + 1 < length w → getD (pairBytes w) k 0 ≡ digitValue (getD w (2 * k) 0) % 16 * 16 + digitValue
     (getD w (2 * k + 1) 0) % 16
-unfolding bytesOf
+unfolding pairBytes
 bytes-at [] k q = absurd (omega arith)
 bytes-at (h ∷ []) k q = absurd (omega arith)
 bytes-at (h ∷ l ∷ w) zero q = refl
 bytes-at (h ∷ l ∷ w) (suc k) q =
     let e : 2 * suc k ≡ suc (suc (2 * k)) = omega arith in
     let g : 2 * suc k + 1 ≡ suc (suc (2 * k + 1)) = omega arith in
-    bytes-at w k (omega arith) ∙ sym (ap₂ (λ (i j : ℕ). digit (getD (h ∷ l ∷ w) i 0) % 16 * 16 + digit (getD (h ∷ l ∷ w) j 0) % 16) e g)
+    bytes-at w k (omega arith) ∙ sym (ap₂ (λ (i j : ℕ). digitValue (getD (h ∷ l ∷ w) i 0) % 16 * 16 + digitValue (getD (h ∷ l ∷ w) j 0) % 16) e g)
 
 -- there is room for the bytes of HEX
-pub hex-room : (room : ℕ) (w : List ℕ) → hexOf room w .ok ≡ true → length (bytesOf w) ≤ room
-unfolding hexOf
+pub hex-room : (room : ℕ) (w : List ℕ) → hexCount room w .ok ≡ true → length (pairBytes w) ≤ room
+unfolding hexCount
 hex-room room w h =
     test (same w (45 ∷ []))
     (λ t. omega (arith, same-length w (45 ∷ []) t, bytes-length w))
@@ -165,22 +165,22 @@ hex-room room w h =
 
 -- a word that is not `-`, with d for the test of its digits
 module _ (room : ℕ) (w : List ℕ) (d : Bool) (e : d ≡ digits w) (f : same w (45 ∷ []) ≡ false) where
-  pub hex-pairs : (((d && eqb (length w % 2) 0) && ltb 0 (length w)) && leb (length w / 2) room) ≡ true → is (length w / 2) ≡ hexOf room w
-  unfolding hexOf
+  pub hex-pairs : (((d && eqb (length w % 2) 0) && ltb 0 (length w)) && leb (length w / 2) room) ≡ true → is (length w / 2) ≡ hexCount room w
+  unfolding hexCount
   hex-pairs t = cond-no _ _ _ _ f (cond-yes _ _ _ _ (rw e at t) refl)
 
-  pub hex-none : (((d && eqb (length w % 2) 0) && ltb 0 (length w)) && leb (length w / 2) room) ≡ false → isNot ≡ hexOf room w
-  unfolding hexOf
+  pub hex-none : (((d && eqb (length w % 2) 0) && ltb 0 (length w)) && leb (length w / 2) room) ≡ false → isNot ≡ hexCount room w
+  unfolding hexCount
   hex-none t = cond-no _ _ _ _ f (cond-no _ _ _ _ (rw e at t) refl)
 
 -- a turn of the loop that stores them
-pub pairs-turn : (d w x : List ℕ) (k v : ℕ) → 2 * k + 1 < length w → v ≡ digit (getD w (2 * k) 0) % 16 * 16 + digit
+pub pairs-turn : (d w x : List ℕ) (k v : ℕ) → 2 * k + 1 < length w → v ≡ digitValue (getD w (2 * k) 0) % 16 * 16 + digitValue
     (getD w (2 * k + 1) 0) % 16
-    → x ≡ overwrite d 0 (take k (bytesOf w)) → set x k v ≡ overwrite d 0 (take (k + 1) (bytesOf w))
+    → x ≡ overwrite d 0 (take k (pairBytes w)) → set x k v ≡ overwrite d 0 (take (k + 1) (pairBytes w))
 pairs-turn d w x k v h e p =
     ap₂ (λ (y : List ℕ) (u : ℕ). set y k u) p (e ∙ sym (bytes-at w k h))
-    ∙ ap (λ (j : ℕ). set (overwrite d 0 (take k (bytesOf w))) j (getD (bytesOf w) k 0)) (sym (zero-add k))
-    ∙ over-take d 0 (bytesOf w) k (omega (arith, bytes-length w))
+    ∙ ap (λ (j : ℕ). set (overwrite d 0 (take k (pairBytes w))) j (getD (pairBytes w) k 0)) (sym (zero-add k))
+    ∙ over-take d 0 (pairBytes w) k (omega (arith, bytes-length w))
 
 -- ---- F32 and F64
 
@@ -192,13 +192,13 @@ bits-yes n w a b c = cond-yes _ _ _ _ (and-yes _ _ (eq-eqb (length w) (n + 2) a)
 -- ---- a line's words
 
 module _ (line : List ℕ) (r : Read) where
-  pub next-none : r .ok ≡ false → noCut ≡ nextOf line r
-  unfolding nextOf
+  pub next-none : r .ok ≡ false → noCut ≡ nextWord line r
+  unfolding nextWord
   next-none h = cond-no _ _ _ _ (and-left (r .ok) _ h) refl
 
   pub next-some : (e : ℕ) → r .ok ≡ true → r .at < length line → getD line (r .at) 0 ≡ 32 → e ≡ endOf line (r .at + 1)
-      → record { from = r .at + 1; to = e; ok = true } ≡ nextOf line r
-  unfolding nextOf
+      → record { from = r .at + 1; to = e; ok = true } ≡ nextWord line r
+  unfolding nextWord
   next-some e a b c q =
       cond-yes _ _ _ _ (and-yes (r .ok) _ a (and-yes _ _ (lt-ltb (r .at) (length line) b) (eq-eqb (getD line (r .at) 0) 32 c)))
       (ap (λ (t : ℕ). record { from = r .at + 1; to = t; ok = true }) q)
@@ -208,7 +208,7 @@ none-inside c line e = rw e (record { ordered = omega arith; within = omega arit
 
 -- a word that is read by what it means
 module _ (meaning : List ℕ → Number) (line : List ℕ) (c : Cut) (n : Number) (q : n ≡ meaning (charsOf line c)) where
-  pub as-read : (r : Read) → c ≡ nextOf line r → readTo c n ≡ readAs meaning line r
+  pub as-read : (r : Read) → c ≡ nextWord line r → readTo c n ≡ readAs meaning line r
   unfolding readAs
   as-read r p = ap (readTo c) q ∙ ap (λ (x : Cut). readTo x (meaning (charsOf line x))) p
 
@@ -219,10 +219,10 @@ kind-ended true = refl
 kind-ended false = refl
 
 module _ (chunk : List ℕ) (i : Input) (t : (leb (i .end) (i .at) || leb (length chunk) (i .at)) ≡ true) where
-  pub taken-ended : (room : ℕ) → endedOf i ≡ takenOf chunk room i
-  unfolding takenOf
+  pub taken-ended : (room : ℕ) → endedOf i ≡ oneTaken chunk room i
+  unfolding oneTaken
   taken-ended room = rw t refl
 
-  pub line-ended : (line : List ℕ) → line ≡ lineOf chunk line i
-  unfolding takenOf lineOf
+  pub line-ended : (line : List ℕ) → line ≡ lineTaken chunk line i
+  unfolding oneTaken lineTaken
   line-ended line = rw t (cond-no _ _ _ _ (kind-ended (eqb (i .len) 0)) refl)

@@ -17,16 +17,16 @@ unfoldable pub endOf : List ℕ → ℕ → ℕ
 endOf line at = first (λ (k : ℕ). eqb (getD line k 0) 32) (length line) (upto at (length line))
 
 -- the first word of a line
-unfoldable pub firstOf : List ℕ → Cut
-firstOf line = record { from = 0; to = endOf line 0; ok = true }
+unfoldable pub firstWord : List ℕ → Cut
+firstWord line = record { from = 0; to = endOf line 0; ok = true }
 
 -- no word
 abbrev pub noCut : Cut
 noCut = record { from = 0; to = 0; ok = false }
 
 -- the word after what was read: it stands after one space
-unfoldable pub nextOf : List ℕ → Read → Cut
-nextOf line r =
+unfoldable pub nextWord : List ℕ → Read → Cut
+nextWord line r =
     cond (r .ok && (ltb (r .at) (length line) && eqb (getD line (r .at) 0) 32))
     (record { from = r .at + 1; to = endOf line (r .at + 1); ok = true })
     noCut
@@ -46,11 +46,11 @@ readTo c n = record { at = c .to; ok = c .ok && n .ok; value = n .value }
 
 -- the next word, by what words of its kind mean
 unfoldable pub readAs : (List ℕ → Number) → List ℕ → Read → Read
-readAs meaning line r = readTo (nextOf line r) (meaning (charsOf line (nextOf line r)))
+readAs meaning line r = readTo (nextWord line r) (meaning (charsOf line (nextWord line r)))
 
 -- the first word, if it is `name`
 unfoldable pub begun : List ℕ → List ℕ → Read
-begun line name = readTo (firstOf line) (namedOf name 0 (charsOf line (firstOf line)))
+begun line name = readTo (firstWord line) (namedOf name 0 (charsOf line (firstWord line)))
 
 -- nothing is left
 abbrev pub isDone : List ℕ → Read → Bool
@@ -67,12 +67,12 @@ abbrev pub endedOf : Input → Input
 endedOf i = stand i (i .at) (i .len) (cond (eqb (i .len) 0) 1 2)
 
 -- one character more. A line ends with a line feed, has characters below 128, and no more than there is room for
-unfoldable pub takenOf : List ℕ → ℕ → Input → Input
-takenOf chunk room i =
+unfoldable pub oneTaken : List ℕ → ℕ → Input → Input
+oneTaken chunk room i =
     cond (leb (i .end) (i .at) || leb (length chunk) (i .at)) (endedOf i)
     (cond (eqb (getD chunk (i .at) 0) 10) (stand i (i .at + 1) (i .len) 0)
     (cond (leb 128 (getD chunk (i .at) 0) || leb room (i .len)) (stand i (i .at + 1) (i .len) 2) (stand i (i .at + 1) (i .len + 1) 3)))
 
 -- where the line goes on, the character stands at its end
-unfoldable pub lineOf : List ℕ → List ℕ → Input → List ℕ
-lineOf chunk line i = cond (eqb (takenOf chunk (length line) i .kind) 3) (set line (i .len) (getD chunk (i .at) 0)) line
+unfoldable pub lineTaken : List ℕ → List ℕ → Input → List ℕ
+lineTaken chunk line i = cond (eqb (oneTaken chunk (length line) i .kind) 3) (set line (i .len) (getD chunk (i .at) 0)) line

@@ -6,7 +6,7 @@ use lib.Dec.{leb, ltb, eqb}
 use lib.ListN.{length, getD, drop}
 use Rattle.laws.specs.Bytes.{overwrite}
 use Rattle.words.specs.declared.Number.{Number}
-use Rattle.words.specs.Text.{text}
+use Rattle.laws.specs.Text.{text}
 
 -- the word means n
 abbrev pub is : ℕ → Number
@@ -19,22 +19,22 @@ isNot = record { ok = false; value = 0 }
 -- ---- digits
 
 -- 0 to 9 and a to f; 16 for another character
-unfoldable pub digit : ℕ → ℕ
-digit c = cond (ltb c 48) 16 (cond (leb c 57) (c - 48) (cond (ltb c 97) 16 (cond (leb c 102) (c - 87) 16)))
+unfoldable pub digitValue : ℕ → ℕ
+digitValue c = cond (ltb c 48) 16 (cond (leb c 57) (c - 48) (cond (ltb c 97) 16 (cond (leb c 102) (c - 87) 16)))
 
 -- A to F too
 unfoldable pub anyDigit : ℕ → ℕ
-anyDigit c = cond (ltb c 65) (digit c) (cond (leb c 70) (c - 55) (digit c))
+anyDigit c = cond (ltb c 65) (digitValue c) (cond (leb c 70) (c - 55) (digitValue c))
 
 -- one digit more of a number to the base b; a number above 2^64 - 1 is none
-unfoldable pub shifted : ℕ → Number → ℕ → Number
-shifted b n c =
+unfoldable pub oneDigitMore : ℕ → Number → ℕ → Number
+oneDigitMore b n c =
     cond (n .ok && (ltb (anyDigit c) b && leb (n .value * b + anyDigit c) 18446744073709551615)) (is (n .value * b + anyDigit c)) isNot
 
 -- the digits after those that gave n
 unfoldable pub spelled : ℕ → Number → List ℕ → Number
 spelled b n [] = n
-spelled b n (c ∷ w) = spelled b (shifted b n c) w
+spelled b n (c ∷ w) = spelled b (oneDigitMore b n c) w
 
 -- ---- the words
 
@@ -74,20 +74,20 @@ orElse a b = cond (a .ok) a b
 -- all are digits
 unfoldable pub digits : List ℕ → Bool
 digits [] = true
-digits (c ∷ w) = ltb (digit c) 16 && digits w
+digits (c ∷ w) = ltb (digitValue c) 16 && digits w
 
 -- each pair's byte
-unfoldable pub bytesOf : List ℕ → List ℕ
-bytesOf [] = []
-bytesOf (h ∷ []) = []
-bytesOf (h ∷ l ∷ w) = (digit h % 16 * 16 + digit l % 16) ∷ bytesOf w
+unfoldable pub pairBytes : List ℕ → List ℕ
+pairBytes [] = []
+pairBytes (h ∷ []) = []
+pairBytes (h ∷ l ∷ w) = (digitValue h % 16 * 16 + digitValue l % 16) ∷ pairBytes w
 
 -- the number of bytes, `room` at most
-unfoldable pub hexOf : ℕ → List ℕ → Number
-hexOf room w =
+unfoldable pub hexCount : ℕ → List ℕ → Number
+hexCount room w =
     cond (same w (45 ∷ [])) (is 0)
     (cond (((digits w && eqb (length w % 2) 0) && ltb 0 (length w)) && leb (length w / 2) room) (is (length w / 2)) isNot)
 
 -- a word's bytes at the start of what is lent for them, which stays as it was where the word is not HEX
 unfoldable pub hexInto : List ℕ → List ℕ → List ℕ
-hexInto bytes w = cond (hexOf (length bytes) w .ok) (overwrite bytes 0 (bytesOf w)) bytes
+hexInto bytes w = cond (hexCount (length bytes) w .ok) (overwrite bytes 0 (pairBytes w)) bytes

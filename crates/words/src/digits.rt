@@ -2,7 +2,7 @@
 use crate::Number;
 ghost use mathlib.Core.Path.{_≡_};
 ghost use Prim.Native.Nat.{_<_};
-ghost use Rattle.words.specs.Words.{digit as digitOf, anyDigit, shifted as shiftedOf, spelled, is, isNot};
+ghost use Rattle.words.specs.Words.{digitValue as digitOf, anyDigit, oneDigitMore as shiftedOf, spelled, is, isNot};
 
 fn wide(c: u8) -> u64
     ensures { λ r. ⌜ r ≡ c ⌝ }

@@ -2,8 +2,8 @@
 ghost use mathlib.Core.Path.{_≡_};
 ghost use Prim.Native.Nat.{_≤_};
 ghost use lib.ListN.{length};
-ghost use Rattle.words.specs.Lines.{Inside, endOf, firstOf, noCut, nextOf, readTo, readAs, charsOf, begun, isDone};
-ghost use Rattle.words.specs.Words.{decimalOf, bitsOf, flagOf, noneOf, hexOf, hexInto};
+ghost use Rattle.words.specs.Lines.{Inside, endOf, firstWord, noCut, nextWord, readTo, readAs, charsOf, begun, isDone};
+ghost use Rattle.words.specs.Words.{decimalOf, bitsOf, flagOf, noneOf, hexCount, hexInto};
 
 mod digits;
 pub mod meaning;
@@ -57,7 +57,7 @@ fn end_from(line: &[u8], at: usize) -> usize
 
 // The first word.
 fn first_word(line: &[u8]) -> Cut
-    ensures { λ c. ⌜ (c ≡ firstOf (now (line .entry))) × Inside c (now (line .entry)) ⌝ }
+    ensures { λ c. ⌜ (c ≡ firstWord (now (line .entry))) × Inside c (now (line .entry)) ⌝ }
 {
     Cut {
         from: 0,
@@ -78,7 +78,7 @@ fn no_word() -> Cut
 
 // The word after what was read.
 pub fn next_word(line: &[u8], r: Read) -> Cut
-    ensures { λ c. ⌜ (c ≡ nextOf (now (line .entry)) r) × Inside c (now (line .entry)) ⌝ }
+    ensures { λ c. ⌜ (c ≡ nextWord (now (line .entry)) r) × Inside c (now (line .entry)) ⌝ }
 {
     let at = r.at;
     if !r.ok {
@@ -180,8 +180,8 @@ pub fn none(line: &[u8], r: Read) -> Read
 
 // HEX: the bytes are put at the start of `bytes`, and the number is how many there are.
 pub fn hex(line: &[u8], r: Read, bytes: &mut [u8]) -> Read
-    ensures { λ q. ⌜ q ≡ readAs (hexOf (length (now (bytes .entry)))) (now (line .entry)) r ⌝ }
-    ensures { λ _. ⌜ now (bytes .exit) ≡ hexInto (now (bytes .entry)) (charsOf (now (line .entry)) (nextOf (now (line .entry)) r)) ⌝ }
+    ensures { λ q. ⌜ q ≡ readAs (hexCount (length (now (bytes .entry)))) (now (line .entry)) r ⌝ }
+    ensures { λ _. ⌜ now (bytes .exit) ≡ hexInto (now (bytes .entry)) (charsOf (now (line .entry)) (nextWord (now (line .entry)) r)) ⌝ }
 {
     let c = next_word(line, r);
     let from = c.from;

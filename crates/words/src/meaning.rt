@@ -9,8 +9,8 @@ ghost use mathlib.Core.Path.{_≡_};
 ghost use Prim.Native.Nat.{_+_, _*_, _%_, _≤_, _<_};
 ghost use lib.ListN.{length};
 ghost use Rattle.laws.specs.Bytes.{overwrite};
-ghost use Rattle.words.specs.Words.{digit as digitOf, digits as digitsOf, same as sameOf};
-ghost use Rattle.words.specs.Words.{decimalOf, bitsOf, flagOf, namedOf, bytesOf, hexOf, hexInto};
+ghost use Rattle.words.specs.Words.{digitValue as digitOf, digits as digitsOf, same as sameOf};
+ghost use Rattle.words.specs.Words.{decimalOf, bitsOf, flagOf, namedOf, pairBytes, hexCount, hexInto};
 
 // Whether two words are the same.
 fn same(a: &[u8], b: &[u8]) -> bool
@@ -107,8 +107,8 @@ fn byte(high: u8, low: u8) -> u8
 
 // The bytes of n pairs, at the start of `bytes`.
 fn put_pairs(w: &[u8], bytes: &mut [u8])
-    requires { ⌜ length (bytesOf (now w)) ≤ length (now bytes) ⌝ }
-    ensures { λ _. ⌜ now (bytes .exit) ≡ overwrite (now (bytes .entry)) 0 (bytesOf (now (w .entry))) ⌝ }
+    requires { ⌜ length (pairBytes (now w)) ≤ length (now bytes) ⌝ }
+    ensures { λ _. ⌜ now (bytes .exit) ≡ overwrite (now (bytes .entry)) 0 (pairBytes (now (w .entry))) ⌝ }
 {
     let n = w.len() / 2;
     let mut k: usize = 0;
@@ -120,7 +120,7 @@ fn put_pairs(w: &[u8], bytes: &mut [u8])
 
 // HEX, with room for `room` bytes: how many there are.
 fn hex_count(w: &[u8], room: usize) -> Number
-    ensures { λ r. ⌜ r ≡ hexOf room (now (w .entry)) ⌝ }
+    ensures { λ r. ⌜ r ≡ hexCount room (now (w .entry)) ⌝ }
 {
     let n = w.len() / 2;
     if same(w, b"-") {
@@ -134,7 +134,7 @@ fn hex_count(w: &[u8], room: usize) -> Number
 
 // HEX: how many bytes there are. They are put at the start of `bytes`.
 pub fn hex(w: &[u8], bytes: &mut [u8]) -> Number
-    ensures { λ r. ⌜ r ≡ hexOf (length (now (bytes .entry))) (now (w .entry)) ⌝ }
+    ensures { λ r. ⌜ r ≡ hexCount (length (now (bytes .entry))) (now (w .entry)) ⌝ }
     ensures { λ _. ⌜ now (bytes .exit) ≡ hexInto (now (bytes .entry)) (now (w .entry)) ⌝ }
 {
     let n = hex_count(w, bytes.len());

@@ -1,7 +1,7 @@
 // A line out of what was read of the input.
 ghost use mathlib.Core.Path.{_≡_};
 ghost use lib.ListN.{length};
-ghost use Rattle.words.specs.Lines.{stand as standOf, endedOf, takenOf, lineOf};
+ghost use Rattle.words.specs.Lines.{stand as standOf, endedOf, oneTaken, lineTaken};
 use crate::Input;
 
 // The line is whole; the input has ended before it; it breaks the rules; it goes on.
@@ -37,8 +37,8 @@ fn ended(i: Input) -> Input
 
 // One character more of the line.
 pub fn take(chunk: &[u8], line: &mut [u8], i: Input) -> Input
-    ensures { λ r. ⌜ r ≡ takenOf (now (chunk .entry)) (length (now (line .entry))) i ⌝ }
-    ensures { λ _. ⌜ now (line .exit) ≡ lineOf (now (chunk .entry)) (now (line .entry)) i ⌝ }
+    ensures { λ r. ⌜ r ≡ oneTaken (now (chunk .entry)) (length (now (line .entry))) i ⌝ }
+    ensures { λ _. ⌜ now (line .exit) ≡ lineTaken (now (chunk .entry)) (now (line .entry)) i ⌝ }
 {
     let at = i.at;
     let len = i.len;

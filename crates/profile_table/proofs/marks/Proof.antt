@@ -1,6 +1,6 @@
 -- `marks`: each by its place. Assumes nothing.
 use borrow.Author.Needs.{needs}
-use Rattle.profile_table.specs.Table.{marksOf}
+use Rattle.profile_table.specs.Table.{marksFrom}
 use Rattle.profile_table.proofs.marks.Statement.{statement}
 use Rattle.profile_table.proofs.marks.Tie as tie
 
@@ -11,7 +11,7 @@ f32-at-requires : tie.Need-f32-at-requires
 f32-at-requires c κs = search needs
 
 returns : tie.Need-returns
-unfolding marksOf
+unfolding marksFrom
 returns c = cc
 
 pub marks-spec : {M : Type 1} → statement M

@@ -2,7 +2,7 @@
 use Prim.Native.Nat.{ℕ, _<_}
 use mathlib.Core.Path.{sym, ap, _∙_}
 use native.Mathlib.Omega.{arith}
-use Rattle.text.specs.Digits.{hexOf}
+use Rattle.text.specs.Digits.{hexDigits}
 use Rattle.text.proofs.Digits.{hex-none, hex-more}
 use Rattle.text.proofs.Laws.{by, told, _⨾_, nothing}
 use borrow.Fn.Kinds.{In}
@@ -31,7 +31,7 @@ hexadecimal-returns : (t : ℕ) → hexadecimal-lts.Need-returns (
   digit-reads.Asked,
   digit-reads.Learnt,
 ) (hexadecimal-at t) hexadecimal.Post
-hexadecimal-returns t c = told (nothing _) (sym (ap (λ (k : ℕ). hexOf k (c .before .before .args .x)) (c .if1 .taken) ∙ hex-none _))
+hexadecimal-returns t c = told (nothing _) (sym (ap (λ (k : ℕ). hexDigits k (c .before .before .args .x)) (c .if1 .taken) ∙ hex-none _))
 
 hexadecimal-sub-hexadecimal : (t : ℕ) → hexadecimal-lts.Need-sub-hexadecimal (
   hexadecimal-below t,

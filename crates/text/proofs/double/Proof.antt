@@ -2,7 +2,7 @@
 use borrow.Author.Needs.{needs}
 use Rattle.text.proofs.Digits.{float-nan, float-zero, float-bits}
 use lib.Ieee.{binary64}
-use Rattle.text.specs.Words.{double}
+use Rattle.text.specs.Words.{doubleWord}
 use Rattle.text.proofs.Laws.{by, told}
 use Rattle.text.proofs.double.Statement.{statement}
 use Rattle.text.proofs.double.Tie as tie
@@ -19,7 +19,7 @@ same-length c =
     p1 .puts .kept .0
 
 returns : tie.Need-returns
-unfolding double
+unfolding doubleWord
 returns c =
     let p1 = c .before .before in
     told (by (p1 .puts .ensures)) (float-nan binary64 16 _ (c .before .before .before .before .before .if1 .taken))
@@ -33,7 +33,7 @@ same-length-2 c =
     p1 .bits .kept .0
 
 returns-2 : tie.Need-returns-2
-unfolding double
+unfolding doubleWord
 returns-2 c =
     let p1 = c .before .before in
     told (by (p1 .bits .ensures)) (float-zero binary64 16 _ (c .before .before .before .before .before .if1 .left) (c .before .before .before .before .if2 .taken))
@@ -50,7 +50,7 @@ same-length-3 c =
     p1 .bits2 .kept .0
 
 returns-3 : tie.Need-returns-3
-unfolding double
+unfolding doubleWord
 returns-3 c =
     let p1 = c .before .before in
     told (by (p1 .bits2 .ensures)) (float-bits binary64 16 _ 18446744073709551615 (c .before .before .before .before .before .before .if1 .left) (c .before .before .before .before .before .if2 .left) (p1 .before .to-bits64 .ensures))

@@ -1,7 +1,7 @@
 -- `text::flag` meets its contract.
 use mathlib.Core.Path.{refl}
 use borrow.Author.Needs.{needs}
-use Rattle.text.specs.Words.{flag}
+use Rattle.text.specs.Words.{flagWord}
 use Rattle.laws.proofs.Picks.{cond-yes, cond-no}
 use Rattle.text.proofs.Laws.{by, told}
 use Rattle.text.proofs.flag.Statement.{statement}
@@ -19,7 +19,7 @@ same-length c =
     p1 .puts .kept .0
 
 returns : tie.Need-returns
-unfolding flag
+unfolding flagWord
 returns c =
     let p1 = c .before .before in
     told (by (p1 .puts .ensures)) (cond-yes _ _ _ _ (c .before .before .before .before .before .if1 .taken) refl)
@@ -36,7 +36,7 @@ same-length-2 c =
     p1 .puts2 .kept .0
 
 returns-2 : tie.Need-returns-2
-unfolding flag
+unfolding flagWord
 returns-2 c =
     let p1 = c .before .before in
     told (by (p1 .puts2 .ensures)) (cond-no _ _ _ _ (c .before .before .before .before .before .if1 .left) refl)

@@ -1,7 +1,7 @@
 -- `text::number` meets its contract.
 use mathlib.Core.Path.{_∙_}
 use borrow.Author.Needs.{needs}
-use Rattle.text.specs.Words.{number}
+use Rattle.text.specs.Words.{numberWord}
 use Rattle.text.proofs.Laws.{by, _⨾_}
 use Rattle.text.proofs.number.Statement.{statement}
 use Rattle.text.proofs.number.Tie as tie
@@ -22,7 +22,7 @@ same-length c =
     p2 .decimal .kept .0 ∙ p1 .puts .kept .0
 
 returns : tie.Need-returns
-unfolding number
+unfolding numberWord
 returns c =
     let p2 = c .before .before in
     let p1 = p2 .before .before .before .before in

@@ -3,7 +3,7 @@ use mathlib.Core.Path.{_∙_}
 use borrow.Author.Needs.{needs}
 use Rattle.text.proofs.Digits.{float-nan, float-zero, float-bits}
 use lib.Ieee.{binary32}
-use Rattle.text.specs.Words.{single}
+use Rattle.text.specs.Words.{singleWord}
 use Rattle.text.proofs.Laws.{by, told}
 use Rattle.text.proofs.single.Statement.{statement}
 use Rattle.text.proofs.single.Tie as tie
@@ -20,7 +20,7 @@ same-length c =
     p1 .puts .kept .0
 
 returns : tie.Need-returns
-unfolding single
+unfolding singleWord
 returns c =
     let p1 = c .before .before in
     told (by (p1 .puts .ensures)) (float-nan binary32 8 _ (c .before .before .before .before .before .if1 .taken))
@@ -34,7 +34,7 @@ same-length-2 c =
     p1 .bits .kept .0
 
 returns-2 : tie.Need-returns-2
-unfolding single
+unfolding singleWord
 returns-2 c =
     let p1 = c .before .before in
     told (by (p1 .bits .ensures)) (float-zero binary32 8 _ (c .before .before .before .before .before .if1 .left) (c .before .before .before .before .if2 .taken))
@@ -54,7 +54,7 @@ same-length-3 c =
     p1 .bits2 .kept .0
 
 returns-3 : tie.Need-returns-3
-unfolding single
+unfolding singleWord
 returns-3 c =
     let p1 = c .before .before in
     told (by (p1 .bits2 .ensures)) (float-bits binary32 8 _ 4294967295 (c .before .before .before .before .before .before .before .if1 .left) (c .before .before .before .before .before .before .if2 .left) (p1 .before .wide .ensures

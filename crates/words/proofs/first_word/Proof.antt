@@ -3,7 +3,7 @@ use Prim.Native.Nat.{ℕ}
 use mathlib.Core.Path.{ap}
 use mathlib.Core.Bool.{true}
 use borrow.Author.Needs.{needs}
-use Rattle.words.specs.Lines.{firstOf}
+use Rattle.words.specs.Lines.{firstWord}
 use Rattle.words.proofs.first_word.Statement.{statement}
 use Rattle.words.proofs.first_word.Tie as tie
 
@@ -11,7 +11,7 @@ end-from-requires : tie.Need-end-from-requires
 end-from-requires c κs = search needs
 
 returns : tie.Need-returns
-unfolding firstOf
+unfolding firstWord
 returns c = (
   ap (λ (e : ℕ). record { from = 0; to = e; ok = true }) (c .end-from .ensures .0),
   record

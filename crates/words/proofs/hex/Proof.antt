@@ -2,7 +2,7 @@
 use mathlib.Core.Path.{ap, _∙_}
 use lib.ListN.{length}
 use borrow.Author.Needs.{needs}
-use Rattle.words.specs.Words.{hexOf, hexInto}
+use Rattle.words.specs.Words.{hexCount, hexInto}
 use Rattle.words.proofs.Laws.{as-read}
 use Rattle.words.specs.Lines.{charsOf}
 use Rattle.words.specs.declared.Cut.{Cut}
@@ -33,7 +33,7 @@ same-length c = search needs
 returns : tie.Need-returns
 returns c = (
   c .read-to .ensures ∙ as-read
-      (hexOf (length (c .before .before .before .before .before .before .before .before .before .args .bytes .now))) _ _ _
+      (hexCount (length (c .before .before .before .before .before .before .before .before .before .args .bytes .now))) _ _ _
       (c .before .before .before .hex .ensures .0) _ (c .before .before .before .before .before .before .next-word .ensures .0),
   c .before .before .before .hex .ensures .1 ∙ ap (λ (x : Cut). hexInto
       (c .before .before .before .before .before .before .before .before .before .args .bytes .now)

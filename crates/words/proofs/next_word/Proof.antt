@@ -2,7 +2,7 @@
 use mathlib.Core.Path.{_∙_}
 use borrow.Author.Needs.{needs}
 use Rattle.laws.proofs.Picks.{picks}
-use Rattle.words.specs.Lines.{nextOf}
+use Rattle.words.specs.Lines.{nextWord}
 use Rattle.words.proofs.Laws.{none-inside, next-none, next-some}
 use borrow.Author.Tests.{not-true, not-false}
 use Rattle.words.proofs.next_word.Statement.{statement}
@@ -12,7 +12,7 @@ no-word-requires : tie.Need-no-word-requires
 no-word-requires c κs = search needs
 
 returns : tie.Need-returns
-unfolding nextOf
+unfolding nextWord
 returns c = (
   c .no-word .ensures ∙ next-none (c .before .before .before .before .args .line .now)
       (c .before .before .before .before .args .r) (not-true _ (c .before .if1 .taken)),
@@ -23,7 +23,7 @@ no-word-requires-2 : tie.Need-no-word-requires-2
 no-word-requires-2 c κs = search needs
 
 returns-2 : tie.Need-returns-2
-unfolding nextOf
+unfolding nextWord
 returns-2 c = (search picks, none-inside _ _ (c .no-word2 .ensures))
 
 shared-slice-read-if3 : tie.Need-shared-slice-read-if3
@@ -33,7 +33,7 @@ no-word-requires-3 : tie.Need-no-word-requires-3
 no-word-requires-3 c κs = search needs
 
 returns-3 : tie.Need-returns-3
-unfolding nextOf
+unfolding nextWord
 returns-3 c = (search picks, none-inside _ _ (c .no-word3 .ensures))
 
 add-t5 : tie.Need-add-t5

@@ -6,7 +6,7 @@ use lib.ListN.{length, drop}
 use borrow.Author.Needs.{needs}
 use native.Mathlib.Nat.{mul-add}
 use Rattle.transcript.proofs.Laws.{frame-bytes, frame-next}
-use Rattle.transcript.specs.Answers.{frameOf, frameLine}
+use Rattle.transcript.specs.Answers.{frameEntry, frameLine}
 use Rattle.text.specs.Buffer.{appended, each}
 use Rattle.laws.proofs.Span.{upto-more, upto-none}
 use Rattle.laws.specs.Span.{upto}
@@ -17,7 +17,7 @@ use Rattle.transcript.proofs.burst.frames.Tie as tie
 abbrev Inv-loop : tie.InvT-loop
 Inv-loop t₀ n count size out f n₀ from₀ i₀ t n' from i =
     (i ≤ count) × (from ≤ length out) × (drop from out ≡ drop (size * i) out)
-    × Left (appended (n, t₀) (each (frameOf f size out) (upto 0 count))) (each (frameOf f size out) (upto i count)) (n', t)
+    × Left (appended (n, t₀) (each (frameEntry f size out) (upto 0 count))) (each (frameEntry f size out) (upto i count)) (n', t)
     × (length t ≡ length t₀)
 
 abbrev μ-loop : tie.MeasureT-loop
@@ -85,7 +85,7 @@ loop-again c = let q = c .before .before in
     let to = z .end-of .result in
     let v = p .loop .inv in
     let bytes = frame-bytes out from (a .size) (a .size * i) to (v .1) (v .2) (z .end-of .ensures) in
-    let turn = each-turn (frameOf (a .t3) (a .size) out) (upto-more i (a .count) (l .loop-test .taken)) (v .3) (by (told (by (q .frame .ensures)) (ap (frameLine _ _ _ _) bytes))) in (
+    let turn = each-turn (frameEntry (a .t3) (a .size) out) (upto-more i (a .count) (l .loop-test .taken)) (v .3) (by (told (by (q .frame .ensures)) (ap (frameLine _ _ _ _) bytes))) in (
       omega arith,
       omega (arith, z .end-of .ensures),
       frame-next out from (a .size) (a .size * i) to (v .1) (v .2) (z .end-of .ensures)
@@ -100,7 +100,7 @@ same-length c = c .before .loop .inv .4
 returns : tie.Need-returns Inv-loop μ-loop
 returns c = let p = c .before in
     let a = p .before .before .before .args in
-    each-end (frameOf (a .t3) (a .size) (a .out .now)) (upto-none (p .loop .i) (a .count) (c .loop-test .left)) (p .loop .inv .3)
+    each-end (frameEntry (a .t3) (a .size) (a .out .now)) (upto-none (p .loop .i) (a .count) (c .loop-test .left)) (p .loop .inv .3)
 
 pub frames-spec : {M : Type 1} → statement M
 frames-spec =

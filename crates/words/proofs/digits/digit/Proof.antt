@@ -1,23 +1,23 @@
 -- `digits::digit`: each range of characters. Assumes nothing.
 use borrow.Author.Needs.{needs}
 use Rattle.laws.proofs.Picks.{picks}
-use Rattle.words.specs.Words.{digit}
+use Rattle.words.specs.Words.{digitValue}
 use Rattle.words.proofs.digits.digit.Statement.{statement}
 use Rattle.words.proofs.digits.digit.Tie as tie
 
 returns : tie.Need-returns
-unfolding digit
+unfolding digitValue
 returns c = search picks
 
 wide-requires : tie.Need-wide-requires
 wide-requires c κs = search needs
 
 returns-2 : tie.Need-returns-2
-unfolding digit
+unfolding digitValue
 returns-2 c = search picks
 
 returns-3 : tie.Need-returns-3
-unfolding digit
+unfolding digitValue
 returns-3 c = search picks
 
 sub-wide : tie.Need-sub-wide
@@ -27,11 +27,11 @@ wide-requires-2 : tie.Need-wide-requires-2
 wide-requires-2 c κs = search needs
 
 returns-4 : tie.Need-returns-4
-unfolding digit
+unfolding digitValue
 returns-4 c = search picks
 
 returns-5 : tie.Need-returns-5
-unfolding digit
+unfolding digitValue
 returns-5 c = search picks
 
 pub digit-spec : {M : Type 1} → statement M

@@ -3,7 +3,7 @@ use Prim.Native.Nat.{_-_, _≤_}
 use mathlib.Core.Path.{_≡_, refl, sym, _∙_}
 use lib.ListN.{length, drop}
 use borrow.Author.Needs.{needs}
-use Rattle.words.specs.Words.{shifted, spelled, is}
+use Rattle.words.specs.Words.{oneDigitMore, spelled, is}
 use Rattle.words.proofs.Laws.{spelled-end, spelled-turn}
 use Rattle.words.proofs.digits.spell.Statement.{statement}
 use Rattle.words.proofs.digits.spell.Tie as tie

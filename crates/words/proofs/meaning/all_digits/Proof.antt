@@ -4,7 +4,7 @@ use mathlib.Core.Path.{_≡_, sym, _∙_}
 use native.Mathlib.Omega.{arith}
 use lib.ListN.{length, drop}
 use borrow.Author.Needs.{needs}
-use Rattle.words.specs.Words.{digit, digits}
+use Rattle.words.specs.Words.{digitValue, digits}
 use Rattle.words.proofs.Laws.{digits-pass, digits-fail, digits-end}
 use Rattle.words.proofs.meaning.all_digits.Statement.{statement}
 use Rattle.words.proofs.meaning.all_digits.Tie as tie

@@ -2,7 +2,7 @@
 use mathlib.Core.Path.{sym, _∙_}
 use borrow.Author.Needs.{needs}
 use Rattle.laws.proofs.Picks.{calls}
-use Rattle.words.specs.Words.{same, hexOf}
+use Rattle.words.specs.Words.{same, hexCount}
 use Rattle.words.proofs.Laws.{hex-pairs, hex-none}
 use Rattle.words.proofs.meaning.hex_count.Statement.{statement}
 use Rattle.words.proofs.meaning.hex_count.Tie as tie
@@ -17,7 +17,7 @@ number-requires : tie.Need-number-requires
 number-requires c κs = search needs
 
 returns : tie.Need-returns
-unfolding hexOf
+unfolding hexCount
 returns c = search calls
 
 all-digits-requires : tie.Need-all-digits-requires

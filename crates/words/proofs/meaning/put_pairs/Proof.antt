@@ -4,7 +4,7 @@ use mathlib.Core.Path.{_≡_, sym, ap, _∙_}
 use native.Mathlib.Omega.{arith}
 use lib.ListN.{length, take}
 use borrow.Author.Needs.{needs}
-use Rattle.words.specs.Words.{bytesOf}
+use Rattle.words.specs.Words.{pairBytes}
 use Rattle.words.proofs.Laws.{bytes-length, pairs-turn}
 use Rattle.laws.specs.Bytes.{overwrite}
 use Rattle.laws.proofs.Bytes.{over-nil, length-over}
@@ -13,7 +13,7 @@ use Rattle.words.proofs.meaning.put_pairs.Statement.{statement}
 use Rattle.words.proofs.meaning.put_pairs.Tie as tie
 
 abbrev Inv-loop : tie.InvT-loop
-Inv-loop w bytes₀ n k₀ bytes k = ((n ≡ length w / 2) × (k ≤ n)) × (bytes ≡ overwrite bytes₀ 0 (take k (bytesOf w)))
+Inv-loop w bytes₀ n k₀ bytes k = ((n ≡ length w / 2) × (k ≤ n)) × (bytes ≡ overwrite bytes₀ 0 (take k (pairBytes w)))
 
 abbrev μ-loop : tie.MeasureT-loop
 μ-loop w bytes₀ n k₀ bytes k = n - k
@@ -42,7 +42,7 @@ byte-requires c κs = search needs
 slice-write-bytes : tie.Need-slice-write-bytes Inv-loop μ-loop
 slice-write-bytes c = let e = ap length (c .before .before .before .before .loop .inv .1) ∙ length-over
     (c .before .before .before .before .before .before .before .args .bytes .now) 0
-    (take (c .before .before .before .before .loop .k) (bytesOf
+    (take (c .before .before .before .before .loop .k) (pairBytes
     (c .before .before .before .before .before .before .before .args .w .now))) in omega (
       arith,
       bytes-length (c .before .before .before .before .before .before .before .args .w .now),
@@ -68,7 +68,7 @@ same-length c = ap length (c .before .loop .inv .1) ∙ length-over _ _ _
 
 returns : tie.Need-returns Inv-loop μ-loop
 returns c = c .before .loop .inv .1 ∙ ap (overwrite _ 0) (take-all (c .before .loop .k)
-    (bytesOf (c .before .before .before .before .args .w .now))
+    (pairBytes (c .before .before .before .before .args .w .now))
     (omega (arith, bytes-length (c .before .before .before .before .args .w .now))))
 
 pub put-pairs-spec : {M : Type 1} → statement M

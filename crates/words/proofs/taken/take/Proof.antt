@@ -3,7 +3,7 @@ use mathlib.Core.Path.{_∙_}
 use borrow.Author.Needs.{needs}
 use borrow.Author.Tests.{le-leb}
 use Rattle.laws.proofs.Picks.{picks, or-left, or-right}
-use Rattle.words.specs.Lines.{takenOf, lineOf}
+use Rattle.words.specs.Lines.{oneTaken, lineTaken}
 use Rattle.words.proofs.Laws.{taken-ended, line-ended}
 use lib.Dec.{leb}
 use Rattle.words.proofs.taken.take.Statement.{statement}
@@ -43,7 +43,7 @@ stand-requires : tie.Need-stand-requires
 stand-requires c κs = search needs
 
 returns-3 : tie.Need-returns-3
-unfolding takenOf lineOf
+unfolding oneTaken lineTaken
 returns-3 c = search picks
 
 add-stand-2 : tie.Need-add-stand-2
@@ -53,7 +53,7 @@ stand-requires-2 : tie.Need-stand-requires-2
 stand-requires-2 c κs = search needs
 
 returns-4 : tie.Need-returns-4
-unfolding takenOf lineOf
+unfolding oneTaken lineTaken
 returns-4 c = search picks
 
 add-stand-3 : tie.Need-add-stand-3
@@ -63,7 +63,7 @@ stand-requires-3 : tie.Need-stand-requires-3
 stand-requires-3 c κs = search needs
 
 returns-5 : tie.Need-returns-5
-unfolding takenOf lineOf
+unfolding oneTaken lineTaken
 returns-5 c = search picks
 
 slice-write-line : tie.Need-slice-write-line
@@ -82,7 +82,7 @@ same-length : tie.Need-same-length
 same-length c = search needs
 
 returns-6 : tie.Need-returns-6
-unfolding takenOf lineOf
+unfolding oneTaken lineTaken
 returns-6 c = search picks
 
 pub take-spec : {M : Type 1} → statement M
