@@ -1,22 +1,19 @@
 // Reads a call list on standard input, makes its calls and writes the transcript on standard output (docs/CALLS.md).
+mod buffer;
 mod calls;
 mod held;
 mod profile;
-mod state;
-mod text;
 mod words;
 
+use buffer::flush;
+use buffer::least;
+use buffer::room;
 use calls::Run;
 use calls::failed;
 use profile::LINES;
 use profile::profile_line;
 use profile::profile_of;
 use sender::fresh;
-use state::tally;
-use text::flush;
-use text::least;
-use text::newline;
-use text::puts;
 use words::END;
 use words::Input;
 use words::WHOLE;
@@ -37,9 +34,7 @@ fn clear(area: &mut [u8]) {
 }
 
 fn end_line(run: Run, t: &mut [u8]) -> Run {
-    let n = puts(t, run.text, b"end");
-    let n = tally(t, n, run.s);
-    let n = newline(t, n);
+    let n = transcript::end(t, run.text, run.s);
     let mut after = run;
     after.text = n;
     after
@@ -187,13 +182,13 @@ fn line_step(
     if i.kind != WHOLE {
         return failed(run);
     }
-    step(&line[..len], run, area, out, t, bytes, v)
+    let mut before = run;
+    before.text = room(t, run.text);
+    step(&line[..len], before, area, out, t, bytes, v)
 }
 
 fn error_line(run: Run, n: u64, t: &mut [u8]) -> Run {
-    let k = puts(t, run.text, b"error");
-    let k = text::whole(t, k, n);
-    let k = newline(t, k);
+    let k = transcript::error(t, run.text, n);
     let mut after = run;
     after.text = k;
     after
@@ -299,7 +294,7 @@ fn main() {
     let mut chunk = io::large_buffer();
     let mut line = io::large_buffer();
     let mut area = io::large_buffer();
-    let mut text = io::large_buffer();
+    let mut text = [0u8; 131072];
     let mut out = [0u8; 32768];
     let mut bytes = [0u8; 32768];
     replay(

@@ -1,4 +1,4 @@
--- `text::least`: what it gives counts bytes at the slice's start. Assumes nothing.
+-- `buffer::least`: what it gives counts bytes at the slice's start. Assumes nothing.
 use mathlib.Core.Path.{_≡_, sym, refl}
 use Prim.Native.Nat.{ℕ, _≤_}
 use mathlib.Core.List.{List}
@@ -6,8 +6,8 @@ use native.Mathlib.Omega.{arith}
 use lib.ListN.{length}
 use lib.Seq.{length-take-le}
 use Rattle.io.specs.Counts.{Counts}
-use Rattle.replay.proofs.text.least.Statement.{statement}
-use Rattle.replay.proofs.text.least.Tie as tie
+use Rattle.replay.proofs.buffer.least.Statement.{statement}
+use Rattle.replay.proofs.buffer.least.Tie as tie
 
 counts : (n : ℕ) (l : List ℕ) → n ≤ length l → Counts n l
 counts n l h = (h, sym (length-take-le n l h))
