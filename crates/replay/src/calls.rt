@@ -1,4 +1,5 @@
 // The calls of a list and their answers (docs/CALLS.md, Calls).
+use crate::OUT_BYTES;
 use crate::buffer::least;
 use crate::held;
 use config::MaybeDb;
@@ -344,7 +345,7 @@ pub(crate) fn lend_area(line: &[u8], r: Read, run: Run, t: &mut [u8]) -> Run {
 
 pub(crate) fn lend_out(line: &[u8], r: Read, run: Run, t: &mut [u8]) -> Run {
     let q = whole(line, r);
-    if !done(line, q) | (q.value > 32768) {
+    if !done(line, q) | (q.value > OUT_BYTES as u64) {
         return failed(run);
     }
     let n = transcript::answer(t, run.text, b"out", 0);

@@ -10,6 +10,7 @@ use buffer::room;
 use calls::Run;
 use calls::failed;
 use input::next_line;
+use limits::AREA_BYTES;
 use profile_table::LINES;
 use profile_table::listed::profile_line;
 use profile_table::profile_of;
@@ -19,6 +20,9 @@ use words::done;
 use words::taken::END;
 use words::taken::WHOLE;
 use words::word;
+
+// Bytes of output that a profile lends.
+pub(crate) const OUT_BYTES: usize = 32768;
 
 // No whole profile was read yet: `stage` is past every stage.
 const NO_PROFILE: usize = 1000;
@@ -59,8 +63,8 @@ fn start(run: Run, area: &mut [u8], out: &mut [u8], v: &[u64; 147]) -> Run {
     after.stage = LINES;
     after.p = p;
     after.s = s;
-    after.area = 49152;
-    after.out = 32768;
+    after.area = AREA_BYTES;
+    after.out = OUT_BYTES;
     after
 }
 
@@ -294,7 +298,7 @@ fn main() {
     let mut line = io::large_buffer();
     let mut area = io::large_buffer();
     let mut text = [0u8; 131072];
-    let mut out = [0u8; 32768];
+    let mut out = [0u8; OUT_BYTES];
     let mut bytes = [0u8; 32768];
     replay(
         &mut chunk,

@@ -1,4 +1,5 @@
 // A burst's answer: its line, and a line for each frame.
+use limits::MAX_SLOTS;
 use outgoing::Frames;
 use outgoing::Outgoing;
 use text::flag;
@@ -8,6 +9,7 @@ use text::puts;
 ghost use mathlib.Core.Path.{_≡_};
 ghost use Prim.Native.Nat.{_+_, _≤_, min};
 ghost use Rattle.laws.specs.Span.{upto};
+ghost use Rattle.limits.specs.Limits.{maxSlots};
 ghost use Rattle.text.specs.Buffer.{appended, each};
 ghost use Rattle.transcript.specs.Answers.{burstLine, frameLine, frameEntry, burstLines};
 
@@ -51,7 +53,7 @@ fn end_of(from: usize, size: usize, len: usize) -> usize
 
 // The lines of the first `count` frames.
 fn frames(t: &mut [u8], n: usize, f: Frames, count: usize, size: usize, out: &[u8]) -> usize
-    requires { ⌜ count ≤ 64 ⌝ }
+    requires { ⌜ count ≤ maxSlots ⌝ }
     ensures { λ r. ⌜ (r, now (t .exit)) ≡ appended (n, now (t .entry)) (each (frameEntry f size (now (out .entry))) (upto 0 count)) ⌝ }
 {
     let mut n = n;
@@ -80,8 +82,8 @@ pub fn burst(t: &mut [u8], n: usize, b: Outgoing, size: usize, out: &[u8]) -> us
 {
     let f = b.frames;
     let n = line(t, n, b);
-    if f.n < 64 {
+    if f.n < MAX_SLOTS {
         return frames(t, n, f, f.n, size, out);
     }
-    frames(t, n, f, 64, size, out)
+    frames(t, n, f, MAX_SLOTS, size, out)
 }

@@ -1,5 +1,6 @@
 // The lines of `state` that are lists: pieces in flight, held pieces, and the outstanding burst.
 use byte_copy::load32;
+use limits::STREAM_BYTES;
 use record::AtPeer;
 use record::LastBurst;
 use text::after_colon;
@@ -39,7 +40,7 @@ fn row(t: &mut [u8], n: usize, area: &[u8], i: usize) -> usize
     requires { ⌜ place i + 8 ≤ length (now area) ⌝ }
     ensures { λ r. ⌜ (r, now (t .exit)) ≡ appended (n, now (t .entry)) (pieceWord (rowAt (now (area .entry)) i)) ⌝ }
 {
-    let at = 32768 + 8 * i;
+    let at = STREAM_BYTES + 8 * i;
     entry(t, n, load32(area, at), load32(area, at + 4))
 }
 
@@ -47,10 +48,10 @@ fn row(t: &mut [u8], n: usize, area: &[u8], i: usize) -> usize
 fn rows_in(area: &[u8]) -> usize
     ensures { λ r. ⌜ r ≡ rowsIn (now (area .entry)) ⌝ }
 {
-    if area.len() < 32768 {
+    if area.len() < STREAM_BYTES {
         return 0;
     }
-    (area.len() - 32768) / 8
+    (area.len() - STREAM_BYTES) / 8
 }
 
 fn rows(t: &mut [u8], n: usize, area: &[u8], count: usize) -> usize
