@@ -1,6 +1,5 @@
 // The calls of a list and their answers (call-list.md, Calls and their answers).
 use crate::held;
-use crate::profile::single_of;
 use crate::state::state;
 use crate::text::flag as put_flag;
 use crate::text::hex as put_hex;
@@ -9,15 +8,6 @@ use crate::text::newline;
 use crate::text::puts;
 use crate::text::whole as put_whole;
 use crate::text::wide;
-use crate::words::NONE;
-use crate::words::Read;
-use crate::words::done;
-use crate::words::double;
-use crate::words::flag;
-use crate::words::hex;
-use crate::words::none;
-use crate::words::single;
-use crate::words::whole;
 use config::MaybeDb;
 use config::Profile;
 use float_bits::of_bits64;
@@ -25,6 +15,7 @@ use numbered::Left;
 use numbered::LeftBurst;
 use outgoing::Frames;
 use outgoing::Outgoing;
+use profile_table::single_of;
 use record::Sender;
 use replies::Ack;
 use replies::ConnAck;
@@ -32,6 +23,14 @@ use replies::Heard;
 use replies::LongAck;
 use replies::Turn;
 use report::ChanClass;
+use words::Read;
+use words::done;
+use words::double;
+use words::flag;
+use words::hex;
+use words::none;
+use words::single;
+use words::whole;
 ghost use Prim.Native.Nat.{_≤_, _<_};
 
 // The run so far: the profile and the sender, what is lent of the work area and of the output, and what is used of the text's

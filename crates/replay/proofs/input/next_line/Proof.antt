@@ -1,10 +1,10 @@
--- `words::next_line` is safe: it stays within its arrays, and ends. Assumes nothing.
+-- `input::next_line` is safe: it stays within its arrays, and ends. Assumes nothing.
 use Prim.Native.Nat.{_-_, _≤_}
 use mathlib.Core.Path.{_≡_}
 use lib.ListN.{length}
 use borrow.Author.Needs.{needs}
-use Rattle.replay.proofs.words.next_line.Statement.{statement}
-use Rattle.replay.proofs.words.next_line.Tie as tie
+use Rattle.replay.proofs.input.next_line.Statement.{statement}
+use Rattle.replay.proofs.input.next_line.Tie as tie
 
 abbrev Inv-loop : tie.InvT-loop
 Inv-loop chunk₀ line₀ q₀ n₀ chunk line q n = (n ≤ 65537) × ((length chunk ≡ length chunk₀) × (length line ≡ length line₀))
