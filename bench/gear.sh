@@ -5,7 +5,7 @@ cd "$(dirname "$0")/.."
 rt staticlib bench_gear > /dev/null
 "${CC:-cc}" -O3 -o target/bench_gear bench/gear.c target/staticlib/libbench_gear.a
 rust=
-if command -v cargo > /dev/null 2>&1 && [ -d "${ION_HF_SRC:-../shared/docs/src}/crates/ion/src" ]; then
+if command -v cargo > /dev/null 2>&1 && oracle/where > /dev/null 2>&1; then
     rust=$(oracle/run bench)
 fi
 # shellcheck disable=SC2086

@@ -3,7 +3,7 @@
 # VANITYCROW_LIB names a folder with libstation.a, where it is not to be built.
 set -eu
 cd "$(dirname "$0")/.."
-if ! command -v cargo > /dev/null 2>&1 || [ ! -d "${ION_HF_SRC:-../shared/docs/src}/crates/ion/src" ]; then
+if ! command -v cargo > /dev/null 2>&1 || ! oracle/where > /dev/null 2>&1; then
     echo "the sender is not timed beside the original: cargo or the original's sources are not at hand"
     exit 0
 fi

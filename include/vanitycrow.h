@@ -17,6 +17,12 @@
 extern "C" {
 #endif
 
+/* The version of this interface (CHANGELOG.md). */
+#define VANITYCROW_VERSION "0.1.0"
+#define VANITYCROW_VERSION_MAJOR 0
+#define VANITYCROW_VERSION_MINOR 1
+#define VANITYCROW_VERSION_PATCH 0
+
 #define VANITYCROW_AREA_BYTES 49152
 #define VANITYCROW_LEVELS 17 /* 0 (the slowest) to 16 */
 #define VANITYCROW_WAVES 6   /* 0 to 5, by rank */

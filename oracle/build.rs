@@ -1,5 +1,5 @@
-//! Takes the six files of the original as they are from ION_HF_SRC, or from
-//! `../shared/docs/src` beside the repository, and writes the `mod` lines that
+//! Takes the six files of the original as they are from ION_HF_SRC, or from a
+//! checkout of ion-hf beside the repository, and writes the `mod` lines that
 //! compile them.
 
 use std::path::PathBuf;
@@ -64,7 +64,7 @@ fn main() {
     let out = PathBuf::from(env::var("OUT_DIR").unwrap());
     let root = match env::var("ION_HF_SRC") {
         Ok(v) if !v.is_empty() => PathBuf::from(v),
-        _ => here.join("../../shared/docs/src"),
+        _ => here.join("../../ion-hf"),
     };
     let read = |file: &str| {
         let from = root.join(file);
@@ -72,7 +72,7 @@ fn main() {
         fs::read(&from).unwrap_or_else(|e| {
             fail(format!(
                 "The original's sources are not at hand: {}: {e}.\n\
-                 Put them at ../shared/docs/src beside the repository, or let ION_HF_SRC name the folder\n\
+                 Check out ion-hf (at 1eb7dca018) beside the repository, or let ION_HF_SRC name the folder\n\
                  that holds crates/ion/src.",
                 from.display()
             ))

@@ -2,7 +2,7 @@
 # edited scratch copy of the original, in a temporary folder.
 set -eu
 here=$(cd "$(dirname "$0")" && pwd)
-from=${ION_HF_SRC:-$here/../../shared/docs/src}
+from=$("$here/where")
 scratch=$(mktemp -d)
 trap 'rm -rf "$scratch"' EXIT
 trap 'exit 1' INT TERM

@@ -31,7 +31,7 @@ local, by number, then what lies behind each `&mut` parameter; they are printed 
   turns E V inv (test) (calls of a turn) : Inv E V′ × (measure E V′ < measure E V),
   ends E V inv (test failed) (calls after) : the ensured fact, if there is one
 
-The laws that every such proof cites are in the crate `walks` (--laws), which CRATE has to name in crates.txt.
+The laws that every such proof cites are in the crate `ref_laws` (--laws), which CRATE has to name in crates.txt.
 """
 import os, re, subprocess, sys
 
@@ -1011,7 +1011,7 @@ def printed(words):                             # the file that these words prin
     def opt(n, d=None):
         if n not in a: return d
         i = a.index(n); a.pop(i); return a.pop(i)
-    by, loop, laws = opt('--by'), opt('--loop'), opt('--laws', 'walks')
+    by, loop, laws = opt('--by'), opt('--loop'), opt('--laws', 'ref_laws')
     if len(a) != 2: sys.exit(__doc__)
     c = Compiler(a[0], a[1], laws, by, loop)
     c.words = ' '.join(words)

@@ -1,7 +1,7 @@
 //! Tests of the whole: the sources compiled, the refusals, the transcript.
 
 use std::fs;
-use std::path::{Path, PathBuf};
+use std::path::Path;
 
 use crate::generate;
 use crate::harness::{Answer, Harness};
@@ -117,17 +117,12 @@ fn compiled_is_the_original() {
     }
 }
 
-fn examples() -> PathBuf {
-    Path::new(env!("CARGO_MANIFEST_DIR")).join("../../shared/examples")
-}
-
+/// The example that README.md runs.
 #[test]
-fn the_first_example() {
-    let Ok(list) = fs::read(examples().join("first.calls")) else {
-        eprintln!("the examples are not at hand");
-        return;
-    };
-    let want = fs::read_to_string(examples().join("first.transcript")).unwrap();
+fn the_mail() {
+    let examples = Path::new(env!("CARGO_MANIFEST_DIR")).join("../examples");
+    let list = fs::read(examples.join("mail.calls")).unwrap();
+    let want = fs::read_to_string(examples.join("mail.transcript")).unwrap();
     assert_eq!(transcript(&list), want);
 }
 

@@ -10,6 +10,8 @@ pub use raw::{
     MaybeLevel, Outgoing, Profile, Reports, Sender, Tries, Turn,
 };
 
+/// The version of this interface, that of include/vanitycrow.h.
+pub const VERSION: &str = env!("CARGO_PKG_VERSION");
 /// Bytes of a work area.
 pub const AREA_BYTES: usize = 49152;
 /// Most frames of a burst.

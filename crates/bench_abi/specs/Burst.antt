@@ -1,4 +1,4 @@
--- Frames of one payload, one after the other. Definitions only.
+-- Frames of one payload, one after the other. Follows the code or serves proofs: nothing here has to be believed.
 use mathlib.Core.List.{List}
 use Prim.Native.Nat.{ℕ, _*_}
 use lib.ListN.{length}
@@ -10,5 +10,5 @@ use Rattle.frame.specs.Frame.{frameOf}
 abbrev pub frameAt : ℕ → List ℕ → ℕ → List ℕ → List ℕ
 frameAt size payload i out = overwrite out (i * size) (frameOf size (i * length payload) payload)
 
-unfoldable pub framesOf : List ℕ → ℕ → ℕ → List ℕ → List ℕ
-framesOf out count size payload = steps (frameAt size payload) count out
+unfoldable pub benchFrames : List ℕ → ℕ → ℕ → List ℕ → List ℕ
+benchFrames out count size payload = steps (frameAt size payload) count out

@@ -3,24 +3,24 @@ use frame::encode;
 ghost use mathlib.Core.Path.{_≡_};
 ghost use Prim.Native.Nat.{_*_, _≤_};
 ghost use lib.ListN.{length};
-ghost use Rattle.crc.specs.Crc.{crc32 as crc32Of};
+ghost use Rattle.frame.specs.Crc.{crc32 as crc32Of};
 ghost use Rattle.frame.specs.Frame.{maxPayload};
-ghost use Rattle.bench_abi.specs.Burst.{framesOf};
+ghost use Rattle.bench_abi.specs.Burst.{benchFrames};
 
 #[no_mangle]
 pub extern "C" fn vanitycrow_crc32(bytes: &[u8]) -> u32
     ensures { λ r. ⌜ r ≡ crc32Of (now (bytes .entry)) ⌝ }
 {
-    crc::crc32(bytes)
+    frame::crc::crc32(bytes)
 }
 
 // Frames of one payload, one after the other.
 #[no_mangle]
 pub extern "C" fn vanitycrow_frames(out: &mut [u8], count: usize, size: usize, payload: &[u8])
     requires { ⌜ (count ≤ 64) × (10 ≤ size) × (count * size ≤ length (now out)) × (length (now payload) ≤ maxPayload size) ⌝ }
-    ensures { λ _. ⌜ now (out .exit) ≡ framesOf (now (out .entry)) count size (now (payload .entry)) ⌝ }
+    ensures { λ _. ⌜ now (out .exit) ≡ benchFrames (now (out .entry)) count size (now (payload .entry)) ⌝ }
 {
-    let t = crc::table();
+    let t = frame::crc::table();
     let n = payload.len();
     let mut i = 0;
     while i < count {

@@ -1,22 +1,21 @@
 // What bench/area.c measures of the work area, as functions for C: a slice is a pointer and a length.
-use flight::mark;
-use flight::remove_pieces;
-use flying::all_flying;
-use merging::merge_table;
-use sound::held_bits_ok;
-use sound::sent_bits_ok;
-use sound::table_ok;
+use area::merging::merge_table;
+use area::removal::HASHES;
+use area::removal::hash;
+use area::removal::remove_pieces;
+use area_check::flying::all_flying;
+use area_check::rows::held_bits_ok;
+use area_check::rows::sent_bits_ok;
+use area_check::rows::table_ok;
 ghost use mathlib.Core.Path.{_≡_};
 ghost use Prim.Native.Nat.{_≤_};
 ghost use lib.ListN.{length};
-ghost use Rattle.ledger.specs.Limits.{maxPieces, maxPayload};
-ghost use Rattle.table.specs.Layout.{areaBytes, streamBytes};
-ghost use Rattle.table.specs.Table.{rowsFrom, total};
-ghost use Rattle.flight.specs.Flight.{removedPieces};
-ghost use Rattle.recut.specs.Recut.{mergeTable};
+ghost use Rattle.area.specs.Layout.{areaBytes, streamBytes};
+ghost use Rattle.area.specs.Table.{rowsFrom, total};
+ghost use Rattle.area.specs.Removal.{removedPieces};
+ghost use Rattle.area.specs.Recut.{mergeTable};
 ghost use Rattle.bench_area.specs.Checked.{checked};
-
-const MARKS: usize = 2048;
+ghost use Rattle.limits.specs.Limits.{maxPieces, longestPayload};
 
 // The sound record's tests of the table and of the lists.
 #[no_mangle]
@@ -34,7 +33,7 @@ pub extern "C" fn vanitycrow_sound(
     bits: &[u32],
     sent_held: &[u32],
 ) -> bool
-    requires { ⌜ (n ≤ maxPieces) × (areaBytes ≤ length (now a)) × (1 ≤ short) × (short ≤ maxPayload) × (length (now bits) ≡ length (now «sent_held»)) ⌝ }
+    requires { ⌜ (n ≤ maxPieces) × (areaBytes ≤ length (now a)) × (1 ≤ short) × (short ≤ longestPayload) × (length (now bits) ≡ length (now «sent_held»)) ⌝ }
     ensures { λ r. ⌜ r ≡ checked short long next flying (rowsFrom (now (a .entry)) 0 n) (now (held .entry)) (now («held_bits» .entry)) top (now (sent .entry)) (now (bits .entry)) (now («sent_held» .entry)) ⌝ }
 {
     if !table_ok(a, n, short, long, next, flying) {
@@ -49,25 +48,25 @@ pub extern "C" fn vanitycrow_sound(
     held_bits_ok(held_bits, top) & sent_bits_ok(bits, sent_held)
 }
 
-// Marks the held pieces and joins the others, and returns how many rows there are then.
+// Hashes the held pieces and joins the others, and returns how many rows there are then.
 #[no_mangle]
 pub extern "C" fn vanitycrow_merge(a: &mut [u8], n: usize, max: u32, held: &[u32]) -> usize
     requires { ⌜ (n ≤ maxPieces) × (areaBytes ≤ length (now a)) ⌝ }
     ensures { λ r. ⌜ (r, now (a .exit)) ≡ mergeTable (now (held .entry)) max n (now (a .entry)) ⌝ }
 {
-    let mut marks = [0; MARKS];
-    mark(&mut marks, held);
-    merge_table(a, n, max, &marks, held)
+    let mut hashes = [0; HASHES];
+    hash(&mut hashes, held);
+    merge_table(a, n, max, &hashes, held)
 }
 
-// Marks the settled pieces and takes them out, and returns how many rows stay.
+// Hashes the settled pieces and takes them out, and returns how many rows stay.
 #[no_mangle]
 pub extern "C" fn vanitycrow_remove(a: &mut [u8], n: usize, used: usize, gone: &[u32]) -> usize
     requires { ⌜ (n ≤ maxPieces) × (areaBytes ≤ length (now a)) × (used ≤ streamBytes) × (total (rowsFrom (now a) 0 n) ≤ used) ⌝ }
     ensures { λ r. ⌜ (r ≡ removedPieces (now (gone .entry)) n used (now (a .entry)) .0 .rows) × (now (a .exit) ≡ removedPieces (now (gone .entry)) n used (now (a .entry)) .1) ⌝ }
 {
-    let mut marks = [0; MARKS];
-    mark(&mut marks, gone);
-    let k = remove_pieces(a, n, used, &marks, gone);
+    let mut hashes = [0; HASHES];
+    hash(&mut hashes, gone);
+    let k = remove_pieces(a, n, used, &hashes, gone);
     k.rows
 }

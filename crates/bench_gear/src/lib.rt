@@ -1,12 +1,11 @@
 // What bench/ measures of the gear, as a function for C.
 use config::MaybeDb;
 use defaults::new_profile;
+use gear::Gear;
 use gear::Outcome;
-use gear::on_ack;
-use goodput::Gear;
-use ladder::Holds;
-use memory::Reports;
-use memory::Tries;
+use levels::memory::Reports;
+use levels::memory::Tries;
+use levels::usable::Holds;
 use report::ChanClass;
 ghost use mathlib.Core.Path.{_≡_};
 ghost use Rattle.bench_gear.specs.Acks.{tried, acks};
@@ -69,7 +68,7 @@ pub extern "C" fn vanitycrow_acks(n: u64, snr_db: f32, now: f64) -> usize
     let mut g = tried();
     let mut i = 0;
     while i < n {
-        g = on_ack(g, cfg, burst, snr_db, now);
+        g = g.on_ack(cfg, burst, snr_db, now);
         i += 1;
     }
     g.level

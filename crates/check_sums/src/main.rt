@@ -1,16 +1,16 @@
-// Check sums of frames, reckoned bit by bit by V.42's rule (8.1.1.6.2), against those of crc and those that frame writes.
+// Check sums of frames, reckoned bit by bit by V.42's rule (8.1.1.6.2), against those that frame reckons and writes.
 // The rule: the ones complement of the sum modulo 2 of the remainders of x^k (x^31 + .. + 1), k the number of bits, and of x^32 times the
 // bits, divided by the generator. A polynomial is an array of coefficients, 0 or 1, the highest power's first.
 // The values in the file stdout were reckoned apart from this program, by the function crc32 of Python's zlib, from frames laid out there anew.
+use byte_copy::load32;
 use frame::encode;
 use io::print_hex;
 use io::write_all;
 use libc::STDOUT_FILENO;
-use moves::load32;
 ghost use mathlib.Core.Path.{_≡_};
 ghost use Prim.Native.Nat.{_+_, _*_, _≤_, _<_};
 ghost use lib.ListN.{length};
-ghost use Rattle.crc.specs.Table.{tableOf};
+ghost use Rattle.frame.specs.Table.{tableOf};
 ghost use Rattle.frame.specs.Frame.{maxPayload};
 
 // x^32 + x^26 + x^23 + x^22 + x^16 + x^12 + x^11 + x^10 + x^8 + x^7 + x^5 + x^4 + x^2 + x + 1, from x^31 down.
@@ -162,7 +162,7 @@ fn print_sums(name: &[u8], frame: &[u8])
     let end = frame.len() - 4;
     let body = &frame[..end];
     print(name, by_rule(body));
-    print(b", crc32 ", crc::crc32(body));
+    print(b", crc32 ", frame::crc::crc32(body));
     print(b", in the frame ", load32(frame, end));
     write_all(STDOUT_FILENO, b"\n");
 }
@@ -226,8 +226,8 @@ fn frame_cases(t: &[u32; 256])
 
 fn main() {
     print(b"123456789: by the rule ", by_rule(b"123456789"));
-    print(b", crc32 ", crc::crc32(b"123456789"));
+    print(b", crc32 ", frame::crc::crc32(b"123456789"));
     write_all(STDOUT_FILENO, b"\n");
-    let t = crc::table();
+    let t = frame::crc::table();
     frame_cases(&t);
 }

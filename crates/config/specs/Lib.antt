@@ -1,2 +1,4 @@
 pub mod Durations
 pub mod Entries
+pub mod Ranges
+pub mod Ranged

@@ -9,41 +9,43 @@ use native.Mathlib.Omega.{arith}
 use lib.Dec.{leb, eqb}
 use lib.ListN.{length, getD, replicate, length-replicate}
 use borrow.Author.Tests.{leb-true, leb-false}
-use Rattle.laws.proofs.Little.{Bytes}
 use Rattle.laws.proofs.Picks.{test, and-yes, and-first, and-second}
 use Rattle.laws.proofs.Tests.{all-at}
 use Rattle.config.specs.declared.Profile.{Profile}
-use Rattle.limits.specs.Ranged.{Ranged}
-use Rattle.limits.specs.Ranges.{inRange, inOrder}
-use Rattle.limits.proofs.Ranged.{ranged}
-use Rattle.ledger.specs.Limits.{Sizes, SizeRange, minPayload}
+use Rattle.config.specs.Ranged.{Ranged}
+use Rattle.config.specs.Ranges.{inRange, inOrder}
+use Rattle.config.proofs.ranges.Ranged.{ranged}
 use Rattle.ledger.specs.Ledger as L
-use Rattle.ledger.specs.Calls.{Along, run, history, tally, idle}
+use Rattle.ledger.specs.Calls.{Along, run, history, tally}
 use Rattle.ledger.specs.Claim.{Demand3}
 use Rattle.ledger.specs.Tally as T
 use Rattle.ledger.specs.Tally.{silent}
 use Rattle.ledger.proofs.Refine.{Refines, refined, ok-after}
-use Rattle.table.specs.Layout.{areaBytes}
+use Rattle.area.specs.Layout.{areaBytes}
 use Rattle.record.specs.Fresh.{fresh}
 use Rattle.record.specs.Profiles.{sizesOf}
 use Rattle.record.proofs.View.{view-fresh}
-use Rattle.checks.specs.Checked.{soundOk}
-use Rattle.checks.proofs.Sound.{sound-test, profile-sizes}
-use Rattle.laws.specs.Bytes.{overwrite}
+use Rattle.soundness.specs.Soundness.{soundOk}
+use Rattle.soundness.proofs.fields.Sound.{sound-test, profile-sizes}
+use Rattle.laws.specs.Bytes.{overwrite, Bytes}
 use Rattle.config.specs.Durations.{frameBytes}
 use Rattle.pieces.specs.Burst.{framesSent}
 use Rattle.outgoing.specs.Outgoing.{burstOf, output}
 use Rattle.sender.specs.declared.Bursted.{Bursted}
-use Rattle.keeping.proofs.Well.{Well, fresh-well}
-use Rattle.keeping.proofs.Bursts.{choice-keeps-air}
+use Rattle.invariant.proofs.Well.{Well, fresh-well}
+use Rattle.invariant.proofs.Bursts.{choice-keeps-air}
 use Rattle.refusals.specs.declared.Verdict.{Verdict}
 use Rattle.refusals.specs.Refusals.{kindOf}
 use Rattle.verdicts.specs.Verdicts.{passed, standing, firstOf, queueVerdict, receiveVerdict, burstVerdict}
 use Rattle.verdicts.proofs.Passed.{standing-three, burst-passed}
-use Rattle.demand.specs.Lists.{Call, queues, hears, bursts, State, Given, start, shown, next, told, sizesFor}
+use Rattle.demand.specs.Lists.{Call, queues, hears, bursts, State, Given, freshStart, shown, next, told, sizesFor}
 use Rattle.demand.specs.Claim.{reached, Demand}
 use Rattle.demand.proofs.Answers.{queue-no, queue-told, hear-no, hear-told, burst-no, burst-silent, burst-is}
 use Rattle.demand.proofs.Steps.{sizes, Ok, call, does, does-burst}
+use Rattle.limits.specs.Limits.{minPayload}
+use Rattle.ledger.specs.Sizes.{Sizes}
+use Rattle.ledger.specs.CallsCode.{idle}
+use Rattle.ledger.specs.SizesCode.{SizeRange}
 
 zeros-bytes : (n : ℕ) → Bytes (replicate n 0)
 zeros-bytes zero i = omega arith
@@ -62,17 +64,17 @@ module _ (p : Profile) (rg : Ranged p) (io : inOrder p ≡ true) (six : length (
         keeps = λ i c g so ok. does p rg io six i c g ok .keeps;
       }
 
-  module _ (n : ℕ) (large : areaBytes ≤ n) (is : List Call) (gs : Along (next p) Given is (start n)) where
+  module _ (n : ℕ) (large : areaBytes ≤ n) (is : List Call) (gs : Along (next p) Given is (freshStart n)) where
     fresh-ok : Well p fresh (replicate n 0)
     fresh-ok = fresh-well p (replicate n 0) (zeros-bytes n) (omega (arith, length-replicate {A = ℕ} n 0))
 
     through : (i : Call) → Given i (reached p n is)
-        → Demand3 (sizesOf p) (history (next p) (told p) is (start n)) (shown (reached p n is)) (tally (next p) (told p) is (start n) T.start) (told p i (reached p n is)) (shown (next p i (reached p n is)))
+        → Demand3 (sizesOf p) (history (next p) (told p) is (freshStart n)) (shown (reached p n is)) (tally (next p) (told p) is (freshStart n) T.start) (told p i (reached p n is)) (shown (next p i (reached p n is)))
     through i g =
-        refined (sizesOf p) (sizes p rg io six) State Call Given (Ok p rg io six) (next p) shown (call p rg io six) (told p) refines (start n) (view-fresh (replicate n 0)) fresh-ok is gs i g
+        refined (sizesOf p) (sizes p rg io six) State Call Given (Ok p rg io six) (next p) shown (call p rg io six) (told p) refines (freshStart n) (view-fresh (replicate n 0)) fresh-ok is gs i g
 
     well : Well p (reached p n is .0) (reached p n is .1)
-    well = ok-after (sizesOf p) (sizes p rg io six) State Call Given (Ok p rg io six) (next p) shown (call p rg io six) (told p) refines (start n) (view-fresh (replicate n 0)) fresh-ok is gs
+    well = ok-after (sizesOf p) (sizes p rg io six) State Call Given (Ok p rg io six) (next p) shown (call p rg io six) (told p) refines (freshStart n) (view-fresh (replicate n 0)) fresh-ok is gs
 
 -- ---- every call is refused
 
@@ -80,20 +82,20 @@ first-no : (v w : Verdict) → passed v ≡ false → passed (firstOf v w) ≡ f
 first-no v w e = ap (λ (t : Bool). passed (cond t w v)) e ∙ e
 
 module _ (p : Profile) (n : ℕ) (refused : (connect : Bool) → passed (standing p fresh (replicate n 0) connect) ≡ false) where
-  stays : (i : Call) → (next p i (start n) ≡ start n) × (told p i (start n) ≡ silent)
+  stays : (i : Call) → (next p i (freshStart n) ≡ freshStart n) × (told p i (freshStart n) ≡ silent)
   unfolding queueVerdict receiveVerdict burstVerdict
   stays (queues bs) =
       let e = first-no (standing p fresh (replicate n 0) false) _ (refused false) in
-      (queue-no p (start n) bs e, queue-told p (start n) bs false e)
+      (queue-no p (freshStart n) bs e, queue-told p (freshStart n) bs false e)
   stays (hears h r b) =
       let e = first-no (standing p fresh (replicate n 0) (eqb (kindOf r) 0)) _ (refused (eqb (kindOf r) 0)) in
-      (hear-no p (start n) h r b e, hear-told p (start n) h r b false e)
+      (hear-no p (freshStart n) h r b e, hear-told p (freshStart n) h r b false e)
   stays (bursts out) =
       let e = first-no (standing p fresh (replicate n 0) false) _ (refused false) in
-      (burst-no p (start n) out e, burst-silent p (start n) out e)
+      (burst-no p (freshStart n) out e, burst-silent p (freshStart n) out e)
 
   module _ (z : Sizes) (zr : SizeRange z) where
-    idles : Refines z zr State Call Given (λ (c : State). c ≡ start n) (next p) shown (λ (i : Call) (c : State). idle) (told p)
+    idles : Refines z zr State Call Given (λ (c : State). c ≡ freshStart n) (next p) shown (λ (i : Call) (c : State). idle) (told p)
     idles =
         record {
           allowed = λ i c g so e. tt;
@@ -102,14 +104,14 @@ module _ (p : Profile) (n : ℕ) (refused : (connect : Bool) → passed (standin
           keeps = λ i c g so e. ap (next p i) e ∙ stays i .0;
         }
 
-    module _ (is : List Call) (gs : Along (next p) Given is (start n)) where
+    module _ (is : List Call) (gs : Along (next p) Given is (freshStart n)) where
       refused-all : (i : Call) → Given i (reached p n is)
-          → Demand3 z (history (next p) (told p) is (start n)) (shown (reached p n is)) (tally (next p) (told p) is (start n) T.start) (told p i (reached p n is)) (shown (next p i (reached p n is)))
+          → Demand3 z (history (next p) (told p) is (freshStart n)) (shown (reached p n is)) (tally (next p) (told p) is (freshStart n) T.start) (told p i (reached p n is)) (shown (next p i (reached p n is)))
       refused-all i g =
-          refined z zr State Call Given (λ (c : State). c ≡ start n) (next p) shown (λ (j : Call) (c : State). idle) (told p) idles (start n) (view-fresh (replicate n 0)) refl is gs i g
+          refined z zr State Call Given (λ (c : State). c ≡ freshStart n) (next p) shown (λ (j : Call) (c : State). idle) (told p) idles (freshStart n) (view-fresh (replicate n 0)) refl is gs i g
 
-      at-start : reached p n is ≡ start n
-      at-start = ok-after z zr State Call Given (λ (c : State). c ≡ start n) (next p) shown (λ (j : Call) (c : State). idle) (told p) idles (start n) (view-fresh (replicate n 0)) refl is gs
+      at-start : reached p n is ≡ freshStart n
+      at-start = ok-after z zr State Call Given (λ (c : State). c ≡ freshStart n) (next p) shown (λ (j : Call) (c : State). idle) (told p) idles (freshStart n) (view-fresh (replicate n 0)) refl is gs
 
 -- a call that stands finds a profile that is not refused, and a work area that is large enough
 stands-finds : (p : Profile) (n : ℕ) (connect : Bool) → passed (standing p fresh (replicate n 0) connect) ≡ true → ((inRange p && inOrder p) ≡ true) × (areaBytes ≤ n)
@@ -129,12 +131,12 @@ refused-by p n f connect =
 least-sizes : SizeRange (record { short = minPayload; long = minPayload; top = 0 })
 least-sizes = record { least = omega arith; order = omega arith; most = omega arith; bits = omega arith }
 
-module _ (p : Profile) (six : length (p .codes .ends) ≤ 6) (n : ℕ) (is : List Call) (gs : Along (next p) Given is (start n)) where
+module _ (p : Profile) (six : length (p .codes .ends) ≤ 6) (n : ℕ) (is : List Call) (gs : Along (next p) Given is (freshStart n)) where
   abbrev c : State
   c = reached p n is
 
   abbrev Claimed : Sizes → Call → Type 0
-  Claimed z i = Demand3 z (history (next p) (told p) is (start n)) (shown c) (tally (next p) (told p) is (start n) T.start) (told p i c) (shown (next p i c))
+  Claimed z i = Demand3 z (history (next p) (told p) is (freshStart n)) (shown c) (tally (next p) (told p) is (freshStart n) T.start) (told p i c) (shown (next p i c))
 
   sizes-for : (b : Bool) → (inRange p && inOrder p) ≡ b → sizesFor p ≡ cond b (sizesOf p) (record { short = minPayload; long = minPayload; top = 0 })
   sizes-for b e = ap (λ (t : Bool). cond t (sizesOf p) (record { short = minPayload; long = minPayload; top = 0 })) e

@@ -11,7 +11,7 @@ use lib.Ieee.{Float, nan, inf, fin, binary64, up, down, le, lt, neg, add, sub, m
 use lib.Ieee.Fits.{down-pos}
 use lib.Ieee.Bits.{is-true, is-false}
 use Rattle.ieee.specs.Range.{In, w64}
-use Rattle.exp.specs.Exp.{shifted, within, horner, E}
+use Rattle.exp.specs.Exp.{shifted, inRangeE, horner, E}
 use Rattle.ieee.proofs.Value.{le→Le}
 use Rattle.ieee.proofs.Mono.{mul-mono-left}
 use Rattle.ieee.proofs.Bounds.{in-finite, add-in, sub-in, in-wider}
@@ -84,19 +84,19 @@ shifted-in x i = go (lt x (w64 0))
 -- ---- the cases of `E`
 pub E-low : (x : Float) → T (lt x (neg (w64 708))) → w64 0 ≡ E x
 unfolding E
-E-low x h = sym (ap (λ (b : Bool). cond b (w64 0) (cond (lt (w64 709) x) (inf false) (within x))) (is-true (lt x (neg (w64 708))) h))
+E-low x h = sym (ap (λ (b : Bool). cond b (w64 0) (cond (lt (w64 709) x) (inf false) (inRangeE x))) (is-true (lt x (neg (w64 708))) h))
 
 pub E-high : (x : Float) → T (not (lt x (neg (w64 708)))) → T (lt (w64 709) x) → inf false ≡ E x
 unfolding E
 E-high x h k =
-    sym (ap (λ (b : Bool). cond b (w64 0) (cond (lt (w64 709) x) (inf false) (within x))) (is-false (lt x (neg (w64 708))) h)
-    ∙ ap (λ (b : Bool). cond b (inf false) (within x)) (is-true (lt (w64 709) x) k))
+    sym (ap (λ (b : Bool). cond b (w64 0) (cond (lt (w64 709) x) (inf false) (inRangeE x))) (is-false (lt x (neg (w64 708))) h)
+    ∙ ap (λ (b : Bool). cond b (inf false) (inRangeE x)) (is-true (lt (w64 709) x) k))
 
-pub E-within : (x : Float) → T (not (lt x (neg (w64 708)))) → T (not (lt (w64 709) x)) → within x ≡ E x
+pub E-within : (x : Float) → T (not (lt x (neg (w64 708)))) → T (not (lt (w64 709) x)) → inRangeE x ≡ E x
 unfolding E
 E-within x h k =
-    sym (ap (λ (b : Bool). cond b (w64 0) (cond (lt (w64 709) x) (inf false) (within x))) (is-false (lt x (neg (w64 708))) h)
-    ∙ ap (λ (b : Bool). cond b (inf false) (within x)) (is-false (lt (w64 709) x) k))
+    sym (ap (λ (b : Bool). cond b (w64 0) (cond (lt (w64 709) x) (inf false) (inRangeE x))) (is-false (lt x (neg (w64 708))) h)
+    ∙ ap (λ (b : Bool). cond b (inf false) (inRangeE x)) (is-false (lt (w64 709) x) k))
 
 pub E-nan : (x : Float) → x ≡ nan → x ≡ E x
 E-nan x h = subst (λ (y : Float). y ≡ E y) (sym h) at-nan

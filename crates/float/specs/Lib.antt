@@ -1,2 +1,4 @@
 pub mod Pick
 pub mod Gear
+pub mod Floor
+pub mod Total

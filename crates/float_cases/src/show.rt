@@ -60,10 +60,10 @@ pub(crate) fn one64(x: f64) {
     io::write_all(1, b"one64");
     put64(x);
     put32(exp::narrow::narrowed(x));
-    put64(whole::floor64(x));
-    put(whole::cut64(x));
-    put(whole::count_of(x));
-    put(whole::to_millis(x));
+    put64(float::whole::floor64(x));
+    put(float::whole::cut64(x));
+    put(float::whole::count_of(x));
+    put(float::whole::to_millis(x));
     put64(exp::exp64(x));
     end();
 }
@@ -84,7 +84,7 @@ pub(crate) fn two64(x: f64, y: f64) {
     put64(y);
     put64(float::pick::min64(x, y));
     put64(float::pick::max64(x, y));
-    answer(order::total_le64(x, y));
+    answer(float::order::total_le64(x, y));
     end();
 }
 
@@ -95,7 +95,7 @@ pub(crate) fn two32(x: f32, y: f32) {
     put32(y);
     put32(float::pick::min32(x, y));
     put32(float::pick::max32(x, y));
-    answer(order::total_le32(x, y));
+    answer(float::order::total_le32(x, y));
     put32(float::gear::share(x, y));
     end();
 }
@@ -105,7 +105,7 @@ pub(crate) fn median(a: f32, b: f32, c: f32) {
     put32(a);
     put32(b);
     put32(c);
-    put32(order::median32(a, b, c));
+    put32(float::order::median32(a, b, c));
     end();
 }
 
@@ -152,6 +152,6 @@ pub(crate) fn sum(a: u64, b: u64) {
     io::write_all(1, b"sum");
     put(a);
     put(b);
-    put(whole::capped_add(a, b));
+    put(float::whole::capped_add(a, b));
     end();
 }

@@ -9,7 +9,7 @@ use lib.ListN.{length, replicate, length-append, length-replicate}
 use Rattle.laws.specs.Bytes.{overwrite, part}
 use Rattle.laws.proofs.Bytes.{over-cat, part-same}
 use Rattle.laws.specs.Little.{le}
-use Rattle.crc.specs.Crc.{crc32}
+use Rattle.frame.specs.Crc.{crc32}
 use Rattle.frame.specs.Frame.{maxPayload, headOf, bodyOf, frameOf}
 
 -- a payload that is no longer than the most

@@ -3,11 +3,12 @@ use mathlib.Core.List.{List, [], _∷_, _++_}
 use Prim.Native.Nat.{ℕ, _-_, min}
 use lib.ListN.{length, replicate}
 use Rattle.laws.specs.Little.{le}
-use Rattle.crc.specs.Crc.{crc32}
+use Rattle.limits.specs.Limits.{longestPayload}
+use Rattle.frame.specs.Crc.{crc32}
 
 -- Frame::max_payload: min(size - 10, 255)
 abbrev pub maxPayload : ℕ → ℕ
-maxPayload size = min (size - 10) 255
+maxPayload size = min (size - 10) longestPayload
 
 -- kind 3, flags 0, the offset's low 24 bits low byte first, length
 abbrev pub headOf : ℕ → ℕ → List ℕ

@@ -1,14 +1,17 @@
 // frame.rs: a data frame is written.
-use crc::crc32_by;
-use moves::copy_in;
-use moves::fill;
-use moves::store32;
+use crate::crc::crc32_by;
+use byte_copy::copy_in;
+use byte_copy::fill;
+use byte_copy::store32;
+use limits::MAX_PAYLOAD;
 ghost use mathlib.Core.Path.{_≡_};
 ghost use Prim.Native.Nat.{_+_, _≤_, _<_};
 ghost use lib.ListN.{length};
 ghost use Rattle.laws.specs.Bytes.{overwrite};
-ghost use Rattle.crc.specs.Table.{tableOf};
+ghost use Rattle.frame.specs.Table.{tableOf};
 ghost use Rattle.frame.specs.Frame.{maxPayload, headOf, frameOf};
+
+pub mod crc;
 
 // The most payload bytes of a frame.
 pub fn max_payload(size: usize) -> usize
@@ -16,7 +19,10 @@ pub fn max_payload(size: usize) -> usize
     ensures { λ r. ⌜ r ≡ maxPayload size ⌝ }
 {
     let room = size - 10;
-    if room < 255 { room } else { 255 }
+    if room < MAX_PAYLOAD {
+        return room;
+    }
+    MAX_PAYLOAD
 }
 
 // The six bytes before a payload of n bytes.

@@ -5,39 +5,39 @@ use lib.ListN.{getD}
 use lib.Dec.{ltb, leb, eqb}
 use lib.Ieee.{Float, nan, binary32, binary64, add, sub, mul, le, lt, eq, ofBits}
 use Rattle.ieee.specs.Range.{w32}
-use Rattle.float.specs.Gear.{lossOf, weight, most}
+use Rattle.float.specs.Gear.{lossOf, lossToStepDown, wholeLoss}
 use Rattle.exp.specs.Hold.{holdOf}
 use Rattle.laws.specs.Span.{upto, every}
 use Rattle.level.specs.Ladder.{waveRank, isStep}
 use Rattle.config.specs.declared.Profile.{Profile}
 use Rattle.report.specs.declared.ChanClass.{ChanClass}
-use Rattle.memory.specs.declared.Tries.{Tries}
-use Rattle.goodput.specs.declared.Gear.{Gear}
+use Rattle.levels.specs.declared.memory.Tries.{Tries}
+use Rattle.gear.specs.declared.Gear.{Gear}
 use Rattle.gear.specs.declared.Outcome.{Outcome}
-use Rattle.goodput.specs.Setters.{some, withLevel, withBurst, withAim, withTries, withHolds}
-use Rattle.ladder.specs.Ladders.{airDb, heeded, familyOk, levelFor, usableBelow, climbAbove, stepDown}
-use Rattle.rates.specs.Rates.{levelRate}
-use Rattle.goodput.specs.Goodput.{marksOf, cueFor, pickByGoodput}
-use Rattle.bursts.specs.Bursts.{adapted}
-use Rattle.memory.specs.Memory.{pushed, aimOf, noted, failed, cleared, channelFailed, others, heldUntil}
+use Rattle.gear.specs.Setters.{some, withLevel, withBurst, withAim, withTries, withHolds}
+use Rattle.levels.specs.Usable.{airDb, heeded, familyOk, levelFor, usableBelow, climbAbove, stepDown}
+use Rattle.levels.specs.Rates.{levelRate}
+use Rattle.gear.specs.Goodput.{marksOf, cueFor, pickByGoodput}
+use Rattle.gear.specs.BurstLength.{adapted}
+use Rattle.levels.specs.Memory.{pushed, aimOf, noted, failed, cleared, channelFailed, others, heldUntil}
 
 -- CHANNEL_FAIL_DB
 abbrev pub channelFail : Float
 channelFail = ofBits binary32 0x4080_0000
 
-abbrev pub classOf : Profile → Gear → ChanClass
-classOf p g = heeded (p .«pick_family») (g .«peer_class»)
+abbrev pub heededClass : Profile → Gear → ChanClass
+heededClass p g = heeded (p .«pick_family») (g .«peer_class»)
 
 -- `aim_snr` and the target: the report as a steady carrier would read it is kept, aimed by, and gives the target
 unfoldable pub aimed : Profile → Gear → Float → Gear
 aimed p g snr =
     let r = pushed (g .«snr_reports») (sub binary32 snr (airDb (p .power) (g .level))) in
     let aim = aimOf r (p .«smooth_target») in
-    withAim g r (some aim) (levelFor (marksOf p) (p .power) (classOf p g) (p .«max_level») aim)
+    withAim g r (some aim) (levelFor (marksOf p) (p .power) (heededClass p g) (p .«max_level») aim)
 
 -- `usable_below`(l.min(target).min(max_level), now)
 unfoldable pub capped : Profile → Gear → ℕ → Float → ℕ
-capped p g l now = usableBelow (g .holds) (classOf p g) (p .«pin_level») (min (min l (g .target)) (p .«max_level»)) now
+capped p g l now = usableBelow (g .holds) (heededClass p g) (p .«pin_level») (min (min l (g .target)) (p .«max_level»)) now
 
 -- `!any_fresh && burst == burst_id`: a burst of increments only, that the peer heard, leaves shares, failures and holds alone
 unfoldable pub incrementsOnly : Profile → Gear → Float → Gear
@@ -50,20 +50,20 @@ unfoldable pub blamed : Profile → ℕ → Float → Bool
 blamed p at snr = leb 3 (waveRank at) && le (add binary32 (getD (marksOf p .«thresholds_db») at nan) channelFail) snr
 
 -- Gear::Goodput: the failures of level `at`, and `channel_failed`
-unfoldable pub counted : ℕ → Float → Bool → Float → Tries → Tries
-counted at loss channel now t =
-    cond (lt most loss) (cond channel (channelFailed (failed t at) at now) (failed t at)) (cond (eq loss (w32 0)) (cleared t at) t)
+unfoldable pub failuresCounted : ℕ → Float → Bool → Float → Tries → Tries
+failuresCounted at loss channel now t =
+    cond (lt wholeLoss loss) (cond channel (channelFailed (failed t at) at now) (failed t at)) (cond (eq loss (w32 0)) (cleared t at) t)
 
 -- Gear::Goodput: the failures, then `pick_by_goodput`
 unfoldable pub byGoodput : Profile → ℕ → Float → Float → Float → Gear → Gear
 byGoodput p at loss snr now g =
-    let h = withTries g (counted at loss (blamed p at snr) now (g .tries)) in
+    let h = withTries g (failuresCounted at loss (blamed p at snr) now (g .tries)) in
     withLevel h (pickByGoodput p h (h .«aim_db» .db) now)
 
 -- `worth_keeping`: level `at` still moves more than the level that a loss would step down to
 unfoldable pub worthKeeping : Profile → Gear → ℕ → Float → Bool
 worthKeeping p g at now =
-    let lower = usableBelow (g .holds) (classOf p g) (p .«pin_level») (stepDown (classOf p g) at false) now in
+    let lower = usableBelow (g .holds) (heededClass p g) (p .«pin_level») (stepDown (heededClass p g) at false) now in
     p .«hold_by_goodput» && leb at (g .target) && ltb lower at
     && lt (levelRate p lower (cueFor p g lower)) (mul binary64 (getD (g .tries .success) at nan) (levelRate p at (cueFor p g at)))
 
@@ -77,8 +77,8 @@ failHold p g at channel now =
 unfoldable pub held : Profile → ℕ → Float → Float → Float → Gear → Gear
 held p at loss snr now g =
     let channel = blamed p at snr in
-    cond (lt most loss) (withTries (withHolds g (heldUntil (g .holds) at (add binary64 now (failHold p g at channel now)) (not channel))) (failed (g .tries) at))
-    (cond (lt weight loss) (withHolds g (heldUntil (g .holds) at (add binary64 now (p .«hold_times» .«loss_hold_s»)) true)) (withTries g (cleared (g .tries) at)))
+    cond (lt wholeLoss loss) (withTries (withHolds g (heldUntil (g .holds) at (add binary64 now (failHold p g at channel now)) (not channel))) (failed (g .tries) at))
+    (cond (lt lossToStepDown loss) (withHolds g (heldUntil (g .holds) at (add binary64 now (p .«hold_times» .«loss_hold_s»)) true)) (withTries g (cleared (g .tries) at)))
 
 -- (one..=far).all(|k| fails[k] == 0)
 unfoldable pub spotless : Tries → ℕ → ℕ → Bool
@@ -88,26 +88,26 @@ spotless t one far = every (λ k. eqb (getD (t .fails) k 0) 0) (upto one (far + 
 unfoldable pub climbed : Profile → Gear → ℕ → Float → ℕ
 climbed p g at now =
     let skip = leb (p .«skip_slices_from») (g .target) && not (isStep (g .target)) in
-    let one = climbAbove (g .holds) (classOf p g) skip at 1 now in
-    let far = climbAbove (g .holds) (classOf p g) skip at (max ((g .target - at + 1) / 2) 2) now in
+    let one = climbAbove (g .holds) (heededClass p g) skip at 1 now in
+    let far = climbAbove (g .holds) (heededClass p g) skip at (max ((g .target - at + 1) / 2) 2) now in
     cond (leb 3 (g .target - at) && spotless (g .tries) one far) far one
 
 -- `next`: two levels down, one down, up, or the same (`stepDown`'s last argument: two instead of one)
 unfoldable pub nextLevel : Profile → Gear → ℕ → Float → Float → ℕ
 nextLevel p g at loss now =
-    cond (lt most loss) (stepDown (classOf p g) at true)
-    (cond (lt weight loss) (stepDown (classOf p g) at false)
+    cond (lt wholeLoss loss) (stepDown (heededClass p g) at true)
+    (cond (lt lossToStepDown loss) (stepDown (heededClass p g) at false)
     (cond (eq loss (w32 0) && ltb at (g .target)) (climbed p g at now) at))
 
 -- `family_ok`(at) fails: the report rules out the waveform just used, so straight to the target
 unfoldable pub nextAllowed : Profile → Gear → ℕ → Float → Float → ℕ
-nextAllowed p g at loss now = cond (familyOk (classOf p g) at) (nextLevel p g at loss now) (g .target)
+nextAllowed p g at loss now = cond (familyOk (heededClass p g) at) (nextLevel p g at loss now) (g .target)
 
 -- Gear::Ladder: `worth_keeping` stays without a hold
 unfoldable pub byLadder : Profile → ℕ → Float → Float → Float → Gear → Gear
 byLadder p at loss snr now g =
     let h = held p at loss snr now g in
-    cond (lt weight loss && worthKeeping p g at now) (withLevel g (capped p g at now)) (withLevel h (capped p h (nextAllowed p h at loss now) now))
+    cond (lt lossToStepDown loss && worthKeeping p g at now) (withLevel g (capped p g at now)) (withLevel h (capped p h (nextAllowed p h at loss now) now))
 
 -- a burst whose loss is judged: its share first, then the level, then `adapt_burst`
 unfoldable pub judged : Profile → ℕ → Float → Float → Float → Gear → Gear

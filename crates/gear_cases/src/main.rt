@@ -1,31 +1,29 @@
 // Drives the gear alone with decisions of the original that `oracle/run gear SEED COUNT` stored: a profile and a fresh gear, then replies, and after
 // each of them every field of the record against the original's, by its bits. `stdout` holds the counts, and a difference is written as it is found.
-// stdin: profiles of 640 bytes, each followed by as many replies as it says. A reply is 60 bytes, and 24 for each level that it changed.
+// stdin: profiles of 1,180 bytes, 147 numbers and how many replies follow. A reply is 60 bytes, and 24 for each level that it changed.
 mod read;
 mod same;
 
+use byte_copy::load32;
 use config::MaybeDb;
 use config::Profile;
+use gear::Gear;
 use gear::Outcome;
-use gear::on_ack;
-use goodput::Gear;
 use io::print_decimal;
 use io::write_all;
-use ladder::Holds;
+use levels::memory::Reports;
+use levels::memory::Tries;
+use levels::usable::Holds;
 use libc::STDIN_FILENO;
 use libc::STDOUT_FILENO;
-use meeting::connect;
-use meeting::on_turn;
-use memory::Reports;
-use memory::Tries;
-use moves::load32;
+use profile_table::profile_of;
 use read::f32_at;
 use read::f64_at;
-use read::profile_of;
+use read::table_of;
 use report::ChanClass;
 use same::differing;
 ghost use Prim.Native.Nat.{_<_};
-ghost use Rattle.limits.specs.Ranged.{Ranged};
+ghost use Rattle.config.specs.Ranged.{Ranged};
 
 // Counts: of profiles, of replies in goodput and in ladder, of each kind of reply from 3 on, and of differences.
 pub struct Counts {
@@ -139,9 +137,9 @@ fn judge(cfg: Profile, g: Gear, ack: bool, burst: Outcome, snr_db: f32, wave: u8
         return g;
     }
     if ack {
-        return on_ack(g, cfg, burst, snr_db, now);
+        return g.on_ack(cfg, burst, snr_db, now);
     }
-    on_turn(g, cfg, burst, snr_db, wave, now)
+    g.on_turn(cfg, burst, snr_db, wave, now)
 }
 
 // What the gear makes of a reply. The class is the sender's to keep.
@@ -159,7 +157,7 @@ fn step(cfg: Profile, mut g: Gear, a: &[u8; 60]) -> Gear
     let snr_db = f32_at(a, 16);
     let now = f64_at(a, 20);
     if a[0] == 1 {
-        return connect(g, cfg, class, a[3] == 1, snr_db, now);
+        return g.connect(cfg, class, a[3] == 1, snr_db, now);
     }
     g.peer_class = class;
     judge(cfg, g, a[0] == 2, burst, snr_db, a[9], now)
@@ -340,10 +338,11 @@ fn print_counts(c: Counts) {
 }
 
 // A profile and its replies.
-fn profile(c: Counts, a: &[u8; 640]) -> Counts {
-    let cfg = profile_of(a);
-    if limits::in_range(cfg) {
-        return replies(cfg, c, load32(a, 633));
+fn profile(c: Counts, a: &[u8; 1180]) -> Counts {
+    let v = table_of(a);
+    let cfg = profile_of(&v);
+    if config::ranges::in_range(cfg) {
+        return replies(cfg, c, load32(a, 1176));
     }
     write_all(STDOUT_FILENO, b"a profile is out of range\n");
     c
@@ -353,8 +352,8 @@ fn main() {
     let mut c = Counts { of: [0; 11] };
     let mut i: u32 = 0;
     while i < 1000000 {
-        let mut a = [0u8; 640];
-        if io::read_full(STDIN_FILENO, &mut a) < 640 {
+        let mut a = [0u8; 1180];
+        if io::read_full(STDIN_FILENO, &mut a) < 1180 {
             break;
         }
         c = profile(c.more(0), &a);

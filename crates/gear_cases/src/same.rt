@@ -1,11 +1,11 @@
 // Two gear records, field by field, floats by their bits.
 use config::MaybeDb;
-use goodput::Gear;
-use ladder::Holds;
-use memory::Reports;
-use memory::Tries;
-use patterns::to_bits32;
-use patterns::to_bits64;
+use float_bits::to_bits32;
+use float_bits::to_bits64;
+use gear::Gear;
+use levels::memory::Reports;
+use levels::memory::Tries;
+use levels::usable::Holds;
 use report::ChanClass;
 ghost use Prim.Native.Nat.{_<_};
 

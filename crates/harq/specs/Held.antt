@@ -1,8 +1,9 @@
 -- Held numbers (document 01, module 2; harq.rs is not among the files). Definitions only.
-use mathlib.Core.Bool.{cond, _&&_, _||_}
+use mathlib.Core.Bool.{cond}
 use mathlib.Core.List.{List, [], _∷_}
 use Prim.Native.Nat.{ℕ, _+_, _-_, _*_, _%_, min}
 use lib.Dec.{ltb, eqb}
+use Rattle.limits.specs.Limits.{partialMax}
 use Rattle.harq.specs.declared.Harq.{Harq}
 
 -- the rate ends above h
@@ -20,10 +21,6 @@ unfoldable pub upTo : List ℕ → ℕ → ℕ → ℕ
 upTo [] h slot = slot
 upTo (e ∷ es) h slot = smallest e es - h
 
--- a search for the smallest end above h: the nearer of what was found so far, 0 for none, and e
-unfoldable pub nearer : ℕ → ℕ → ℕ → ℕ
-nearer best h e = cond (ltb h e && (eqb best 0 || ltb e best)) e best
-
 -- the increment for h held bits: the smallest rate end above h, less h; with none above, the slot
 unfoldable pub incrementOf : Harq → ℕ → ℕ → ℕ
 incrementOf q h slot = upTo (above h (q .ends)) h slot
@@ -35,13 +32,6 @@ startOf q h = h % q .mother
 -- H_MAX: a piece is held only while its bits are below twice the mother length
 abbrev pub hMax : Harq → ℕ
 hMax q = 2 * q .mother
-
--- MAX_SLOTS, and the most that the partial field counts (PARTIAL_MAX)
-abbrev pub maxSlots : ℕ
-maxSlots = 64
-
-abbrev pub partialMax : ℕ
-partialMax = 62
 
 -- the partial field: 0 where parity = stored, else min(parity, 62) + 1
 unfoldable pub partialField : ℕ → ℕ → ℕ

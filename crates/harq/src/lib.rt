@@ -1,13 +1,10 @@
 // Held numbers: what the far station holds of a piece in bits, and what is sent of it next (harq.rs, from document 01, module 2).
+use limits::PARTIAL_MAX;
 ghost use mathlib.Core.Path.{_≡_};
 ghost use Prim.Native.Nat.{_≤_, _<_};
-ghost use Rattle.harq.specs.Held.{nearer as nearerOf, incrementOf, startOf, hMax, partialField, checkBits, burstCheckBits};
-
-// Most codewords that the far station stores.
-pub const MAX_SLOTS: usize = 64;
-
-// Most increments that the partial field counts.
-pub const PARTIAL_MAX: usize = 62;
+ghost use Rattle.limits.specs.Limits.{maxSlots, maxBits};
+ghost use Rattle.harq.specs.Held.{incrementOf, startOf, hMax, partialField, checkBits, burstCheckBits};
+ghost use Rattle.harq.specs.HeldCode.{nearer as nearerOf};
 
 // The mother code's length, and where the six code rates end.
 #[repr(C)]
@@ -53,7 +50,7 @@ impl Harq {
 
     // H_MAX: a piece is held only while its bits are below this.
     pub fn h_max(self) -> u32
-        requires { ⌜ self .mother ≤ 16384 ⌝ }
+        requires { ⌜ self .mother ≤ maxBits ⌝ }
         ensures { λ r. ⌜ r ≡ hMax self ⌝ }
     {
         2 * self.mother
@@ -85,7 +82,7 @@ fn check_bits(n: usize) -> u8
 
 // Two bits by which the far station sees whether both count alike.
 pub fn burst_check_bits(stored: usize, field: u16) -> u8
-    requires { ⌜ stored ≤ 64 ⌝ }
+    requires { ⌜ stored ≤ maxSlots ⌝ }
     ensures { λ r. ⌜ r ≡ burstCheckBits stored field ⌝ }
 {
     if field == 0 {

@@ -31,18 +31,6 @@ module _ (f : Format) (lo hi lo' hi' x y : Float) (A : T (finite lo)) (B : T (fi
       let Y = in-finite C D j in
       record { low = sub-mono f lo x hi' y A X D Y (i .low) (j .high); high = sub-mono f x hi y lo' X B Y C (i .high) (j .low) }
 
-  -- of factors that are not negative
-  pub mul-in : T (le null lo) → T (le null lo') → In (mul f lo lo') (mul f hi hi') (mul f x y)
-  mul-in p q =
-      let X = in-finite A B i in
-      let Y = in-finite C D j in
-      let x-ge = le-trans null lo x p (i .low) in
-      let hi'-ge = le-trans null lo' hi' q (le-trans lo' y hi' (j .low) (j .high)) in
-      record {
-        low = le-trans (mul f lo lo') (mul f lo y) (mul f x y) (mul-mono f lo lo' y A C Y p (j .low)) (mul-mono-left f lo x y A X Y (le-trans null lo' y q (j .low)) (i .low));
-        high = le-trans (mul f x y) (mul f x hi') (mul f hi hi') (mul-mono f x y hi' X Y D x-ge (j .high)) (mul-mono-left f x hi hi' X B D hi'-ge (i .high));
-      }
-
   -- of a dividend that is not negative, by a divisor above zero
   pub div-in : T (le null lo) → T (positive lo') → T (positive hi') → In (div f lo hi') (div f hi lo') (div f x y)
   div-in p q q' =

@@ -10,3 +10,4 @@ pub mod Sizes
 pub mod Units
 pub mod Power
 pub mod Cut
+pub mod Range

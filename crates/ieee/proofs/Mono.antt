@@ -46,15 +46,6 @@ not-negative (fin true m e) p h = go (m * up e) (le→Le null (fin true m e) tt 
     go : (a : ℕ) → 0 * den (fin true m e) + a * 1 ≤ 0 * 1 + 0 * den (fin true m e) → a ≡ 0
     go a h = omega arith
 
-pub not-positive : (x : Float) → T (finite x) → T (le x null) → P x ≡ 0
-not-positive nan p h = absurd p
-not-positive (inf s) p h = absurd p
-not-positive (fin true m e) p h = refl
-not-positive (fin false m e) p h = go (m * up e) (le→Le (fin false m e) null tt tt h)
-  where
-    go : (a : ℕ) → a * 1 + 0 * den (fin false m e) ≤ 0 * den (fin false m e) + 0 * 1 → a ≡ 0
-    go a h = omega arith
-
 -- ---- one factor fixed: up where it is not negative, down where it is not positive
 pub one-sign : (x : Float) → (N x ≡ 0) ⊎ (P x ≡ 0)
 one-sign nan = inl refl
@@ -81,9 +72,6 @@ module _ (f : Format) (c x x' : Float) (C : T (finite c)) (X : T (finite x)) (X'
 
 pub mul-mono : (f : Format) (c x x' : Float) → T (finite c) → T (finite x) → T (finite x') → T (le null c) → T (le x x') → T (le (mul f c x) (mul f c x'))
 mul-mono f c x x' C X X' g h = mul-up f c x x' C X X' h (not-negative c C g)
-
-pub mul-anti : (f : Format) (c x x' : Float) → T (finite c) → T (finite x) → T (finite x') → T (le c null) → T (le x x') → T (le (mul f c x') (mul f c x))
-mul-anti f c x x' C X X' g h = mul-down f c x x' C X X' h (not-positive c C g)
 
 unlike-comm : (s t : Bool) → unlike s t ≡ unlike t s
 unlike-comm true true = refl
@@ -145,48 +133,11 @@ module _ (f : Format) (x y y' : Float) (X : T (finite x)) (Y : T (positive y)) (
 pub div-anti : (f : Format) (x y y' : Float) → T (finite x) → T (positive y) → T (positive y') → T (le null x) → T (le y y') → T (le (div f x y') (div f x y))
 div-anti f x y y' X Y Y' g h = div-down f x y y' X Y Y' h (not-negative x X g)
 
-pub div-mono-right : (f : Format) (x y y' : Float) → T (finite x) → T (positive y) → T (positive y') → T (le x null) → T (le y y') → T (le (div f x y) (div f x y'))
-div-mono-right f x y y' X Y Y' g h = div-up f x y y' X Y Y' h (not-positive x X g)
-
 -- ---- an integer's float
 pub whole-mono : (f : Format) (n n' : ℕ) → n ≤ n' → T (le (ofInt f (pos n)) (ofInt f (pos n')))
 whole-mono f n n' h = rounds-mono f (ofInt f (pos n)) (ofInt f (pos n')) n 0 1 n' 0 1 (omega arith) (omega arith) (whole-rounds f n) (whole-rounds f n') (omega arith)
 
 -- ---- a divisor below zero, and a factor's sign: through the negation
-unlike-neg : (s t : Bool) → unlike s (not t) ≡ not (unlike s t)
-unlike-neg true true = refl
-unlike-neg true false = refl
-unlike-neg false true = refl
-unlike-neg false false = refl
-
-cond-neg : (b : Bool) (x y : Float) → cond b (neg x) (neg y) ≡ neg (cond b x y)
-cond-neg true x y = refl
-cond-neg false x y = refl
-
-pub mul-neg : (f : Format) (x y : Float) → mul f x (neg y) ≡ neg (mul f x y)
-unfolding mul neg
-mul-neg f nan y = refl
-mul-neg f (inf s) nan = refl
-mul-neg f (inf s) (inf t) = ap inf (unlike-neg s t)
-mul-neg f (inf s) (fin t n d) = ap (λ (b : Bool). cond (eqb n 0) nan (inf b)) (unlike-neg s t) ∙ cond-neg (eqb n 0) nan (inf (unlike s t))
-mul-neg f (fin s m e) nan = refl
-mul-neg f (fin s m e) (inf t) = ap (λ (b : Bool). cond (eqb m 0) nan (inf b)) (unlike-neg s t) ∙ cond-neg (eqb m 0) nan (inf (unlike s t))
-mul-neg f (fin s m e) (fin t n d) = ap (λ (b : Bool). round f b (m * up e * (n * up d)) (down e * down d)) (unlike-neg s t) ∙ round-neg f (unlike s t) (m * up e * (n * up d)) (down e * down d)
-
-pub div-neg : (f : Format) (x y : Float) → div f x (neg y) ≡ neg (div f x y)
-unfolding div neg
-div-neg f nan y = refl
-div-neg f (inf s) nan = refl
-div-neg f (inf s) (inf t) = refl
-div-neg f (inf s) (fin t n d) = ap inf (unlike-neg s t)
-div-neg f (fin s m e) nan = refl
-div-neg f (fin s m e) (inf t) = ap (λ (b : Bool). fin b 0 (pos 0)) (unlike-neg s t)
-div-neg f (fin s m e) (fin t n d) =
-    ap (λ (b : Bool). cond (eqb n 0) (cond (eqb m 0) nan (inf b)) (round f b (m * up e * down d) (n * up d * down e))) (unlike-neg s t)
-    ∙ ap (λ (z : Float). cond (eqb n 0) (cond (eqb m 0) nan (inf (not (unlike s t)))) z) (round-neg f (unlike s t) (m * up e * down d) (n * up d * down e))
-    ∙ ap (λ (z : Float). cond (eqb n 0) z (neg (round f (unlike s t) (m * up e * down d) (n * up d * down e)))) (cond-neg (eqb m 0) nan (inf (unlike s t)))
-    ∙ cond-neg (eqb n 0) (cond (eqb m 0) nan (inf (unlike s t))) (round f (unlike s t) (m * up e * down d) (n * up d * down e))
-
 neg-neg : (x : Float) → neg (neg x) ≡ x
 unfolding neg
 neg-neg nan = refl
@@ -194,13 +145,6 @@ neg-neg (inf true) = refl
 neg-neg (inf false) = refl
 neg-neg (fin true m e) = refl
 neg-neg (fin false m e) = refl
-
--- by a y below zero x / y goes down in x
-pub div-anti-left : (f : Format) (x x' y : Float) → T (finite x) → T (finite x') → T (positive (neg y)) → T (le x x') → T (le (div f x' y) (div f x y))
-div-anti-left f x x' y X X' Y h = rw (turned x, turned x') (le-neg (div f x (neg y)) (div f x' (neg y)) (div-mono f x x' (neg y) X X' Y h))
-  where
-    turned : (x : Float) → div f x y ≡ neg (div f x (neg y))
-    turned x = ap (div f x) (sym (neg-neg y)) ∙ div-neg f x (neg y)
 
 -- ---- x + y in y, where y may be an infinity
 add-no-nan : (f : Format) (x y : Float) → T (finite x) → T (not (isNan y)) → T (not (isNan (add f x y)))

@@ -215,15 +215,3 @@ over-keep l at n bs h =
 
 pub part-cons : (l : List ℕ) (at n : ℕ) → at < length l → part l at (suc n) ≡ getD l at 0 ∷ part l (at + 1) n
 part-cons l at n h = ap (take (suc n)) (drop-cons l at 0 h) ∙ ap (λ (k : ℕ). getD l at 0 ∷ part l k n) (sym (add-one at))
-
--- up, within one list, from the back
-pub over-up : (l : List ℕ) (to from n j : ℕ) → from ≤ to → from + n ≤ length l → j < n
-    → let x = overwrite l (to + (j + 1)) (part l (from + (j + 1)) (n - (j + 1))) in set x (to + j) (getD x (from + j) 0) ≡ overwrite l (to + j) (part l (from + j) (n - j))
-over-up l to from n j h k i =
-    let ys = part l (from + (j + 1)) (n - (j + 1)) in
-    let v = getD l (from + j) 0 in
-    let e : n - j ≡ suc (n - (j + 1)) = omega arith in
-    ap (λ (w : ℕ). set (overwrite l (to + (j + 1)) ys) (to + j) w) (getD-over-before l (to + (j + 1)) ys (from + j) 0 (omega arith))
-    ∙ set-over (overwrite l (to + (j + 1)) ys) (to + j) v
-    ∙ ap (λ (m : ℕ). overwrite (overwrite l m ys) (to + j) (v ∷ [])) (sym (add-assoc to j 1)) ∙ over-front l (to + j) (v ∷ []) ys
-    ∙ ap (overwrite l (to + j)) (sym (ap (part l (from + j)) e ∙ part-cons l (from + j) (n - (j + 1)) (omega arith) ∙ ap (λ (m : ℕ). v ∷ part l m (n - (j + 1))) (add-assoc from j 1)))

@@ -19,12 +19,6 @@ pub steps-more : {A : Type 0} (f : ℕ → A → A) (k : ℕ) (a x y : A) → x 
 unfolding steps
 steps-more f k a x y p q = rw add-one (q ∙ ap (f k) p)
 
--- the last turn of k, for a loop that goes from high to low
-pub steps-last : {A : Type 0} (f : ℕ → A → A) (k : ℕ) (a : A) → 0 < k → steps f k a ≡ f (k - 1) (steps f (k - 1) a)
-unfolding steps
-steps-last f zero a h = absurd (not-suc-le-zero h)
-steps-last f (suc k) a h = rw sub-one refl
-
 -- what each turn keeps holds at the end
 pub steps-keep : {A : Type 0} (P : A → Type 0) (f : ℕ → A → A) (n : ℕ) (a : A) → ((k : ℕ) (x : A) → P x → P (f k x)) → P a → P (steps f n a)
 unfolding steps
@@ -45,15 +39,6 @@ pub highest-miss : (p : ℕ → Bool) (k a : ℕ) → 0 < k → p (k - 1) ≡ fa
 unfolding highest
 highest-miss p zero a h e = absurd (not-suc-le-zero h)
 highest-miss p (suc k) a h e = rw sub-one (rw (rw sub-one at e) refl)
-
--- a loop that goes up
-pub highest-up-yes : (p : ℕ → Bool) (k a t : ℕ) → p k ≡ true → t ≡ k → t ≡ highest p (k + 1) a
-unfolding highest
-highest-up-yes p k a t e q = rw (add-one, e) q
-
-pub highest-up-no : (p : ℕ → Bool) (k a t : ℕ) → p k ≡ false → t ≡ highest p k a → t ≡ highest p (k + 1) a
-unfolding highest
-highest-up-no p k a t e q = rw (add-one, e) q
 
 pub highest-lt : (p : ℕ → Bool) (n a m : ℕ) → n ≤ m → a < m → highest p n a < m
 unfolding highest

@@ -3,9 +3,10 @@
 use mathlib.Core.Path.{_≡_, refl}
 use mathlib.Core.Bool.{cond}
 use mathlib.Core.List.{map}
-use Rattle.ledger.specs.Ledger.{Sender, frames, takenOf, fresh}
+use Rattle.ledger.specs.Ledger.{Sender}
 use Rattle.ledger.specs.Tally.{Outstanding, outstanding, nothing, Tally, start}
-use Rattle.ledger.specs.Cover.{flyingByte, byOffset}
+use Rattle.ledger.specs.CoverCode.{flyingByte, byOffset}
+use Rattle.ledger.specs.LedgerCode.{frames, takenOf, freshLedger}
 
 -- the outstanding burst as the tally has it
 abbrev pub outOf : Sender → Outstanding
@@ -17,5 +18,5 @@ pub record Agree (s : Sender) (t : Tally) : Type 0 where
   pub flown : map flyingByte (t .flown) ≡ byOffset 0 (s .next) (s .pieces)
   pub out : t .out ≡ outOf s
 
-pub start-agree : Agree fresh start
+pub start-agree : Agree freshLedger start
 start-agree = record { taken = refl; waiting = refl; flown = refl; out = refl }

@@ -11,8 +11,8 @@ use Rattle.laws.proofs.Picks.{either}
 use Rattle.laws.proofs.Lists.{map-map, map-id, map-append}
 use Rattle.ledger.specs.Reply.{Reply}
 use Rattle.ledger.specs.Ledger.{Frame}
-use Rattle.ledger.specs.Tally.{unacked, byteOf, acknowledge, Flown, acknowledgeAll, answered, Outstanding, nothing, outstanding, Tally, Event, feed, bytesIn, queued, sentOut, heard, turn, turned, silent, took, reply, went, furthest, start}
-use Rattle.ledger.specs.Calls.{tally, told, history}
+use Rattle.ledger.specs.Tally.{unacked, byteOf, acknowledge, Flown, acknowledgeAll, acknowledgedBy, Outstanding, nothing, outstanding, Tally, Event, feed, bytesTold, queued, sentOut, heard, turn, noneOutstanding, silent, took, reply, went, furthest, start}
+use Rattle.ledger.specs.Calls.{tally, history}
 
 bytes-unacked : (bs : List ℕ) → map byteOf (unacked bs) ≡ bs
 bytes-unacked bs = map-map byteOf _ bs ∙ map-id bs
@@ -27,7 +27,7 @@ bytes-acknowledgeAll b i (f ∷ fs) fl =
     bytes-acknowledgeAll b (suc i) fs (cond (b i) (acknowledge (f .off) (f .len) 0 fl) fl)
     ∙ either (λ (x : List Flown). map byteOf x ≡ map byteOf fl) (b i) _ _ (bytes-acknowledge (f .off) (f .len) 0 fl) refl
 
-bytes-answered : (r : Reply) (out : Outstanding) (fl : List Flown) → map byteOf (answered r out fl) ≡ map byteOf fl
+bytes-answered : (r : Reply) (out : Outstanding) (fl : List Flown) → map byteOf (acknowledgedBy r out fl) ≡ map byteOf fl
 bytes-answered r nothing fl = refl
 bytes-answered r (outstanding n fs) fl =
     either (λ (x : List Flown). map byteOf x ≡ map byteOf fl) (eqb (r .number) n) _ _ (bytes-acknowledgeAll (r .bit (length fs)) 0 fs fl) refl
@@ -36,8 +36,8 @@ bytes-answered r (outstanding n fs) fl =
 abbrev tallyBytes : Tally → List ℕ
 tallyBytes t = map byteOf (t .flown) ++ t .waiting
 
-fed : (e : Event) (t : Tally) → tallyBytes (feed e t) ≡ tallyBytes t ++ bytesIn e
-unfolding queued sentOut heard turned
+fed : (e : Event) (t : Tally) → tallyBytes (feed e t) ≡ tallyBytes t ++ bytesTold e
+unfolding queued sentOut heard noneOutstanding
 fed silent t = sym (append-nil (tallyBytes t))
 fed (took bs) t = sym (append-assoc (map byteOf (t .flown)) (t .waiting) bs)
 fed (reply r) t = rw (bytes-answered r (t .out) (t .flown)) (sym (append-nil (tallyBytes t)))
@@ -52,8 +52,8 @@ fed (went n fs) t =
     )
     (sym (append-nil (tallyBytes t)))
 
-counted : (e : Event) (t : Tally) → feed e t .taken ≡ t .taken + length (bytesIn e)
-unfolding queued sentOut heard turned
+counted : (e : Event) (t : Tally) → feed e t .taken ≡ t .taken + length (bytesTold e)
+unfolding queued sentOut heard noneOutstanding
 counted silent t = omega arith
 counted (took bs) t = refl
 counted (reply r) t = omega arith
@@ -64,12 +64,12 @@ module _ {C I : Type 0} (next : I → C → C) (told : I → C → Event) where
   fed-all : (is : List I) (c : C) (t : Tally) → tallyBytes (tally next told is c t) ≡ tallyBytes t ++ history next told is c
   fed-all [] c t = sym (append-nil (tallyBytes t))
   fed-all (i ∷ is) c t =
-      fed-all is (next i c) (feed (told i c) t) ∙ rw (fed (told i c) t) (append-assoc (tallyBytes t) (bytesIn (told i c)) (history next told is (next i c)))
+      fed-all is (next i c) (feed (told i c) t) ∙ rw (fed (told i c) t) (append-assoc (tallyBytes t) (bytesTold (told i c)) (history next told is (next i c)))
 
   counted-all : (is : List I) (c : C) (t : Tally) → tally next told is c t .taken ≡ t .taken + length (history next told is c)
   counted-all [] c t = omega arith
   counted-all (i ∷ is) c t =
-      omega (arith, counted-all is (next i c) (feed (told i c) t), counted (told i c) t, length-append (bytesIn (told i c)) (history next told is (next i c)))
+      omega (arith, counted-all is (next i c) (feed (told i c) t), counted (told i c) t, length-append (bytesTold (told i c)) (history next told is (next i c)))
 
   -- no byte is lost, doubled or altered on its way from waiting to flown
   pub history-is : (is : List I) (c : C) → history next told is c ≡ map byteOf (tally next told is c start .flown) ++ tally next told is c start .waiting

@@ -11,18 +11,21 @@ use borrow.Author.Tests.{ltb-true, lt-ltb}
 use Rattle.laws.specs.Lists.{occurs}
 use Rattle.laws.proofs.Picks.{by, and-second, either, and-yes, and-first}
 use Rattle.laws.proofs.Lists.{occurs-append}
-use Rattle.ledger.specs.Limits.{Sizes, maxSlots, SizeRange}
 use Rattle.ledger.specs.Reply.{Reply}
-use Rattle.ledger.specs.Ledger.{Held, missed, Sent, frames, Piece, Sender, sentOffs, heldOffs, offs, remaining, settleBurst, clearBurst, queue, fresh, onAck, settles, Plan, dataBurst, find}
-use Rattle.ledger.specs.Tally.{answered, Flown, outstanding, Tally, heard, acknowledgeAll, nothing, queued, turned, feed}
-use Rattle.ledger.specs.Cover.{Ascend}
+use Rattle.ledger.specs.Ledger.{Held, missed, Sent, Piece, Sender, sentOffs, heldOffs, offs, remaining, settleBurst, clearBurst, queue, hearAck, settles, Plan, dataBurst, find}
+use Rattle.ledger.specs.Tally.{acknowledgedBy, Flown, outstanding, Tally, heard, acknowledgeAll, nothing, queued, noneOutstanding, feed}
 use Rattle.ledger.specs.Sound.{HeldBits, SentBits, Sound, Fits}
-use Rattle.ledger.specs.Calls.{Allowed, queues, step, Call, idle, hears, turns, bursts, event, told}
 use Rattle.ledger.proofs.Agree.{Agree}
 use Rattle.ledger.proofs.Burst.{burst-sound, burst-agree, burst-keeps}
 use Rattle.ledger.proofs.HeldPieces.{heldOffs-append}
 use Rattle.ledger.proofs.Offsets.{flying-within, Within, within-flying}
 use Rattle.ledger.proofs.Settle.{ascend-remaining, missed-remaining, ackedBytes-remaining, missed-few, shortFrames-remaining, acknowledgeAll-remaining, find-remaining}
+use Rattle.limits.specs.Limits.{maxSlots}
+use Rattle.ledger.specs.Sizes.{Sizes}
+use Rattle.ledger.specs.CallsCode.{Allowed, queues, step, Move, idle, hears, turns, bursts, event, moveTold}
+use Rattle.ledger.specs.CoverCode.{Ascend}
+use Rattle.ledger.specs.LedgerCode.{frames, freshLedger}
+use Rattle.ledger.specs.SizesCode.{SizeRange}
 
 heldBits-append : (top : ℕ) (xs ys : List Held) → HeldBits top xs → HeldBits top ys → HeldBits top (xs ++ ys)
 heldBits-append top [] ys a b = b
@@ -44,7 +47,7 @@ frames-length ps fs = length-map fs _
 
 -- an ack that settles nothing: another number, or no frame
 unanswered : (r : Reply) (n : ℕ) (ps : List Piece) (fs : List Sent) (fl : List Flown) → eqb (r .number) n && ltb 0 (length fs) ≡ false →
-    answered r (outstanding n (frames ps fs)) fl ≡ fl
+    acknowledgedBy r (outstanding n (frames ps fs)) fl ≡ fl
 unanswered r n ps [] fl e = either (λ (x : List Flown). x ≡ fl) (eqb (r .number) n) fl fl refl refl
 unanswered r n ps (f ∷ fs) fl e =
     by (λ (x : List Flown). x ≡ fl) (eqb (r .number) n)
@@ -148,7 +151,7 @@ module _ (z : Sizes) where
         number = so .number;
       }
 
-  pub fresh-sound : Sound z fresh
+  pub fresh-sound : Sound z freshLedger
   fresh-sound =
       record {
         ascend = omega arith;
@@ -169,8 +172,8 @@ module _ (z : Sizes) where
 
   module _ (zr : SizeRange z) where
     -- EVERY ACCEPTED CALL KEEPS `Sound`
-    pub step-sound : (c : Call) (s : Sender) → Allowed z c s → Sound z s → Sound z (step z c s)
-    unfolding onAck
+    pub step-sound : (c : Move) (s : Sender) → Allowed z c s → Sound z s → Sound z (step z c s)
+    unfolding hearAck
     step-sound idle s al so = so
     step-sound (queues bs) s al so = queue-sound bs s al so
     step-sound (hears r keep) s al so =
@@ -187,7 +190,7 @@ module _ (z : Sizes) where
   unfolding settleBurst heard
   settle-agree r keep s t w n so ag =
       let b = r .bit (length (s .sent)) in
-      let e : answered r (t .out) (t .flown) ≡ acknowledgeAll b 0 (frames (s .pieces) (s .sent)) (t .flown) =
+      let e : acknowledgedBy r (t .out) (t .flown) ≡ acknowledgeAll b 0 (frames (s .pieces) (s .sent)) (t .flown) =
       rw (ag .out, w, and-first (eqb (r .number) (s .number)) (ltb 0 (length (s .sent))) n, frames-length (s .pieces) (s .sent)) in
       record {
         taken = ag .taken;
@@ -222,17 +225,17 @@ module _ (z : Sizes) where
         out = ag .out;
       }
 
-  turn-agree : (s : Sender) (t : Tally) → Agree s t → Agree (clearBurst s) (turned t)
-  unfolding turned
-  turn-agree s t ag = clear-agree s t (turned t) refl refl refl refl ag
+  turn-agree : (s : Sender) (t : Tally) → Agree s t → Agree (clearBurst s) (noneOutstanding t)
+  unfolding noneOutstanding
+  turn-agree s t ag = clear-agree s t (noneOutstanding t) refl refl refl refl ag
 
   module _ (zr : SizeRange z) where
     burst-event : (g : Plan) (s : Sender) (t : Tally) → Fits z s g → Sound z s → Agree s t → Agree (dataBurst g s) (feed (event (bursts g) (dataBurst g s)) t)
     unfolding dataBurst
     burst-event g s t al so ag = burst-agree z zr s g so al t ag
 
-    pub step-agree : (c : Call) (s : Sender) (t : Tally) → Allowed z c s → Sound z s → Agree s t → Agree (step z c s) (feed (told z c s) t)
-    unfolding onAck
+    pub step-agree : (c : Move) (s : Sender) (t : Tally) → Allowed z c s → Sound z s → Agree s t → Agree (step z c s) (feed (moveTold z c s) t)
+    unfolding hearAck
     step-agree idle s t al so ag = ag
     step-agree (queues bs) s t al so ag = queue-agree bs s t ag
     step-agree (hears r keep) s t al so ag =
@@ -259,9 +262,9 @@ module _ (z : Sizes) where
   queue-pieces bs s = refl
 
   module _ (zr : SizeRange z) where
-    pub step-keeps : (c : Call) (s : Sender) (o : ℕ) → Allowed z c s → Sound z s → 1 ≤ occurs o (heldOffs (step z c s .held)) →
+    pub step-keeps : (c : Move) (s : Sender) (o : ℕ) → Allowed z c s → Sound z s → 1 ≤ occurs o (heldOffs (step z c s .held)) →
         find o (step z c s .pieces) ≡ find o (s .pieces)
-    unfolding onAck
+    unfolding hearAck
     step-keeps idle s o al so h = refl
     step-keeps (queues bs) s o al so h = rw (queue-pieces bs s)
     step-keeps (hears r keep) s o al so h =

@@ -14,11 +14,11 @@ use borrow.Author.Tests.{ltb-true, ltb-false, lt-ltb, le-ltb}
 use Rattle.laws.proofs.Picks.{test, either}
 use Rattle.ledger.specs.Reply.{Reply}
 use Rattle.ledger.specs.Ledger.{Piece, end, len, Frame}
-use Rattle.ledger.specs.Tally.{within, Flown, acknowledge, acknowledgeAll, unacked, answered, Outstanding, nothing, outstanding, Event, Tally, feed, queued, sentOut, heard, turn, turned, silent, took, reply, went, furthest}
-use Rattle.ledger.specs.Cover.{Ascend, byOffset, flyingByte}
+use Rattle.ledger.specs.Tally.{within, Flown, acknowledge, acknowledgeAll, unacked, acknowledgedBy, Outstanding, nothing, outstanding, Event, Tally, feed, queued, sentOut, heard, turn, noneOutstanding, silent, took, reply, went, furthest}
 use Rattle.ledger.specs.Claim.{covering, flyingAt, ackedAt, bitOver, named, settledBy}
 use Rattle.ledger.proofs.Acknowledge.{within-before, within-in, within-after}
 use Rattle.ledger.proofs.InFlight.{filled, filled-flying}
+use Rattle.ledger.specs.CoverCode.{Ascend, byOffset, flyingByte}
 
 -- ---- the pieces cover each offset in flight once and no other
 
@@ -138,7 +138,7 @@ ackedAt-unacked (suc o) [] (b ∷ bs) = ackedAt-unacked o [] bs
 ackedAt-unacked zero (f ∷ fl) bs = refl
 ackedAt-unacked (suc o) (f ∷ fl) bs = ackedAt-unacked o fl bs
 
-ackedAt-answered : (r : Reply) (out : Outstanding) (o : ℕ) (fl : List Flown) → ackedAt o (answered r out fl) ≡ ackedAt o fl || (ltb o (length fl) && named r out o)
+ackedAt-answered : (r : Reply) (out : Outstanding) (o : ℕ) (fl : List Flown) → ackedAt o (acknowledgedBy r out fl) ≡ ackedAt o fl || (ltb o (length fl) && named r out o)
 ackedAt-answered r nothing o fl = or-none (ackedAt o fl) (ltb o (length fl))
 ackedAt-answered r (outstanding n fs) o fl =
     test (eqb (r .number) n)
@@ -146,7 +146,7 @@ ackedAt-answered r (outstanding n fs) o fl =
     (λ e. rw e (or-none (ackedAt o fl) (ltb o (length fl))))
 
 pub acked-exactly : (e : Event) (t : Tally) (o : ℕ) → ackedAt o (feed e t .flown) ≡ ackedAt o (t .flown) || (ltb o (length (t .flown)) && settledBy e (t .out) o)
-unfolding queued sentOut heard turned
+unfolding queued sentOut heard noneOutstanding
 acked-exactly silent t o = or-none (ackedAt o (t .flown)) (ltb o (length (t .flown)))
 acked-exactly (took bs) t o = or-none (ackedAt o (t .flown)) (ltb o (length (t .flown)))
 acked-exactly (reply r) t o = ackedAt-answered r (t .out) o (t .flown)

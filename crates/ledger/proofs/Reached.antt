@@ -7,27 +7,31 @@ use mathlib.Core.Bool.{false}
 use mathlib.Core.List.{List, [], _∷_}
 use native.Mathlib.Omega.{arith}
 use lib.ListN.{length, replicate, length-replicate}
-use Rattle.ledger.specs.Limits.{Sizes, minPayload, maxPayload, maxTop, maxSlots, maxWaiting, maxFlying, maxPieces, SizeRange, maxNumber}
-use Rattle.ledger.specs.Ledger.{Plan, queue, size, fresh, dataBurst, Sender}
+use Rattle.ledger.specs.Ledger.{Plan, queue, size, dataBurst, Sender}
 use Rattle.ledger.specs.Sound.{Fits}
-use Rattle.ledger.specs.Calls.{Call, queues, bursts, run, step, Along, Allowed}
+use Rattle.ledger.specs.Calls.{run, Along}
+use Rattle.limits.specs.Limits.{minPayload, longestPayload, maxTop, maxSlots, maxWaiting, maxFlying, maxPieces, maxNumber}
+use Rattle.ledger.specs.Sizes.{Sizes}
+use Rattle.ledger.specs.CallsCode.{Move, queues, bursts, step, Allowed}
+use Rattle.ledger.specs.LedgerCode.{freshLedger}
+use Rattle.ledger.specs.SizesCode.{SizeRange}
 
 abbrev pub widest : Sizes
-widest = record { short = minPayload; long = maxPayload; top = maxTop }
+widest = record { short = minPayload; long = longestPayload; top = maxTop }
 
 abbrev pub planFor : ℕ → ℕ → Plan
 planFor payload number =
     record { payload = payload; merging = false; parity = 0; room = maxSlots; slot = 1; increment = λ h. 1; number = number }
 
 -- the queue filled; a burst of long frames; a burst of short ones
-unfoldable pub full : List Call
-full = queues (replicate maxWaiting 0) ∷ bursts (planFor maxPayload 1) ∷ bursts (planFor minPayload 2) ∷ []
+unfoldable pub full : List Move
+full = queues (replicate maxWaiting 0) ∷ bursts (planFor longestPayload 1) ∷ bursts (planFor minPayload 2) ∷ []
 
-pub full-bytes : size (run (step widest) full fresh .pieces) ≡ maxFlying
+pub full-bytes : size (run (step widest) full freshLedger .pieces) ≡ maxFlying
 unfolding full dataBurst queue
 full-bytes = refl
 
-pub full-pieces : length (run (step widest) full fresh .pieces) ≡ maxPieces
+pub full-pieces : length (run (step widest) full freshLedger .pieces) ≡ maxPieces
 unfolding full dataBurst queue
 full-pieces = refl
 
@@ -35,7 +39,7 @@ full-pieces = refl
 pub widest-range : SizeRange widest
 widest-range = record { least = omega arith; order = omega arith; most = omega arith; bits = omega arith }
 
-planFor-fits : (payload number : ℕ) (s : Sender) → (payload ≡ minPayload) ⊎ (payload ≡ maxPayload) → number ≤ maxNumber → Fits widest s (planFor payload number)
+planFor-fits : (payload number : ℕ) (s : Sender) → (payload ≡ minPayload) ⊎ (payload ≡ longestPayload) → number ≤ maxNumber → Fits widest s (planFor payload number)
 planFor-fits payload number s p n =
     record {
       payload = p;
@@ -46,8 +50,8 @@ planFor-fits payload number s p n =
       number = n;
     }
 
-pub full-allowed : Along (step widest) (Allowed widest) full fresh
+pub full-allowed : Along (step widest) (Allowed widest) full freshLedger
 unfolding full
 full-allowed =
     let l = length-replicate {A = ℕ} maxWaiting 0 in
-    ((omega arith, omega arith), (planFor-fits maxPayload 1 _ (inr refl) (omega arith), (planFor-fits minPayload 2 _ (inl refl) (omega arith), tt)))
+    ((omega arith, omega arith), (planFor-fits longestPayload 1 _ (inr refl) (omega arith), (planFor-fits minPayload 2 _ (inl refl) (omega arith), tt)))

@@ -8,11 +8,10 @@ use native.Mathlib.Omega.{arith}
 use lib.ListN.{length, take, drop}
 use Rattle.laws.specs.Lists.{occurs, listed}
 use Rattle.laws.proofs.Lists.{one-same, listed-occurs}
-use Rattle.ledger.specs.Limits.{Sizes, SizeRange}
-use Rattle.ledger.specs.Ledger.{Sender, Sent, sentOffs, offs, frames, find, dataBurst, heldOffs, fresh}
-use Rattle.ledger.specs.Tally.{Tally, byteOf, feed, framesIn, Event, start}
+use Rattle.ledger.specs.Ledger.{Sender, Sent, sentOffs, offs, find, dataBurst, heldOffs}
+use Rattle.ledger.specs.Tally.{Tally, byteOf, feed, framesTold, Event, start}
 use Rattle.ledger.specs.Sound.{Sound}
-use Rattle.ledger.specs.Calls.{Call, Allowed, step, told, idle, queues, hears, turns, bursts, Along, run, tally, history}
+use Rattle.ledger.specs.Calls.{Along, run, tally, history}
 use Rattle.ledger.specs.Claim.{Carry, Demand3}
 use Rattle.ledger.proofs.Agree.{Agree, start-agree}
 use Rattle.ledger.proofs.PerOffset.{covers-once, acked-exactly}
@@ -22,6 +21,10 @@ use Rattle.ledger.proofs.Kept.{out-occurs, step-sound, step-agree, step
 use Rattle.ledger.proofs.Offsets.{find-some, flying-within}
 use Rattle.ledger.proofs.Planned.{keeps-air}
 use Rattle.ledger.proofs.ShortFrames.{pieces-shortFrames}
+use Rattle.ledger.specs.Sizes.{Sizes}
+use Rattle.ledger.specs.CallsCode.{Move, Allowed, step, moveTold, idle, queues, hears, turns, bursts}
+use Rattle.ledger.specs.LedgerCode.{frames, freshLedger}
+use Rattle.ledger.specs.SizesCode.{SizeRange}
 
 -- what a sound record that agrees with its tally says of the next call
 module _ (z : Sizes) (zr : SizeRange z) (s : Sender) (t : Tally) (so : Sound z s) (ag : Agree s t) where
@@ -35,17 +38,17 @@ module _ (z : Sizes) (zr : SizeRange z) (s : Sender) (t : Tally) (so : Sound z s
   holds o h =
       sym (find-flown (z .long) (s .next) o (s .pieces) (t .flown) (so .ascend) (find-some (z .long) 0 (s .next) o (s .pieces) (so .ascend) (listed-occurs o (offs (s .pieces)) h)) (ag .flown))
 
-module _ (z : Sizes) (zr : SizeRange z) (s : Sender) (t : Tally) (so : Sound z s) (ag : Agree s t) (c : Call) (al : Allowed z c s) where
-  call-carries : (c′ : Call) → Sound z (step z c′ s) → Agree (step z c′ s) (feed (told z c′ s) t) → Carry (map byteOf (feed (told z c′ s) t .flown)) (step z c′ s .pieces) (framesIn (told z c′ s))
+module _ (z : Sizes) (zr : SizeRange z) (s : Sender) (t : Tally) (so : Sound z s) (ag : Agree s t) (c : Move) (al : Allowed z c s) where
+  call-carries : (c′ : Move) → Sound z (step z c′ s) → Agree (step z c′ s) (feed (moveTold z c′ s) t) → Carry (map byteOf (feed (moveTold z c′ s) t .flown)) (step z c′ s .pieces) (framesTold (moveTold z c′ s))
   call-carries idle so′ ag′ = tt
   call-carries (queues bs) so′ ag′ = tt
   call-carries (hears r keep) so′ ag′ = tt
   call-carries turns so′ ag′ = tt
   call-carries (bursts g) so′ ag′ =
-      carry z zr (dataBurst g s) (feed (told z (bursts g) s) t) so′ ag′ (dataBurst g s .sent)
+      carry z zr (dataBurst g s) (feed (moveTold z (bursts g) s) t) so′ ag′ (dataBurst g s .sent)
       (λ o h. omega (arith, out-occurs z (dataBurst g s) so′ o))
 
-  pub claim-of : (bytes : List ℕ) → t .taken ≡ length bytes → bytes ≡ map byteOf (t .flown) ++ t .waiting → Demand3 z bytes s t (told z c s) (step z c s)
+  pub claim-of : (bytes : List ℕ) → t .taken ≡ length bytes → bytes ≡ map byteOf (t .flown) ++ t .waiting → Demand3 z bytes s t (moveTold z c s) (step z c s)
   claim-of bytes tk hi =
       let f = inFlight-size (s .next) (s .pieces) (t .flown) (ag .flown) in
       let p = flown-parts (t .flown) in
@@ -59,7 +62,7 @@ module _ (z : Sizes) (zr : SizeRange z) (s : Sender) (t : Tally) (so : Sound z s
         covers = λ o. covers-once (z .long) (s .next) o (s .pieces) (t .flown) (so .ascend) (ag .flown);
         inPieces = sym f;
         holds = holds z zr s t so ag;
-        exactly = acked-exactly (told z c s) t;
+        exactly = acked-exactly (moveTold z c s) t;
         acked = omega (arith, so .sum);
         carries = call-carries c (step-sound z zr c s al so) (step-agree z zr c s t al so ag);
         keeps = λ o h h′. (
@@ -78,12 +81,12 @@ along next P p [] c = tt
 along next P p (i ∷ is) c = (p i c, along next P p is (next i c))
 
 module _ (z : Sizes) (zr : SizeRange z) (C I : Type 0) (Given : I → C → Type 0) (Ok : C → Type 0)
-    (next : I → C → C) (view : C → Sender) (call : I → C → Call) (says : I → C → Event) where
+    (next : I → C → C) (view : C → Sender) (call : I → C → Move) (says : I → C → Event) where
   -- What each call gives of arguments that may be given and a sound record. `Ok` is whatever else holds of each state
   pub record Refines : Type 0 where
     pub allowed : (i : I) (c : C) → Given i c → Sound z (view c) → Ok c → Allowed z (call i c) (view c)
     pub steps : (i : I) (c : C) → Given i c → Sound z (view c) → Ok c → view (next i c) ≡ step z (call i c) (view c)
-    pub tells : (i : I) (c : C) → Given i c → Sound z (view c) → Ok c → says i c ≡ told z (call i c) (view c)
+    pub tells : (i : I) (c : C) → Given i c → Sound z (view c) → Ok c → says i c ≡ moveTold z (call i c) (view c)
     pub keeps : (i : I) (c : C) → Given i c → Sound z (view c) → Ok c → Ok (next i c)
 
   module _ (re : Refines) where
@@ -107,7 +110,7 @@ module _ (z : Sizes) (zr : SizeRange z) (C I : Type 0) (Given : I → C → Type
         all-agree is (next i c) (feed (says i c) t) (gs .1) (one-sound i c (gs .0) so ok) (re .keeps i c (gs .0) so ok) (one-agree i c t (gs .0) so ok ag)
 
     -- from a state that shows a fresh sender
-    module _ (c : C) (e : view c ≡ fresh) (ok : Ok c) (is : List I) (gs : Along next Given is c) where
+    module _ (c : C) (e : view c ≡ freshLedger) (ok : Ok c) (is : List I) (gs : Along next Given is c) where
       pub sound-after : Sound z (view (run next is c))
       sound-after = all-sound is c gs (rw e (fresh-sound z)) ok
 

@@ -6,11 +6,12 @@ use mathlib.Core.List.{List, [], _∷_, _++_, map}
 use lib.Dec.{ltb, eqb}
 use lib.ListN.{length, take, drop}
 use Rattle.laws.specs.Lists.{listed, one}
-use Rattle.ledger.specs.Limits.{Sizes, maxFlying, maxPieces}
 use Rattle.ledger.specs.Reply.{Reply}
 use Rattle.ledger.specs.Ledger.{Piece, Frame, Sender, len, size, find, offs, heldOffs}
-use Rattle.ledger.specs.Tally.{Flown, Outstanding, nothing, outstanding, Tally, Event, silent, took, reply, turn, went, byteOf, inFlight, acknowledged, within, feed, framesIn}
+use Rattle.ledger.specs.Tally.{Flown, Outstanding, nothing, outstanding, Tally, Event, silent, took, reply, turn, went, byteOf, inFlight, acknowledged, within, feed, framesTold}
 use Rattle.ledger.specs.Plan.{Choice, ChoiceRange, Longer, KeepsAir}
+use Rattle.limits.specs.Limits.{maxFlying, maxPieces}
+use Rattle.ledger.specs.Sizes.{Sizes}
 
 -- how many pieces cover offset o
 abbrev pub covering : ℕ → List Piece → ℕ
@@ -71,7 +72,7 @@ pub record Demand3 (z : Sizes) (bytes : List ℕ) (s : Sender) (t : Tally) (e : 
   -- and the record counts these
   pub acked : s .acked ≡ acknowledged (t .flown)
   -- each frame carries the bytes taken at its offset, as many as its length says
-  pub carries : Carry (map byteOf (feed e t .flown)) (s′ .pieces) (framesIn e)
+  pub carries : Carry (map byteOf (feed e t .flown)) (s′ .pieces) (framesTold e)
   -- a piece listed as part held keeps its bounds while it is listed
   pub keeps : (o : ℕ) → listed o (heldOffs (s .held)) ≡ true → listed o (heldOffs (s′ .held)) ≡ true →
       (1 ≤ length (find o (s .pieces))) × (find o (s′ .pieces) ≡ find o (s .pieces))

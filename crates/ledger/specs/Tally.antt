@@ -92,37 +92,37 @@ acknowledgeAll b i [] fl = fl
 acknowledgeAll b i (f ∷ fs) fl = acknowledgeAll b (suc i) fs (cond (b i) (acknowledge (f .off) (f .len) 0 fl) fl)
 
 -- "An ack bearing that burst's number acknowledges the bytes of each of its frames whose bit, by place in the burst, is set"
-abbrev pub answered : Reply → Outstanding → List Flown → List Flown
-answered r nothing fl = fl
-answered r (outstanding n fs) fl = cond (eqb (r .number) n) (acknowledgeAll (r .bit (length fs)) 0 fs fl) fl
+abbrev pub acknowledgedBy : Reply → Outstanding → List Flown → List Flown
+acknowledgedBy r nothing fl = fl
+acknowledgedBy r (outstanding n fs) fl = cond (eqb (r .number) n) (acknowledgeAll (r .bit (length fs)) 0 fs fl) fl
 
 -- "Any ack or turn leaves none outstanding"
 unfoldable pub heard : Reply → Tally → Tally
-heard r t = record { taken = t .taken; waiting = t .waiting; flown = answered r (t .out) (t .flown); out = nothing }
+heard r t = record { taken = t .taken; waiting = t .waiting; flown = acknowledgedBy r (t .out) (t .flown); out = nothing }
 
-unfoldable pub turned : Tally → Tally
-turned t = record { taken = t .taken; waiting = t .waiting; flown = t .flown; out = nothing }
+unfoldable pub noneOutstanding : Tally → Tally
+noneOutstanding t = record { taken = t .taken; waiting = t .waiting; flown = t .flown; out = nothing }
 
 -- "A refused call or a connect changes nothing"
 abbrev pub feed : Event → Tally → Tally
 feed silent t = t
 feed (took bs) t = queued bs t
 feed (reply r) t = heard r t
-feed turn t = turned t
+feed turn t = noneOutstanding t
 feed (went n fs) t = sentOut n fs t
 
 -- the bytes that an event queues
-abbrev pub bytesIn : Event → List ℕ
-bytesIn silent = []
-bytesIn (took bs) = bs
-bytesIn (reply r) = []
-bytesIn turn = []
-bytesIn (went n fs) = []
+abbrev pub bytesTold : Event → List ℕ
+bytesTold silent = []
+bytesTold (took bs) = bs
+bytesTold (reply r) = []
+bytesTold turn = []
+bytesTold (went n fs) = []
 
 -- the frames that it sends
-abbrev pub framesIn : Event → List Frame
-framesIn silent = []
-framesIn (took bs) = []
-framesIn (reply r) = []
-framesIn turn = []
-framesIn (went n fs) = fs
+abbrev pub framesTold : Event → List Frame
+framesTold silent = []
+framesTold (took bs) = []
+framesTold (reply r) = []
+framesTold turn = []
+framesTold (went n fs) = fs

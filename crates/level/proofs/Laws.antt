@@ -13,11 +13,6 @@ pub wave-lt : (l : ℕ) → waveRank l < 6
 unfolding waveRank
 wave-lt l = ltb→lt _ 6 (entry (λ w. ltb w 6) waves 0 l tt tt)
 
--- a rate is one of six
-pub rate-lt : (l : ℕ) → rateOf l < 6
-unfolding rateOf
-rate-lt l = ltb→lt _ 6 (entry (λ r. ltb r 6) rates 0 l tt tt)
-
 -- levels 0 to 4 use short frames, the rest long
 agree : (a b : Bool) → Bool·beq a b ≡ true → a ≡ b
 agree true true e = refl

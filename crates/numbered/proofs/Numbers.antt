@@ -3,20 +3,16 @@ use Prim.Native.Nat.{ℕ}
 use mathlib.Core.List.{List}
 use mathlib.Core.Path.{_≡_, ap, _∙_}
 use Rattle.refusals.specs.Refusals.{numberOf}
-use Rattle.sender.specs.declared.Queued.{Queued}
-use Rattle.sender.specs.declared.Received.{Received}
+use Rattle.sender.specs.declared.Answer.{Answer}
 use Rattle.sender.specs.declared.Bursted.{Bursted}
 use Rattle.sender.specs.declared.Finding.{Finding}
 use Rattle.numbered.specs.declared.Left.{Left}
 use Rattle.numbered.specs.declared.LeftBurst.{LeftBurst}
 use Rattle.numbered.specs.declared.Place.{Place}
-use Rattle.numbered.specs.Numbered.{queueNumber, replyNumber, burstNumber, findNumber}
+use Rattle.numbered.specs.Numbered.{answerNumber, burstNumber, findNumber}
 
-pub queue-numbered : (q : Queued) (a : List ℕ) (x : Queued × List ℕ) (n : ℕ) → (q, a) ≡ x → n ≡ numberOf (q .verdict) → (record { refusal = n; next = q .next }, a) ≡ queueNumber x
-queue-numbered q a x n is e = ap {B = Left × List ℕ} (λ (m : ℕ). (record { refusal = m; next = q .next }, a)) e ∙ ap queueNumber is
-
-pub reply-numbered : (q : Received) (a : List ℕ) (x : Received × List ℕ) (n : ℕ) → (q, a) ≡ x → n ≡ numberOf (q .verdict) → (record { refusal = n; next = q .next }, a) ≡ replyNumber x
-reply-numbered q a x n is e = ap {B = Left × List ℕ} (λ (m : ℕ). (record { refusal = m; next = q .next }, a)) e ∙ ap replyNumber is
+pub answer-numbered : (q : Answer) (a : List ℕ) (x : Answer × List ℕ) (n : ℕ) → (q, a) ≡ x → n ≡ numberOf (q .verdict) → (record { refusal = n; next = q .next }, a) ≡ answerNumber x
+answer-numbered q a x n is e = ap {B = Left × List ℕ} (λ (m : ℕ). (record { refusal = m; next = q .next }, a)) e ∙ ap answerNumber is
 
 pub burst-numbered : (q : Bursted) (b : List ℕ × List ℕ) (x : Bursted × (List ℕ × List ℕ)) (n : ℕ) → (q, b) ≡ x → n ≡ numberOf (q .verdict) → (record { burst = record { refusal = n; outgoing = q .outgoing }; next = q .next }, b) ≡ burstNumber x
 burst-numbered q b x n is e = ap {B = LeftBurst × (List ℕ × List ℕ)} (λ (m : ℕ). (record { burst = record { refusal = m; outgoing = q .outgoing }; next = q .next }, b)) e ∙ ap burstNumber is

@@ -2,8 +2,7 @@
 use mathlib.Core.List.{List}
 use Prim.Native.Nat.{ℕ}
 use Rattle.refusals.specs.Refusals.{numberOf}
-use Rattle.sender.specs.declared.Queued.{Queued}
-use Rattle.sender.specs.declared.Received.{Received}
+use Rattle.sender.specs.declared.Answer.{Answer}
 use Rattle.sender.specs.declared.Bursted.{Bursted}
 use Rattle.sender.specs.declared.Finding.{Finding}
 use Rattle.numbered.specs.declared.Left.{Left}
@@ -11,11 +10,8 @@ use Rattle.numbered.specs.declared.LeftBurst.{LeftBurst}
 use Rattle.numbered.specs.declared.Place.{Place}
 
 -- with the work area after the call
-abbrev pub queueNumber : Queued × List ℕ → Left × List ℕ
-queueNumber q = (record { refusal = numberOf (q .0 .verdict); next = q .0 .next }, q .1)
-
-abbrev pub replyNumber : Received × List ℕ → Left × List ℕ
-replyNumber q = (record { refusal = numberOf (q .0 .verdict); next = q .0 .next }, q .1)
+abbrev pub answerNumber : Answer × List ℕ → Left × List ℕ
+answerNumber q = (record { refusal = numberOf (q .0 .verdict); next = q .0 .next }, q .1)
 
 -- with the work area and the output after the call
 abbrev pub burstNumber : Bursted × (List ℕ × List ℕ) → LeftBurst × (List ℕ × List ℕ)

@@ -1,20 +1,20 @@
 // The sender's calls with document 01's numbers in place of the verdicts, and a function for each reply: what the C interface stands on.
-use answers::Ack;
-use answers::ConnAck;
-use answers::Heard;
-use answers::LongAck;
-use answers::Turn;
 use config::Profile;
 use outgoing::Outgoing;
 use record::Sender;
 use refusals::Reply;
 use refusals::number;
+use replies::Ack;
+use replies::ConnAck;
+use replies::Heard;
+use replies::LongAck;
+use replies::Turn;
 use sender::sender_rx;
 ghost use mathlib.Core.Path.{_≡_};
 ghost use mathlib.Core.List.{[]};
 ghost use Rattle.sender.specs.Calls.{queueOf, receiveOf, findOf, burstCall};
 ghost use Rattle.refusals.specs.declared.Reply.the-variants as R;
-ghost use Rattle.numbered.specs.Numbered.{queueNumber, replyNumber, burstNumber, findNumber};
+ghost use Rattle.numbered.specs.Numbered.{answerNumber, burstNumber, findNumber};
 
 // A refusal's number, 0 where the call is accepted, and the next record.
 pub struct Left {
@@ -44,7 +44,7 @@ pub struct Place {
 }
 
 pub fn queue(p: Profile, s: Sender, a: &mut [u8], bytes: &[u8]) -> Left
-    ensures { λ r. ⌜ (r, now (a .exit)) ≡ queueNumber (queueOf p s (now (a .entry)) (now (bytes .entry))) ⌝ }
+    ensures { λ r. ⌜ (r, now (a .exit)) ≡ answerNumber (queueOf p s (now (a .entry)) (now (bytes .entry))) ⌝ }
 {
     let q = sender::queue(p, s, a, bytes);
     let v = q.verdict;
@@ -54,7 +54,7 @@ pub fn queue(p: Profile, s: Sender, a: &mut [u8], bytes: &[u8]) -> Left
 }
 
 fn reply(p: Profile, s: Sender, a: &mut [u8], h: Heard, r: Reply, payload: &[u8]) -> Left
-    ensures { λ q. ⌜ (q, now (a .exit)) ≡ replyNumber (receiveOf p s (now (a .entry)) h r (now (payload .entry))) ⌝ }
+    ensures { λ q. ⌜ (q, now (a .exit)) ≡ answerNumber (receiveOf p s (now (a .entry)) h r (now (payload .entry))) ⌝ }
 {
     let q = sender_rx(p, s, a, h, r, payload);
     let v = q.verdict;
@@ -64,27 +64,27 @@ fn reply(p: Profile, s: Sender, a: &mut [u8], h: Heard, r: Reply, payload: &[u8]
 }
 
 pub fn connect(p: Profile, s: Sender, a: &mut [u8], h: Heard, r: ConnAck) -> Left
-    ensures { λ q. ⌜ (q, now (a .exit)) ≡ replyNumber (receiveOf p s (now (a .entry)) h (R.ConnAck r) []) ⌝ }
+    ensures { λ q. ⌜ (q, now (a .exit)) ≡ answerNumber (receiveOf p s (now (a .entry)) h (R.ConnAck r) []) ⌝ }
 {
     let none: [u8; 1] = [0];
     reply(p, s, a, h, Reply::ConnAck(r), &none[..0])
 }
 
 pub fn short_ack(p: Profile, s: Sender, a: &mut [u8], h: Heard, r: Ack) -> Left
-    ensures { λ q. ⌜ (q, now (a .exit)) ≡ replyNumber (receiveOf p s (now (a .entry)) h (R.Ack r) []) ⌝ }
+    ensures { λ q. ⌜ (q, now (a .exit)) ≡ answerNumber (receiveOf p s (now (a .entry)) h (R.Ack r) []) ⌝ }
 {
     let none: [u8; 1] = [0];
     reply(p, s, a, h, Reply::Ack(r), &none[..0])
 }
 
 pub fn long_ack(p: Profile, s: Sender, a: &mut [u8], h: Heard, r: LongAck, payload: &[u8]) -> Left
-    ensures { λ q. ⌜ (q, now (a .exit)) ≡ replyNumber (receiveOf p s (now (a .entry)) h (R.LongAck r) (now (payload .entry))) ⌝ }
+    ensures { λ q. ⌜ (q, now (a .exit)) ≡ answerNumber (receiveOf p s (now (a .entry)) h (R.LongAck r) (now (payload .entry))) ⌝ }
 {
     reply(p, s, a, h, Reply::LongAck(r), payload)
 }
 
 pub fn turn(p: Profile, s: Sender, a: &mut [u8], h: Heard, r: Turn) -> Left
-    ensures { λ q. ⌜ (q, now (a .exit)) ≡ replyNumber (receiveOf p s (now (a .entry)) h (R.Turn r) []) ⌝ }
+    ensures { λ q. ⌜ (q, now (a .exit)) ≡ answerNumber (receiveOf p s (now (a .entry)) h (R.Turn r) []) ⌝ }
 {
     let none: [u8; 1] = [0];
     reply(p, s, a, h, Reply::Turn(r), &none[..0])

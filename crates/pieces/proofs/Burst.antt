@@ -9,15 +9,16 @@ use Rattle.harq.specs.Held.{incrementOf}
 use Rattle.laws.specs.Lists.{listed}
 use Rattle.laws.proofs.Lists.{map-append, map-take}
 use Rattle.laws.proofs.Picks.{by₂}
-use Rattle.table.specs.declared.Row.{Row}
-use Rattle.slots.specs.Slots.{unheldSlots, chunkRows, incrementSlots}
-use Rattle.slots.specs.declared.Slot.{Slot}
+use Rattle.area.specs.declared.table.Row.{Row}
+use Rattle.frames.specs.Slots.{unheldSlots, chunkRows, incrementSlots}
+use Rattle.frames.specs.declared.slots.Slot.{Slot}
 use Rattle.ledger.specs.Ledger.{Piece, Plan, Sender, Sent, offs, heldOffs, unheld, chunks, whole, wholes, increments, kept, recut, oldOffs, newPieces, slots}
 use Rattle.pieces.specs.Pieces.{piecesOf}
-use Rattle.pieces.specs.Lists.{heldOf, sentSlots}
-use Rattle.pieces.specs.Burst.{oldSlots, newRows, newSlots, burstSlots}
+use Rattle.pieces.specs.Lists.{heldOf}
 use Rattle.pieces.proofs.Chunks.{chunk-pieces}
 use Rattle.pieces.proofs.Lists.{held-offs, held-take, sentSlots-append, sentSlots-length, sentSlots-take}
+use Rattle.pieces.specs.BurstCode.{oldSlots, newRows, newSlots, burstSlots}
+use Rattle.pieces.specs.ListsCode.{sentSlots}
 
 unheld-all : (ps : List Piece) → unheld [] ps ≡ offs ps
 unheld-all [] = refl

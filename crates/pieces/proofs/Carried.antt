@@ -16,29 +16,34 @@ use Rattle.laws.proofs.Bytes.{length-part}
 use Rattle.laws.proofs.Lists.{occurs-append, occurs-all, one-other}
 use Rattle.laws.proofs.Picks.{by, test}
 use Rattle.frame.specs.Frame.{maxPayload}
-use Rattle.frames.specs.Frames.{framesOf, Fit}
-use Rattle.table.specs.declared.Row.{Row}
-use Rattle.table.specs.Table.{total}
-use Rattle.sound.specs.Sound.{rowOffs}
-use Rattle.slots.specs.Slots.{unheldSlots, incrementSlots}
-use Rattle.slots.specs.declared.Slot.{Slot}
-use Rattle.slots.proofs.Laws.{chunk-total}
-use Rattle.ledger.specs.Limits.{Sizes, SizeRange, maxSlots}
-use Rattle.ledger.specs.Ledger.{Piece, Plan, Sender, Sent, Held, end, size, offs, heldOffs, find, frames, kept, recut, oldOffs, newPieces, dataBurst}
-use Rattle.ledger.specs.Cover.{Ascend}
+use Rattle.frames.specs.Frames.{framesWritten, Fit}
+use Rattle.area.specs.declared.table.Row.{Row}
+use Rattle.area.specs.Table.{total}
+use Rattle.area_check.specs.Rows.{rowOffs}
+use Rattle.frames.specs.Slots.{unheldSlots, incrementSlots}
+use Rattle.frames.specs.declared.slots.Slot.{Slot}
+use Rattle.frames.proofs.slots.Laws.{chunk-total}
+use Rattle.ledger.specs.Ledger.{Piece, Plan, Sender, Sent, Held, end, size, offs, heldOffs, find, kept, recut, oldOffs, newPieces, dataBurst}
 use Rattle.ledger.specs.Sound.{Sound, Fits}
 use Rattle.ledger.proofs.Burst.{burst-sound, burst-ascend}
 use Rattle.ledger.proofs.Cover.{ascend-le, ascend-chunks}
 use Rattle.ledger.proofs.Offsets.{offs-append, occurs-low, occurs-once, flying-within}
 use Rattle.pieces.specs.Pieces.{piecesOf}
-use Rattle.pieces.specs.Lists.{heldOf, sentSlots}
-use Rattle.pieces.specs.Burst.{oldSlots, newRows, newSlots, burstSlots, Placed, framesSent}
+use Rattle.pieces.specs.Lists.{heldOf}
+use Rattle.pieces.specs.Burst.{framesSent}
 use Rattle.pieces.proofs.Sound.{offs-rows, size-rows, total-append}
 use Rattle.pieces.proofs.Lists.{sentSlots-length}
 use Rattle.pieces.proofs.Chunks.{append-pieces}
 use Rattle.pieces.proofs.Room.{payload-some}
 use Rattle.pieces.proofs.Burst.{kept-offs, burst-new, burst-slots}
 use Rattle.pieces.proofs.Placed.{placed-append, placed-take, placed-more, placed-increments, placed-unheld, placed-bytes, placed-carry, placed-frames, placed-fit, rowOffs-append}
+use Rattle.limits.specs.Limits.{maxSlots}
+use Rattle.ledger.specs.Sizes.{Sizes}
+use Rattle.ledger.specs.CoverCode.{Ascend}
+use Rattle.ledger.specs.LedgerCode.{frames}
+use Rattle.ledger.specs.SizesCode.{SizeRange}
+use Rattle.pieces.specs.BurstCode.{oldSlots, newRows, newSlots, burstSlots, Placed}
+use Rattle.pieces.specs.ListsCode.{sentSlots}
 
 -- ---- pieces out of a longer stream
 
@@ -178,7 +183,7 @@ module _ (z : Sizes) (zr : SizeRange z) (s : Sender) (g : Plan) (so : Sound z s)
             placed-bytes a (rs ++ new) xs burst-placed
             ∙ ap₂ (λ (ps : List Piece) (fs : List Sent). map (λ (f : Sent). find (f .off) ps) fs) burst-pieces burst-sent
 
-        pub burst-carry : (size : ℕ) → framesOf size xs a ≡ framesSent size (dataBurst g s .pieces) (dataBurst g s .sent)
+        pub burst-carry : (size : ℕ) → framesWritten size xs a ≡ framesSent size (dataBurst g s .pieces) (dataBurst g s .sent)
         burst-carry size = placed-carry size a (rs ++ new) xs burst-placed ∙ ap₂ (framesSent size) burst-pieces burst-sent
 
         -- and its length: the frames as the answer tells them

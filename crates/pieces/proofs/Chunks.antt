@@ -9,9 +9,9 @@ use lib.Seq.{take-all, take-length, drop-drop}
 use lib.Dec.{leb}
 use borrow.Author.Tests.{leb-true, leb-false}
 use Rattle.laws.proofs.Picks.{test}
-use Rattle.table.specs.declared.Row.{Row}
-use Rattle.table.specs.Table.{total}
-use Rattle.slots.specs.Slots.{chunkRows}
+use Rattle.area.specs.declared.table.Row.{Row}
+use Rattle.area.specs.Table.{total}
+use Rattle.frames.specs.Slots.{chunkRows}
 use Rattle.ledger.specs.Ledger.{Piece, chunks}
 use Rattle.pieces.specs.Pieces.{piecesOf}
 

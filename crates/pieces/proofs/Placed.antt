@@ -18,21 +18,24 @@ use Rattle.laws.proofs.Lists.{occurs-append, one-none, one-same}
 use Rattle.laws.proofs.Picks.{by, by₂, test}
 use Rattle.frame.specs.Frame.{maxPayload, frameOf}
 use Rattle.frame.proofs.Laws.{length-frame}
-use Rattle.frames.specs.Frames.{framesOf, Fit}
-use Rattle.table.specs.declared.Row.{Row}
-use Rattle.table.specs.Table.{total}
-use Rattle.lookup.specs.Find.{findFrom, bytesAt}
-use Rattle.lookup.specs.declared.Found.{Found}
-use Rattle.lookup.proofs.Laws.{find-within}
-use Rattle.sound.specs.Sound.{rowOffs}
-use Rattle.slots.specs.Slots.{unheldSlots, incrementSlots}
-use Rattle.slots.specs.declared.Slot.{Slot}
-use Rattle.ledger.specs.Ledger.{Piece, Sent, Frame, end, find, frames}
-use Rattle.ledger.specs.Cover.{Ascend}
+use Rattle.frames.specs.Frames.{framesWritten, Fit}
+use Rattle.area.specs.declared.table.Row.{Row}
+use Rattle.area.specs.Table.{total}
+use Rattle.area.specs.Find.{findFrom}
+use Rattle.area.specs.declared.lookup.Found.{Found}
+use Rattle.area.proofs.lookup.Laws.{find-within}
+use Rattle.area_check.specs.Rows.{rowOffs}
+use Rattle.frames.specs.Slots.{unheldSlots, incrementSlots}
+use Rattle.frames.specs.declared.slots.Slot.{Slot}
+use Rattle.ledger.specs.Ledger.{Piece, Sent, Frame, end, find}
 use Rattle.pieces.specs.Pieces.{piecesOf}
-use Rattle.pieces.specs.Lists.{sentSlots}
-use Rattle.pieces.specs.Burst.{Placed, framesSent}
+use Rattle.pieces.specs.Burst.{framesSent}
 use Rattle.pieces.proofs.Sound.{head-length, total-append}
+use Rattle.ledger.specs.CoverCode.{Ascend}
+use Rattle.ledger.specs.LedgerCode.{frames}
+use Rattle.area.specs.FindCode.{bytesAt}
+use Rattle.pieces.specs.BurstCode.{Placed}
+use Rattle.pieces.specs.ListsCode.{sentSlots}
 
 -- ---- what is found
 
@@ -134,8 +137,8 @@ placed-bytes a rs (x ∷ xs) p =
     ap₂ (λ (b : List ℕ) (l : List (List ℕ)). b ∷ l) (ap (bytesAt a) (sym (p .0)) ∙ found-bytes (x .off) 0 a rs) (placed-bytes a rs xs (p .1))
 
 -- so the frames carry them
-pub placed-carry : (size : ℕ) (a : List ℕ) (rs : List Row) (xs : List Slot) → Placed rs xs → framesOf size xs a ≡ framesSent size (piecesOf rs a) (sentSlots xs)
-unfolding framesOf
+pub placed-carry : (size : ℕ) (a : List ℕ) (rs : List Row) (xs : List Slot) → Placed rs xs → framesWritten size xs a ≡ framesSent size (piecesOf rs a) (sentSlots xs)
+unfolding framesWritten
 placed-carry size a rs [] p = refl
 placed-carry size a rs (x ∷ xs) p =
     ap₂ (λ (b l : List ℕ). frameOf size (x .off) b ++ l) (ap (bytesAt a) (sym (p .0)) ∙ found-bytes (x .off) 0 a rs) (placed-carry size a rs xs (p .1))
@@ -165,14 +168,14 @@ placed-fit size m k n used a rs (x ∷ xs) h s l u p =
     )
 
 -- frames that fit have their size each
-pub frames-length : (size : ℕ) (a : List ℕ) (xs : List Slot) → 10 ≤ size → Fit size (length a) xs → length (framesOf size xs a) ≡ length xs * size
-unfolding framesOf
+pub frames-length : (size : ℕ) (a : List ℕ) (xs : List Slot) → 10 ≤ size → Fit size (length a) xs → length (framesWritten size xs a) ≡ length xs * size
+unfolding framesWritten
 frames-length size a [] h f = omega arith
 frames-length size a (x ∷ xs) h f =
     let l : length (part a (x .start) (x .len)) ≡ x .len = length-part a (x .start) (x .len) (f .1) in
     omega (
       arith,
-      length-append (frameOf size (x .off) (part a (x .start) (x .len))) (framesOf size xs a),
+      length-append (frameOf size (x .off) (part a (x .start) (x .len))) (framesWritten size xs a),
       length-frame size (x .off) (part a (x .start) (x .len)) (omega (arith, f .0)),
       frames-length size a xs h (f .2),
     )

@@ -11,13 +11,13 @@ use lib.Dec.{leb, eqb}
 use borrow.Author.Tests.{leb-false}
 use Rattle.laws.specs.Lists.{listed}
 use Rattle.laws.proofs.Picks.{by, by₂}
-use Rattle.table.specs.declared.Row.{Row}
-use Rattle.table.specs.Table.{total}
-use Rattle.recut.specs.Recut.{row, cutRows, splitRows, joinsRow, mergeRowsFrom, mergeRows}
+use Rattle.area.specs.declared.table.Row.{Row}
+use Rattle.area.specs.Table.{total}
+use Rattle.area.specs.Recut.{row, cutRows, splitRows, joinsRow, mergeRowsFrom, mergeRows}
 use Rattle.ledger.specs.Ledger.{Piece, Plan, Sender, heldOffs, cut, split, joins, mergeFrom, mergeInflight, kept, recut}
 use Rattle.pieces.specs.Pieces.{piecesOf}
-use Rattle.pieces.specs.Burst.{recutRows}
 use Rattle.pieces.proofs.Sound.{head-length, total-append}
+use Rattle.pieces.specs.BurstCode.{recutRows}
 
 -- ---- cut
 

@@ -12,16 +12,17 @@ use lib.Dec.{leb, ltb, eqb}
 use borrow.Author.Tests.{leb-true, ltb-true, eqb-true, le-leb, lt-ltb, eq-eqb, not-true}
 use Rattle.laws.specs.Lists.{listed, Distinct, AllListed}
 use Rattle.laws.proofs.Picks.{and-yes, and-first, and-second, or-no}
-use Rattle.table.specs.declared.Row.{Row}
-use Rattle.table.specs.Table.{total}
-use Rattle.sound.specs.Sound.{ascends, shortFramesOf, rowOffs, tableOk, allFlying, heldBitsOk, sentBitsOk, noneListed}
-use Rattle.ledger.specs.Limits.{maxPieces, maxBits, maxHeld}
+use Rattle.area.specs.declared.table.Row.{Row}
+use Rattle.area.specs.Table.{total}
+use Rattle.area_check.specs.Rows.{ascends, shortFramesOf, rowOffs, tableOk, allFlying, heldBitsOk, sentBitsOk, noneListed}
 use Rattle.ledger.specs.Ledger.{size, offs}
-use Rattle.ledger.specs.Cover.{Ascend, ceil, shortFrames}
+use Rattle.ledger.specs.Cover.{ceil}
 use Rattle.ledger.specs.Sound.{Flying, HeldBits, SentBits}
 use Rattle.ledger.proofs.ShortFrames.{pieces-shortFrames}
 use Rattle.pieces.specs.Pieces.{piecesOf}
 use Rattle.pieces.specs.Lists.{heldOf, sentOf}
+use Rattle.limits.specs.Limits.{maxPieces, maxBits, maxHeld}
+use Rattle.ledger.specs.CoverCode.{Ascend, shortFrames}
 
 pub offs-rows : (rs : List Row) (st : List ℕ) → offs (piecesOf rs st) ≡ rowOffs rs
 offs-rows [] st = refl
@@ -98,10 +99,6 @@ module _ (short long next flying : ℕ) (rs : List Row) (st : List ℕ) (fits : 
   pieces-table a s f =
       and-yes _ _ (pieces-ascend long next 0 rs st fits a)
       (and-yes _ _ (eq-eqb (total rs) flying (sym (size-rows rs st fits) ∙ s)) (le-leb (shortFramesOf short rs) maxPieces (rw (← short-rows short rs st fits) f)))
-
--- each piece counts one short frame or more
-pub rows-few : (short long next : ℕ) (rs : List Row) (st : List ℕ) → 1 ≤ short → Ascend long 0 next (piecesOf rs st) → shortFrames short (piecesOf rs st) ≤ maxPieces → length rs ≤ maxPieces
-rows-few short long next rs st h a f = omega (arith, length-pieces rs st, pieces-shortFrames short h long 0 next (piecesOf rs st) a)
 
 -- ---- offsets that are distinct and flying
 

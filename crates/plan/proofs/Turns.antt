@@ -13,10 +13,10 @@ use borrow.Author.Tests.{ne-eqb}
 use Rattle.laws.proofs.Picks.{by}
 use Rattle.harq.specs.Held.{incrementOf}
 use Rattle.harq.specs.declared.Harq.{Harq}
-use Rattle.ledger.specs.Limits.{maxSlots, maxBits, partialMax}
 use Rattle.plan.specs.declared.Choice.{Choice}
 use Rattle.plan.specs.declared.Planned.{Planned}
-use Rattle.plan.specs.Planning.{tooBig, parityBits, popped, parityOf, offered, oneMore, roomFrom, planned}
+use Rattle.limits.specs.Limits.{maxSlots, maxBits, partialMax}
+use Rattle.plan.specs.PlanningCode.{tooBigFor, parityBitsOf, poppedFrom, parityOf, offeredOf, oneMoreFits, roomCounted, planned}
 
 -- bits of whole pieces
 pub wholes-small : (r s : ℕ) → r ≤ maxSlots → s ≤ maxBits → (r + 1) * s ≤ 1064960
@@ -26,86 +26,86 @@ wholes-small r s h k = let p : (r + 1) * s ≤ 65 * maxBits = mul-le-mul {n₂ =
 
 module _ (c : Choice) (n stored b r : ℕ) where
   module _ (h : r < maxSlots) where
-    room-step : roomFrom c n stored b (maxSlots - r) r ≡ cond (oneMore c n stored b r) (roomFrom c n stored b (maxSlots - (r + 1)) (r + 1)) r
-    unfolding roomFrom
+    room-step : roomCounted c n stored b (maxSlots - r) r ≡ cond (oneMoreFits c n stored b r) (roomCounted c n stored b (maxSlots - (r + 1)) (r + 1)) r
+    unfolding roomCounted
     room-step =
-        ap (λ (k : ℕ). roomFrom c n stored b k r) (let e : maxSlots - r ≡ suc (maxSlots - (r + 1)) = omega arith in e)
-        ∙ ap (λ (k : ℕ). cond (oneMore c n stored b r) (roomFrom c n stored b (maxSlots - (r + 1)) k) r) (sym (add-one r))
+        ap (λ (k : ℕ). roomCounted c n stored b k r) (let e : maxSlots - r ≡ suc (maxSlots - (r + 1)) = omega arith in e)
+        ∙ ap (λ (k : ℕ). cond (oneMoreFits c n stored b r) (roomCounted c n stored b (maxSlots - (r + 1)) k) r) (sym (add-one r))
 
-    pub room-more : oneMore c n stored b r ≡ true → roomFrom c n stored b (maxSlots - r) r ≡ roomFrom c n stored b (maxSlots - (r + 1)) (r + 1)
+    pub room-more : oneMoreFits c n stored b r ≡ true → roomCounted c n stored b (maxSlots - r) r ≡ roomCounted c n stored b (maxSlots - (r + 1)) (r + 1)
     room-more e = room-step ∙ rw e
 
-    pub room-stop : oneMore c n stored b r ≡ false → roomFrom c n stored b (maxSlots - r) r ≡ r
+    pub room-stop : oneMoreFits c n stored b r ≡ false → roomCounted c n stored b (maxSlots - r) r ≡ r
     room-stop e = room-step ∙ rw e
 
-  pub room-end : maxSlots ≤ r → roomFrom c n stored b (maxSlots - r) r ≡ r
-  unfolding roomFrom
-  room-end h = ap (λ (k : ℕ). roomFrom c n stored b k r) (let e : maxSlots - r ≡ 0 = omega arith in e)
+  pub room-end : maxSlots ≤ r → roomCounted c n stored b (maxSlots - r) r ≡ r
+  unfolding roomCounted
+  room-end h = ap (λ (k : ℕ). roomCounted c n stored b k r) (let e : maxSlots - r ≡ 0 = omega arith in e)
 
 module _ (q : Harq) (c : Choice) where
   -- ---- the increments' bits
 
-  pub bits-turn : (bs : List ℕ) (i : ℕ) → i < length bs → parityBits q c (drop i bs) ≡ incrementOf q (getD bs i 0) (c .slot) + parityBits q c (drop (i + 1) bs)
-  unfolding parityBits
-  bits-turn bs i h = ap (parityBits q c) (drop-cons bs i 0 h ∙ ap (λ (k : ℕ). getD bs i 0 ∷ drop k bs) (sym (add-one i)))
+  pub bits-turn : (bs : List ℕ) (i : ℕ) → i < length bs → parityBitsOf q c (drop i bs) ≡ incrementOf q (getD bs i 0) (c .slot) + parityBitsOf q c (drop (i + 1) bs)
+  unfolding parityBitsOf
+  bits-turn bs i h = ap (parityBitsOf q c) (drop-cons bs i 0 h ∙ ap (λ (k : ℕ). getD bs i 0 ∷ drop k bs) (sym (add-one i)))
 
-  bits-append : (xs ys : List ℕ) → parityBits q c (xs ++ ys) ≡ parityBits q c xs + parityBits q c ys
-  unfolding parityBits
+  bits-append : (xs ys : List ℕ) → parityBitsOf q c (xs ++ ys) ≡ parityBitsOf q c xs + parityBitsOf q c ys
+  unfolding parityBitsOf
   bits-append [] ys = sym (zero-add _)
   bits-append (x ∷ xs) ys = ap (λ (k : ℕ). incrementOf q x (c .slot) + k) (bits-append xs ys) ∙ sym (add-assoc _ _ _)
 
   -- the last increment of n
   pub bits-last : (bs : List ℕ) (n : ℕ) → 0 < n → n ≤ length bs
-      → parityBits q c (take n bs) ≡ parityBits q c (take (n - 1) bs) + incrementOf q (getD bs (n - 1) 0) (c .slot)
-  unfolding parityBits
+      → parityBitsOf q c (take n bs) ≡ parityBitsOf q c (take (n - 1) bs) + incrementOf q (getD bs (n - 1) 0) (c .slot)
+  unfolding parityBitsOf
   bits-last bs n h k =
-      ap (λ (j : ℕ). parityBits q c (take j bs)) (let e : n ≡ suc (n - 1) = omega arith in e)
-      ∙ ap (parityBits q c) (take-suc bs (n - 1) 0 (omega arith)) ∙ bits-append (take (n - 1) bs) (getD bs (n - 1) 0 ∷ [])
-      ∙ ap (λ (j : ℕ). parityBits q c (take (n - 1) bs) + j) (add-zero _)
+      ap (λ (j : ℕ). parityBitsOf q c (take j bs)) (let e : n ≡ suc (n - 1) = omega arith in e)
+      ∙ ap (parityBitsOf q c) (take-suc bs (n - 1) 0 (omega arith)) ∙ bits-append (take (n - 1) bs) (getD bs (n - 1) 0 ∷ [])
+      ∙ ap (λ (j : ℕ). parityBitsOf q c (take (n - 1) bs) + j) (add-zero _)
 
-  pub bits-all : (bs : List ℕ) → parityBits q c bs ≡ parityBits q c (take (length bs) bs)
-  bits-all bs = ap (parityBits q c) (sym (take-length bs))
+  pub bits-all : (bs : List ℕ) → parityBitsOf q c bs ≡ parityBitsOf q c (take (length bs) bs)
+  bits-all bs = ap (parityBitsOf q c) (sym (take-length bs))
 
   module _ (bs : List ℕ) where
     -- ---- popped increments
 
     -- whether the n-th increment is popped
     abbrev pub goes : ℕ → Bool
-    goes n = ltb partialMax n || tooBig c (c .«max_s») n (parityBits q c (take n bs))
+    goes n = ltb partialMax n || tooBigFor c (c .«max_s») n (parityBitsOf q c (take n bs))
 
     module _ (n : ℕ) (h : 0 < n) where
-      pop-step : popped q c bs n ≡ cond (goes n) (popped q c bs (n - 1)) n
-      unfolding popped
+      pop-step : poppedFrom q c bs n ≡ cond (goes n) (poppedFrom q c bs (n - 1)) n
+      unfolding poppedFrom
       pop-step =
           let e : n ≡ suc (n - 1) = omega arith in
-          ap (popped q c bs) e ∙ ap (λ (k : ℕ). cond (goes k) (popped q c bs (n - 1)) k) (sym e)
+          ap (poppedFrom q c bs) e ∙ ap (λ (k : ℕ). cond (goes k) (poppedFrom q c bs (n - 1)) k) (sym e)
 
-      pub pop-less : goes n ≡ true → popped q c bs n ≡ popped q c bs (n - 1)
-      pop-less e = pop-step ∙ ap (λ (t : Bool). cond t (popped q c bs (n - 1)) n) e
+      pub pop-less : goes n ≡ true → poppedFrom q c bs n ≡ poppedFrom q c bs (n - 1)
+      pop-less e = pop-step ∙ ap (λ (t : Bool). cond t (poppedFrom q c bs (n - 1)) n) e
 
-      pub pop-stop : goes n ≡ false → popped q c bs n ≡ n
-      pop-stop e = pop-step ∙ ap (λ (t : Bool). cond t (popped q c bs (n - 1)) n) e
+      pub pop-stop : goes n ≡ false → poppedFrom q c bs n ≡ n
+      pop-stop e = pop-step ∙ ap (λ (t : Bool). cond t (poppedFrom q c bs (n - 1)) n) e
 
-    pub pop-end : (n : ℕ) → n ≤ 0 → popped q c bs n ≡ 0
-    unfolding popped
-    pop-end n h = ap (popped q c bs) (let e : n ≡ 0 = omega arith in e)
+    pub pop-end : (n : ℕ) → n ≤ 0 → poppedFrom q c bs n ≡ 0
+    unfolding poppedFrom
+    pop-end n h = ap (poppedFrom q c bs) (let e : n ≡ 0 = omega arith in e)
 
-    pub pop-le : (n : ℕ) → popped q c bs n ≤ n
-    unfolding popped
+    pub pop-le : (n : ℕ) → poppedFrom q c bs n ≤ n
+    unfolding poppedFrom
     pop-le zero = omega arith
     pop-le (suc n) = by (λ (k : ℕ). k ≤ suc n) (goes (suc n)) (λ e. omega (arith, pop-le n)) (λ e. omega arith)
 
     -- ---- how many increments
 
     abbrev sum : ℕ → ℕ
-    sum n = parityBits q c (take n bs)
+    sum n = parityBitsOf q c (take n bs)
 
     -- of n with b bits those that fit, and all or none
     abbrev partly : ℕ → ℕ → ℕ
-    partly n b = cond (tooBig c (c .«max_s») n b) (popped q c bs n) n
+    partly n b = cond (tooBigFor c (c .«max_s») n b) (poppedFrom q c bs n) n
 
     abbrev whole : ℕ → ℕ → ℕ
-    whole n b = cond (tooBig c (c .«parity_s») n b) 0 n
+    whole n b = cond (tooBigFor c (c .«parity_s») n b) 0 n
 
     abbrev pick : ℕ → ℕ
     pick n = cond (c .partial) (partly n (sum n)) (whole n (sum n))
@@ -115,13 +115,13 @@ module _ (q : Harq) (c : Choice) where
     cond-same false x = refl
 
     pub parity-none : (c .long && c .«same_wave») ≡ false → parityOf q c bs ≡ 0
-    unfolding parityOf popped
+    unfolding parityOf poppedFrom
     parity-none e =
         ap (λ (b : Bool). pick (cond b (length bs) 0)) e
-        ∙ ap₂ (λ (x y : ℕ). cond (c .partial) x y) (cond-same (tooBig c (c .«max_s») 0 (sum 0)) 0) (cond-same (tooBig c (c .«parity_s») 0 (sum 0)) 0)
+        ∙ ap₂ (λ (x y : ℕ). cond (c .partial) x y) (cond-same (tooBigFor c (c .«max_s») 0 (sum 0)) 0) (cond-same (tooBigFor c (c .«parity_s») 0 (sum 0)) 0)
         ∙ cond-same (c .partial) 0
 
-    module _ (e : (c .long && c .«same_wave») ≡ true) (s : ℕ) (t : s ≡ parityBits q c bs) where
+    module _ (e : (c .long && c .«same_wave») ≡ true) (s : ℕ) (t : s ≡ parityBitsOf q c bs) where
       all-offered : parityOf q c bs ≡ pick (length bs)
       unfolding parityOf
       all-offered = ap (λ (b : Bool). pick (cond b (length bs) 0)) e
@@ -129,12 +129,12 @@ module _ (q : Harq) (c : Choice) where
       sum-is : sum (length bs) ≡ s
       sum-is = sym (t ∙ bits-all bs)
 
-      pub parity-partly : c .partial ≡ true → (b : Bool) → tooBig c (c .«max_s») (length bs) s ≡ b → parityOf q c bs ≡ cond b (popped q c bs (length bs)) (length bs)
+      pub parity-partly : c .partial ≡ true → (b : Bool) → tooBigFor c (c .«max_s») (length bs) s ≡ b → parityOf q c bs ≡ cond b (poppedFrom q c bs (length bs)) (length bs)
       parity-partly p b h =
           all-offered ∙ ap (λ (t : Bool). cond t (partly (length bs) (sum (length bs))) (whole (length bs) (sum (length bs)))) p
-          ∙ ap (partly (length bs)) sum-is ∙ ap (λ (t : Bool). cond t (popped q c bs (length bs)) (length bs)) h
+          ∙ ap (partly (length bs)) sum-is ∙ ap (λ (t : Bool). cond t (poppedFrom q c bs (length bs)) (length bs)) h
 
-      pub parity-whole : c .partial ≡ false → (b : Bool) → tooBig c (c .«parity_s») (length bs) s ≡ b → parityOf q c bs ≡ cond b 0 (length bs)
+      pub parity-whole : c .partial ≡ false → (b : Bool) → tooBigFor c (c .«parity_s») (length bs) s ≡ b → parityOf q c bs ≡ cond b 0 (length bs)
       parity-whole p b h =
           all-offered ∙ ap (λ (t : Bool). cond t (partly (length bs) (sum (length bs))) (whole (length bs) (sum (length bs)))) p
           ∙ ap (whole (length bs)) sum-is ∙ ap (λ (t : Bool). cond t 0 (length bs)) h
@@ -142,23 +142,23 @@ module _ (q : Harq) (c : Choice) where
     pick-le : (n : ℕ) → pick n ≤ n
     pick-le n =
         by (λ (k : ℕ). k ≤ n) (c .partial)
-        (λ e. by (λ (k : ℕ). k ≤ n) (tooBig c (c .«max_s») n (sum n)) (λ d. pop-le n) (λ d. omega arith))
-        (λ e. by (λ (k : ℕ). k ≤ n) (tooBig c (c .«parity_s») n (sum n)) (λ d. omega arith) (λ d. omega arith))
+        (λ e. by (λ (k : ℕ). k ≤ n) (tooBigFor c (c .«max_s») n (sum n)) (λ d. pop-le n) (λ d. omega arith))
+        (λ e. by (λ (k : ℕ). k ≤ n) (tooBigFor c (c .«parity_s») n (sum n)) (λ d. omega arith) (λ d. omega arith))
 
     pub parity-le : parityOf q c bs ≤ length bs
     unfolding parityOf
     parity-le =
-        let o : offered q c bs ≤ length bs = by (λ (k : ℕ). k ≤ length bs) (c .long && c .«same_wave») (λ e. omega arith) (λ e. omega arith) in
-        omega (arith, pick-le (offered q c bs))
+        let o : offeredOf q c bs ≤ length bs = by (λ (k : ℕ). k ≤ length bs) (c .long && c .«same_wave») (λ e. omega arith) (λ e. omega arith) in
+        omega (arith, pick-le (offeredOf q c bs))
 
     -- ---- the plan
 
     module _ (n : ℕ) (p : n ≡ parityOf q c bs) where
-      pub plan-none : (r : ℕ) → n ≡ 0 → r ≡ max 1 (roomFrom c 0 0 0 maxSlots 0) → _≡_ {A = Planned} (record { parity = 0; «parity_bits» = 0; stored = 0; room = r }) (planned q c bs)
-      unfolding planned parityBits
+      pub plan-none : (r : ℕ) → n ≡ 0 → r ≡ max 1 (roomCounted c 0 0 0 maxSlots 0) → _≡_ {A = Planned} (record { parity = 0; «parity_bits» = 0; stored = 0; room = r }) (planned q c bs)
+      unfolding planned parityBitsOf
       plan-none r z e = let y : parityOf q c bs ≡ 0 = sym p ∙ z in rw (y, e)
 
-      pub plan-some : (r s : ℕ) → (n ≡ 0 → ⊥) → s ≡ parityBits q c (take n bs) → r ≡ roomFrom c n (length bs) s maxSlots 0
+      pub plan-some : (r s : ℕ) → (n ≡ 0 → ⊥) → s ≡ parityBitsOf q c (take n bs) → r ≡ roomCounted c n (length bs) s maxSlots 0
           → _≡_ {A = Planned} (record { parity = n; «parity_bits» = s; stored = length bs; room = r }) (planned q c bs)
       unfolding planned
       plan-some r s z f e =

@@ -1,17 +1,14 @@
 // The plan of data_burst (sender.rs): how many held pieces go as increments, and how many whole pieces.
 use harq::Harq;
+use limits::MAX_SLOTS;
+use limits::PARTIAL_MAX;
+use limits::TINY_ACK_FRAMES;
 ghost use mathlib.Core.Path.{_≡_};
 ghost use Prim.Native.Nat.{_≤_};
 ghost use lib.ListN.{length};
-ghost use Rattle.ledger.specs.Limits.{maxSlots, maxBits, maxBurstBits};
-ghost use Rattle.plan.specs.Planning.{CodesRange, fits, parityBits, capOf, tooBig, popped, parityOf, oneMore, roomFrom, planned};
-
-// Frames that a short ack lists, and codewords that the peer holds at most.
-const TINY_ACK_FRAMES: usize = 6;
-
-const MAX_SLOTS: usize = 64;
-
-const PARTIAL_MAX: usize = 62;
+ghost use Rattle.plan.specs.Planning.{fits};
+ghost use Rattle.limits.specs.Limits.{maxSlots, maxBits, maxBurstBits};
+ghost use Rattle.plan.specs.PlanningCode.{CodesRange, parityBitsOf, capOf, tooBigFor, poppedFrom, parityOf, oneMoreFits, roomCounted, planned};
 
 // What the gear, the level and the profile say of the next burst: seconds on the air are pre_s + bits / rate + cue_s.
 pub struct Choice {
@@ -53,12 +50,12 @@ impl Choice {
     fn fits(self, bits: u32, s: f64) -> bool
         ensures { λ r. ⌜ r ≡ fits self s bits ⌝ }
     {
-        float::gear::duration(self.pre_s, self.rate, bits as u64) + self.cue_s <= s
+        float::gear::data_s(self.pre_s, self.rate, bits as u64, self.cue_s) <= s
     }
 
     // too_big
     fn too_big(self, n: usize, bits: u32, s: f64) -> bool
-        ensures { λ r. ⌜ r ≡ tooBig self s n bits ⌝ }
+        ensures { λ r. ⌜ r ≡ tooBigFor self s n bits ⌝ }
     {
         (self.cap() < n) | ((0 < n) & !self.fits(bits, s))
     }
@@ -67,7 +64,7 @@ impl Choice {
 // parity_bits: the bits of all increments.
 fn parity_bits(q: Harq, c: Choice, bits: &[u32]) -> u32
     requires { ⌜ CodesRange q c × (length (now bits) ≤ maxSlots) ⌝ }
-    ensures { λ r. ⌜ (r ≡ parityBits q c (now (bits .entry))) × (r ≤ maxBurstBits) ⌝ }
+    ensures { λ r. ⌜ (r ≡ parityBitsOf q c (now (bits .entry))) × (r ≤ maxBurstBits) ⌝ }
 {
     let slot = c.slot;
     let mut sum: u32 = 0;
@@ -82,7 +79,7 @@ fn parity_bits(q: Harq, c: Choice, bits: &[u32]) -> u32
 // Increments that do not fit are left out, from the back.
 fn pop(q: Harq, c: Choice, bits: &[u32]) -> usize
     requires { ⌜ CodesRange q c × (length (now bits) ≤ maxSlots) ⌝ }
-    ensures { λ r. ⌜ r ≡ popped q c (now (bits .entry)) (length (now (bits .entry))) ⌝ }
+    ensures { λ r. ⌜ r ≡ poppedFrom q c (now (bits .entry)) (length (now (bits .entry))) ⌝ }
 {
     let slot = c.slot;
     let limit = c.max_s;
@@ -125,7 +122,7 @@ fn parity(q: Harq, c: Choice, bits: &[u32]) -> usize
 // Whether one more whole piece fits beside n increments of `bits` bits, with `stored` held, and r whole pieces.
 fn one_more(c: Choice, n: usize, stored: usize, bits: u32, r: usize) -> bool
     requires { ⌜ (c .slot ≤ maxBits) × (n ≤ maxSlots) × (stored ≤ maxSlots) × (bits ≤ maxBurstBits) × (r ≤ maxSlots) ⌝ }
-    ensures { λ q. ⌜ q ≡ oneMore c n stored bits r ⌝ }
+    ensures { λ q. ⌜ q ≡ oneMoreFits c n stored bits r ⌝ }
 {
     let t = bits + (r as u32 + 1) * c.slot;
     (n + r < c.cap()) & (stored + r < MAX_SLOTS) & c.fits(t, c.max_s) & (t <= c.max_bits)
@@ -134,7 +131,7 @@ fn one_more(c: Choice, n: usize, stored: usize, bits: u32, r: usize) -> bool
 // room, before at least one piece goes.
 fn room(c: Choice, n: usize, stored: usize, bits: u32) -> usize
     requires { ⌜ (c .slot ≤ maxBits) × (n ≤ maxSlots) × (stored ≤ maxSlots) × (bits ≤ maxBurstBits) ⌝ }
-    ensures { λ q. ⌜ (q ≡ roomFrom c n stored bits maxSlots 0) × (q ≤ maxSlots) ⌝ }
+    ensures { λ q. ⌜ (q ≡ roomCounted c n stored bits maxSlots 0) × (q ≤ maxSlots) ⌝ }
 {
     let mut r = 0;
     while r < MAX_SLOTS {

@@ -6,12 +6,12 @@ use Prim.Native.Nat.{ℕ, _+_, _≤_, _<_}
 use native.Mathlib.Omega.{arith}
 use lib.ListN.{length, getD}
 use Rattle.laws.specs.Bytes.{overwrite}
-use Rattle.ledger.specs.Limits.{maxPieces, maxTaken}
-use Rattle.table.specs.Layout.{place, areaBytes}
-use Rattle.table.specs.Table.{rowAt, rowsFrom, tableBytes}
-use Rattle.table.specs.declared.Row.{Row}
-use Rattle.table.proofs.Laws.{rows-written}
-use Rattle.recut.specs.Recut.{row, cutRows, splitRows}
+use Rattle.area.specs.Layout.{place, areaBytes}
+use Rattle.area.specs.Table.{rowAt, rowsFrom, tableBytes}
+use Rattle.area.specs.declared.table.Row.{Row}
+use Rattle.area.proofs.table.Laws.{rows-written}
+use Rattle.area.specs.Recut.{row, cutRows, splitRows}
+use Rattle.limits.specs.Limits.{maxPieces, maxTaken}
 
 abbrev stored : List ℕ → List ℕ
 stored a = overwrite a (place 0) (tableBytes (row 100 50 ∷ []))

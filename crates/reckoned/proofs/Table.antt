@@ -15,7 +15,7 @@ use Rattle.harq.specs.declared.Harq.{Harq}
 use Rattle.config.specs.Entries.{entryAt}
 use Rattle.config.specs.declared.Marks.{Marks}
 use Rattle.report.specs.declared.ChanClass.{ChanClass}
-use Rattle.ladder.specs.Ladders.{airDb, familyOk, enough, levelFor}
+use Rattle.levels.specs.Usable.{airDb, familyOk, enough, levelFor}
 use Rattle.ledger.specs.Ledger.{split, mergeInflight}
 use Rattle.ledger.proofs.Examples.{spans, piece, P7, P8, P9}
 

@@ -1,18 +1,17 @@
 // The example of a hold: the gear's own judgement of a whole burst lost, at a level that has lost two.
 use config::MaybeDb;
 use config::Profile;
+use config::ranges::in_range;
 use defaults::new_profile;
+use float::whole::cut64;
+use gear::Gear;
 use gear::Outcome;
-use gear::on_ack;
-use goodput::Gear;
 use io::write_all;
-use ladder::Holds;
+use levels::memory::Reports;
+use levels::memory::Tries;
+use levels::usable::Holds;
 use libc::STDOUT_FILENO;
-use limits::in_range;
-use memory::Reports;
-use memory::Tries;
 use report::ChanClass;
-use whole::cut64;
 ghost use Prim.Native.Nat.{_<_};
 
 const LEVEL: usize = 9;
@@ -85,7 +84,7 @@ fn hold_case(text: &[u8], most: f64) {
         got: 0,
     };
     if in_range(p) {
-        let g = on_ack(failed_twice(), p, lost, 20.0, 0.0);
+        let g = failed_twice().on_ack(p, lost, 20.0, 0.0);
         let h = g.holds;
         let end = h.blocked_until[LEVEL];
         crate::say(text, cut64(end));

@@ -1,8 +1,7 @@
 // Document 01's reckoned examples, run through the code: a line each, as the paper words it, with what came out.
-mod area;
 mod holds;
+mod rows;
 
-use area::area_cases;
 use config::Marks;
 use harq::Harq;
 use harq::burst_check_bits;
@@ -14,9 +13,10 @@ use holds::hold_cases;
 use io::print_decimal;
 use io::write_all;
 use level::top_level_in;
+use levels::reach::level_for;
 use libc::STDOUT_FILENO;
-use reach::level_for;
 use report::ChanClass;
+use rows::area_cases;
 
 fn say(text: &[u8], n: u64) {
     write_all(STDOUT_FILENO, text);

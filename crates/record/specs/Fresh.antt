@@ -1,17 +1,17 @@
--- A fresh sender (`Station::new`, station.rs; call-list.md says what `state` shows of it). Definitions only.
+-- A fresh sender (`Station::new`, station.rs; docs/CALLS.md says what `state` shows of it). Definitions only.
 use mathlib.Core.Bool.{true, false}
 use Prim.Native.Nat.{ℕ}
 use lib.Ieee.{Float, nan, inf, binary32, binary64, ofInt}
 use lib.ListN.{replicate}
 use Rattle.ieee.specs.Range.{w32, w64}
 use Rattle.config.specs.declared.MaybeDb.{MaybeDb}
-use Rattle.goodput.specs.declared.Gear.{Gear}
-use Rattle.ledger.specs.Limits.{maxSlots}
+use Rattle.gear.specs.declared.Gear.{Gear}
 use Rattle.record.specs.declared.Link.{Link}
 use Rattle.record.specs.declared.Counts.{Counts}
 use Rattle.record.specs.declared.AtPeer.{AtPeer}
 use Rattle.record.specs.declared.LastBurst.{LastBurst}
 use Rattle.record.specs.declared.Sender.{Sender}
+use Rattle.limits.specs.Limits.{maxSlots}
 
 abbrev pub levels : ℕ
 levels = 17

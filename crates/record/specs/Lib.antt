@@ -1,3 +1,4 @@
 pub mod Fresh
 pub mod View
 pub mod Profiles
+pub mod Setters

@@ -2,7 +2,7 @@
 use Rattle.harq.specs.Held.{hMax}
 use Rattle.frame.specs.Frame.{maxPayload}
 use Rattle.config.specs.declared.Profile.{Profile}
-use Rattle.ledger.specs.Limits.{Sizes}
+use Rattle.ledger.specs.Sizes.{Sizes}
 
 -- payloads of short and long frames, and H_MAX
 abbrev pub sizesOf : Profile → Sizes

@@ -5,13 +5,14 @@ use lib.ListN.{length, take, drop}
 use Rattle.laws.specs.Bytes.{overwrite, part}
 use Rattle.ledger.specs.Ledger as L
 use Rattle.ledger.specs.Ledger.{Piece, Held, Sent, size, bytesOf, heldOffs, sentOffs}
-use Rattle.table.specs.Layout.{place}
-use Rattle.table.specs.Table.{rowsFrom, tableBytes}
-use Rattle.table.specs.declared.Row.{Row}
+use Rattle.area.specs.Layout.{place}
+use Rattle.area.specs.Table.{rowsFrom, tableBytes}
+use Rattle.area.specs.declared.table.Row.{Row}
 use Rattle.pieces.specs.Pieces.{piecesOf}
 use Rattle.pieces.specs.Lists.{heldOf, sentOf}
 use Rattle.record.specs.declared.Link.{Link}
 use Rattle.record.specs.declared.Counts.{Counts}
+use Rattle.record.specs.Setters.{withAwaiting, withNumber, withLink, withCounts, withAtPeer, withLastBurst, withNext, withWaiting, withFlying, withPieces, withAcked}
 use Rattle.record.specs.declared.AtPeer.{AtPeer}
 use Rattle.record.specs.declared.LastBurst.{LastBurst}
 use Rattle.record.specs.declared.Sender.{Sender}
@@ -53,14 +54,7 @@ storeArea l a = overwrite (overwrite a 0 (bytesOf (l .pieces) ++ l .waiting)) (p
 
 unfoldable pub storeCounts : L.Sender → Counts → Counts
 storeCounts l c =
-    record {
-      «next_offset» = l .next;
-      waiting = length (l .waiting);
-      flying = size (l .pieces);
-      pieces = length (l .pieces);
-      «bytes_acked» = l .acked;
-      «airtime_ms» = c .«airtime_ms»;
-    }
+    withAcked (withPieces (withFlying (withWaiting (withNext c (l .next)) (length (l .waiting))) (size (l .pieces))) (length (l .pieces))) (l .acked)
 
 -- entries past the count stay as they are
 unfoldable pub storeHeld : L.Sender → AtPeer → AtPeer
@@ -82,29 +76,10 @@ storeSent l s =
     }
 
 unfoldable pub storeLink : L.Sender → Link → Link
-storeLink l k =
-    record {
-      connected = k .connected;
-      awaiting = l .awaited;
-      session = k .session;
-      «last_time» = k .«last_time»;
-      «burst_id» = l .number;
-      heard = k .heard;
-      «peer_heard» = k .«peer_heard»;
-      «peer_slot» = k .«peer_slot»;
-      «peer_doppler_hz» = k .«peer_doppler_hz»;
-      «peer_wants_turn» = k .«peer_wants_turn»;
-      «peer_wants_disc» = k .«peer_wants_disc»;
-      «peer_wave» = k .«peer_wave»;
-    }
+storeLink l k = withNumber (withAwaiting k (l .awaited)) (l .number)
 
 -- the record, where the rest of it is as in s
 unfoldable pub store : L.Sender → Sender → Sender
 store l s =
-    record {
-      gear = s .gear;
-      link = storeLink l (s .link);
-      counts = storeCounts l (s .counts);
-      «at_peer» = storeHeld l (s .«at_peer»);
-      «last_burst» = storeSent l (s .«last_burst»);
-    }
+    let q = withCounts (withLink s (storeLink l (s .link))) (storeCounts l (s .counts)) in
+    withLastBurst (withAtPeer q (storeHeld l (s .«at_peer»))) (storeSent l (s .«last_burst»))

@@ -1,9 +1,10 @@
 // The sender's record: the sending half of Station (station.rs), nested in small structs.
 use config::MaybeDb;
-use goodput::Gear;
-use ladder::Holds;
-use memory::Reports;
-use memory::Tries;
+use gear::Gear;
+use levels::memory::Reports;
+use levels::memory::Tries;
+use levels::usable::Holds;
+use limits::MAX_SLOTS;
 use report::ChanClass;
 ghost use mathlib.Core.Path.{_≡_};
 ghost use Rattle.record.specs.Fresh.{freshGear, freshLink, noCounts, noHeld, noSent, fresh};
@@ -44,8 +45,8 @@ pub struct Counts {
 // at_peer: n held pieces; the last `rest` of them are at_peer_rest.
 #[repr(C)]
 pub struct AtPeer {
-    pub off: [u32; 64],
-    pub bits: [u32; 64],
+    pub off: [u32; MAX_SLOTS],
+    pub bits: [u32; MAX_SLOTS],
     pub n: usize,
     pub rest: usize,
 }
@@ -53,9 +54,9 @@ pub struct AtPeer {
 // last_burst: the n frames of the outstanding burst.
 #[repr(C)]
 pub struct LastBurst {
-    pub off: [u32; 64],
-    pub bits: [u32; 64],
-    pub held: [u32; 64],
+    pub off: [u32; MAX_SLOTS],
+    pub bits: [u32; MAX_SLOTS],
+    pub held: [u32; MAX_SLOTS],
     pub n: usize,
 }
 
@@ -141,15 +142,15 @@ pub fn fresh() -> Sender
             airtime_ms: 0,
         },
         at_peer: AtPeer {
-            off: [0; 64],
-            bits: [0; 64],
+            off: [0; MAX_SLOTS],
+            bits: [0; MAX_SLOTS],
             n: 0,
             rest: 0,
         },
         last_burst: LastBurst {
-            off: [0; 64],
-            bits: [0; 64],
-            held: [0; 64],
+            off: [0; MAX_SLOTS],
+            bits: [0; MAX_SLOTS],
+            held: [0; MAX_SLOTS],
             n: 0,
         },
     }

@@ -5,14 +5,13 @@ use Prim.Native.Nat.{ℕ}
 use lib.Dec.{leb}
 use lib.Ieee.{Float, le, neg}
 use Rattle.laws.specs.Tests.{all}
-use Rattle.ieee.specs.Range.{w32, w64}
-use Rattle.limits.specs.Ranges.{inside}
-use Rattle.ledger.specs.Limits.{maxNumber, tinyAll}
-use Rattle.answers.specs.declared.Heard.{Heard}
+use Rattle.ieee.specs.Range.{w32, w64, inside}
+use Rattle.replies.specs.declared.Heard.{Heard}
 use Rattle.refusals.specs.declared.Verdict.{Verdict}
 use Rattle.refusals.specs.declared.Verdict.the-variants.{Accepted, ProfileOutOfRange, ShortOverLong, Unsound, OutOfTurn, BadTime, BadValue, ShortPayload, QueueFull, AllTaken, ShortOutput}
 use Rattle.refusals.specs.declared.Reply.{Reply}
 use Rattle.refusals.specs.declared.Reply.the-variants.{ConnAck, Ack, LongAck, Turn}
+use Rattle.limits.specs.Limits.{maxNumber, tinyAll}
 
 -- document 01's number of each: 0 where the call is accepted
 abbrev pub numberOf : Verdict → ℕ

@@ -1,9 +1,9 @@
 // What a refusal is: document 01's numbers, and the values that a reply may carry. No function requires anything.
-use answers::Ack;
-use answers::ConnAck;
-use answers::Heard;
-use answers::LongAck;
-use answers::Turn;
+use replies::Ack;
+use replies::ConnAck;
+use replies::Heard;
+use replies::LongAck;
+use replies::Turn;
 ghost use mathlib.Core.Path.{_≡_};
 ghost use Rattle.refusals.specs.Refusals.{numberOf, kindOf, timeOk, reportOk, heardOk, replyOk};
 

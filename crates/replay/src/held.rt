@@ -1,14 +1,14 @@
 // The station's calls over the record that the run holds: each lends it, and hands back what the call left.
-use answers::Ack;
-use answers::ConnAck;
-use answers::Heard;
-use answers::LongAck;
-use answers::Turn;
 use config::Profile;
 use numbered::Left;
 use numbered::LeftBurst;
 use numbered::Place;
 use record::Sender;
+use replies::Ack;
+use replies::ConnAck;
+use replies::Heard;
+use replies::LongAck;
+use replies::Turn;
 use station::vanitycrow_connect;
 use station::vanitycrow_data_burst;
 use station::vanitycrow_find;

@@ -1,84 +1,79 @@
--- An ack that is awaited (`ack_in` of sender.rs, `on_ack` of gear.rs; document 01, module 5). Definitions only.
+-- The ConnAck, Ack and Turn arms of `sender_rx` and its frame loop (sender.rs; document 01, module 5), for replies that are not refused. Definitions only.
 use mathlib.Core.List.{List}
-use mathlib.Core.Bool.{Bool, cond, _&&_}
-use Prim.Native.Nat.{ℕ, _-_, _^_}
-use lib.Dec.{eqb, ltb}
+use mathlib.Core.Bool.{Bool, false, cond, _&&_}
+use Prim.Native.Nat.{ℕ, _+_, _%_}
 use lib.Ieee.{Float}
-use Rattle.level.specs.Ladder.{waveRank, longFrame}
-use Rattle.harq.specs.Held.{hMax}
+use Rattle.report.specs.declared.ack.AckInfo.{AckInfo}
 use Rattle.config.specs.declared.Profile.{Profile}
-use Rattle.goodput.specs.declared.Gear.{Gear}
-use Rattle.gear.specs.Judging.{onAck}
-use Rattle.ledger.specs.Limits.{tinyAckFrames, tinyAll}
-use Rattle.ledger.specs.Reply.{Reply}
+use Rattle.gear.specs.Setters.{withBurst, withClass}
+use Rattle.gear.specs.OtherReplies.{connected, onTurn}
+use Rattle.ledger.specs.Reply.{Reply, shortAck, longAck}
 use Rattle.ledger.specs.Ledger as L
-use Rattle.ledger.specs.Ledger.{settles}
+use Rattle.ledger.specs.Ledger.{clearBurst}
 use Rattle.record.specs.View.{view, store, storeArea}
 use Rattle.record.specs.declared.Link.{Link}
 use Rattle.record.specs.declared.Sender.{Sender}
-use Rattle.settle.specs.Settle.{unawaited, settled}
-use Rattle.replies.specs.Outcomes.{outcomeOf, outcomeIn}
+use Rattle.settle.specs.Outcomes.{outcomeOf}
+use Rattle.settle.specs.AckIn.{ackIn}
+use Rattle.replies.specs.declared.Heard.{Heard}
+use Rattle.replies.specs.declared.ConnAck.{ConnAck}
+use Rattle.replies.specs.declared.Ack.{Ack}
+use Rattle.replies.specs.declared.LongAck.{LongAck}
+use Rattle.replies.specs.declared.Turn.{Turn}
+use Rattle.record.specs.Setters.{withGear, withLink, withSession, withTime, withHeard, withSlot, withDoppler, withWishes}
 
--- ---- the record with some fields other
+-- the slot that the peer hears best, and its Doppler spread
+abbrev pub withPath : Link → ℕ → Float → Link
+withPath k slot hz = withDoppler (withSlot k slot) hz
 
-abbrev pub withGear : Sender → Gear → Sender
-withGear s g = record { gear = g; link = s .link; counts = s .counts; «at_peer» = s .«at_peer»; «last_burst» = s .«last_burst» }
+-- the turn and disconnect wishes, the number last heard, and the time
+abbrev pub ackNoted : Link → Float → Bool → Bool → ℕ → Link
+ackNoted k now turn disc number = withWishes (withHeard (withTime k now) number) turn disc
 
-abbrev pub withLink : Sender → Link → Sender
-withLink s k = record { gear = s .gear; link = k; counts = s .counts; «at_peer» = s .«at_peer»; «last_burst» = s .«last_burst» }
+-- the connect answer: session, slot and time
+abbrev pub connectNoted : Link → Float → ℕ → ℕ → Link
+connectNoted k now session slot = withSlot (withTime (withSession k session) now) slot
 
-abbrev pub withWave : Link → ℕ → Link
-withWave k w =
-    record {
-      connected = k .connected;
-      awaiting = k .awaiting;
-      session = k .session;
-      «last_time» = k .«last_time»;
-      «burst_id» = k .«burst_id»;
-      heard = k .heard;
-      «peer_heard» = k .«peer_heard»;
-      «peer_slot» = k .«peer_slot»;
-      «peer_doppler_hz» = k .«peer_doppler_hz»;
-      «peer_wants_turn» = k .«peer_wants_turn»;
-      «peer_wants_disc» = k .«peer_wants_disc»;
-      «peer_wave» = w;
-    }
+-- "An ack not awaited updates only the turn and disconnect wishes and the number last heard" (and the time)
+unfoldable pub shortAcked : Profile → Heard → Ack → Sender → List ℕ → Sender × List ℕ
+shortAcked p h r s a =
+    let k = ackNoted (s .link) (h .time) (r .«want_turn») (r .«want_disc») (r .burst) in
+    cond (s .link .awaiting)
+    (ackIn p (shortAck (r .burst) (r .bitmap)) (r .stored) (r .«snr_db») (h .time)
+    (withLink (withGear s (withClass (s .gear) (r .class))) (withPath k (r .slot) (s .link .«peer_doppler_hz»))) a)
+    (withLink s k, a)
 
--- ---- acks
+-- a long ack's dB: of its report, with eff_snr
+abbrev pub longDb : Profile → AckInfo → Float
+longDb p i = cond (i .reported && p .«eff_snr») (i .report .«eff_snr_db») (i .«snr_db»)
 
--- `keep` of `settle_burst`
-abbrev pub keeps : Profile → Gear → Bool → Bool
-keeps p g stored = stored && (p .harq && longFrame (g .level))
+unfoldable pub longAcked : Profile → Heard → LongAck → AckInfo → Sender → List ℕ → Sender × List ℕ
+longAcked p h r i s a =
+    let k = ackNoted (s .link) (h .time) (r .«want_turn») (r .«want_disc») (i .burst) in
+    cond (s .link .awaiting)
+    (ackIn p (longAck (i .burst) (i .bitmap)) (r .stored) (longDb p i) (h .time)
+    (withLink (withGear s (withClass (s .gear) (i .report .class))) (withPath k (i .report .slot) (i .report .«doppler_hz»))) a)
+    (withLink s k, a)
 
--- `ack_in`: an ack that is awaited, with the bits r. Where it settles the burst, the wave of the held pieces is this level's
-unfoldable pub ackIn : Profile → Reply → Bool → Float → Float → Sender → List ℕ → Sender × List ℕ
-ackIn p r stored snr now s a =
+-- ---- turn and connect answer
+
+-- a turn without a report goes by the dB measured here
+abbrev pub turnDb : Heard → Turn → Float
+turnDb h r = cond (r .report .set) (r .report .db) (h .«snr_db»)
+
+-- a reply of another number, with no bit set: `on_ack(self.burst_id.wrapping_add(1) & 3, 0, ..)`
+abbrev pub nothingHeard : L.Sender → Reply
+nothingHeard l = record { number = (l .number + 1) % 4; bit = λ (n i : ℕ). false }
+
+unfoldable pub turned : Profile → Heard → Turn → Sender → List ℕ → Sender × List ℕ
+turned p h r s a =
     let before = view s a in
-    let after = L.onAck (hMax (p .codes)) r (keeps p (s .gear) stored) before in
-    let wave = cond (settles r before) (waveRank (s .gear .level)) (s .link .«peer_wave») in
-    (store after (withLink (withGear s (onAck p (s .gear) (outcomeOf r before) snr now)) (withWave (s .link) wave)), storeArea after a)
+    let after = clearBurst before in
+    let g = onTurn p (s .gear) (outcomeOf (nothingHeard before) before) (turnDb h r) (h .wave) (h .time) in
+    (store after (withLink (withGear s g) (withTime (s .link) (h .time))), storeArea after a)
 
--- ---- as the code goes, with the bits in a number
-
-abbrev pub withoutBurst : Sender → Sender
-withoutBurst s =
-    let b = s .«last_burst» in
-    record {
-      gear = s .gear;
-      link = unawaited (s .link);
-      counts = s .counts;
-      «at_peer» = s .«at_peer»;
-      «last_burst» = record { off = b .off; bits = b .bits; held = b .held; n = 0 };
-    }
-
-unfoldable pub ackedBy : Profile → ℕ → ℕ → Bool → Float → Float → Sender → List ℕ → Sender × List ℕ
-ackedBy p burst m stored snr now s a =
-    let matched = eqb burst (s .link .«burst_id») in
-    let q = withGear s (onAck p (s .gear) (outcomeIn m matched (s .«last_burst»)) snr now) in
-    cond (matched && ltb 0 (s .«last_burst» .n))
-    (settled m (hMax (p .codes)) (keeps p (s .gear) stored) (withLink q (withWave (s .link) (waveRank (s .gear .level)))) a)
-    (withoutBurst q, a)
-
--- the bits of a short ack for a burst of n frames: 63 says all of more than six
-unfoldable pub bitsFor : ℕ → ℕ → ℕ
-bitsFor n bitmap = cond (ltb tinyAckFrames n && eqb bitmap tinyAll) (2 ^ 64 - 1) bitmap
+-- the called station's cue counts where the profile has one; burst_s is set here (docs/DECISIONS.md)
+unfoldable pub connectedTo : Profile → Heard → ConnAck → Sender → Sender
+connectedTo p h r s =
+    withLink (withGear s (connected p (withBurst (s .gear) (p .lengths .«max_burst_s»)) (r .class) (p .cue && r .cue) (r .«snr_db») (h .time)))
+    (connectNoted (s .link) (h .time) (r .session) (r .slot))

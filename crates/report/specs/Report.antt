@@ -3,15 +3,11 @@ use mathlib.Core.Bool.{Bool, cond}
 use mathlib.Core.List.{List}
 use Prim.Native.Nat.{ℕ, _+_, _*_, _/_, _%_}
 use lib.Dec.{eqb}
-use lib.IntN.{pos}
 use lib.ListN.{getD}
-use lib.Ieee.{Float, nan, binary32, ofInt, sub, div}
+use lib.Ieee.{Float, nan, binary32, sub, div}
+use Rattle.ieee.specs.Range.{w32}
 use Rattle.report.specs.declared.ChanClass.{ChanClass}
 use Rattle.report.specs.declared.ChanReport.{ChanReport}
-
--- a byte as an f32
-abbrev pub w32 : ℕ → Float
-w32 n = ofInt binary32 (pos n)
 
 -- snr_from_q: q - 24 dB
 unfoldable pub snrFromQ : ℕ → Float
@@ -21,12 +17,12 @@ abbrev pub bit : Bool → ℕ
 bit b = cond b 1 0
 
 -- ChanClass::bits
-abbrev pub bitsOf : ChanClass → ℕ
-bitsOf c = bit (c .echo) + 2 * bit (c .doppler)
+abbrev pub classBits : ChanClass → ℕ
+classBits c = bit (c .echo) + 2 * bit (c .doppler)
 
 -- ChanClass::from_bits
-abbrev pub classOf : ℕ → ChanClass
-classOf b = record { echo = eqb (b % 2) 1; doppler = eqb (b / 2 % 2) 1 }
+abbrev pub classFromBits : ℕ → ChanClass
+classFromBits b = record { echo = eqb (b % 2) 1; doppler = eqb (b / 2 % 2) 1 }
 
 -- a spread in quarters; 255 is not a number
 unfoldable pub spreadOf : ℕ → Float
@@ -40,7 +36,7 @@ slotOf s = cond (eqb s 3) 0 s
 unfoldable pub reportAt : List ℕ → ℕ → ChanReport
 reportAt b at =
     record {
-      class = classOf (getD b at 0);
+      class = classFromBits (getD b at 0);
       «eff_snr_db» = snrFromQ (getD b (at + 1) 0);
       «delay_ms» = spreadOf (getD b (at + 2) 0);
       «doppler_hz» = spreadOf (getD b (at + 3) 0);

@@ -2,7 +2,9 @@
 ghost use mathlib.Core.Path.{_≡_};
 ghost use Prim.Native.Nat.{_+_, _≤_, _<_};
 ghost use lib.ListN.{length};
-ghost use Rattle.report.specs.Report.{snrFromQ, bit, bitsOf, classOf, spreadOf, slotOf, reportAt};
+ghost use Rattle.report.specs.Report.{snrFromQ, bit, classBits, classFromBits, spreadOf, slotOf, reportAt};
+
+pub mod ack;
 
 // The two class bits (report.rs).
 #[repr(C)]
@@ -30,13 +32,13 @@ fn bit_of(b: bool) -> u8
 
 impl ChanClass {
     pub fn bits(self) -> u8
-        ensures { λ r. ⌜ r ≡ bitsOf self ⌝ }
+        ensures { λ r. ⌜ r ≡ classBits self ⌝ }
     {
         bit_of(self.echo) + 2 * bit_of(self.doppler)
     }
 
     pub fn from_bits(b: u8) -> ChanClass
-        ensures { λ r. ⌜ r ≡ classOf b ⌝ }
+        ensures { λ r. ⌜ r ≡ classFromBits b ⌝ }
     {
         ChanClass {
             echo: b % 2 == 1,

@@ -5,26 +5,25 @@ use Prim.Native.Nat.{ℕ}
 use lib.ListN.{length, replicate}
 use Rattle.config.specs.declared.Profile.{Profile}
 use Rattle.ledger.specs.Ledger as L
-use Rattle.table.specs.Table.{rowsFrom}
-use Rattle.lookup.specs.Find.{findFrom}
-use Rattle.lookup.specs.declared.Found.{Found}
+use Rattle.area.specs.Table.{rowsFrom}
+use Rattle.area.specs.Find.{findFrom}
+use Rattle.area.specs.declared.lookup.Found.{Found}
 use Rattle.record.specs.View.{view, store, storeArea}
 use Rattle.record.specs.declared.Sender.{Sender}
-use Rattle.answers.specs.declared.Heard.{Heard}
+use Rattle.replies.specs.declared.Heard.{Heard}
 use Rattle.refusals.specs.declared.Reply.{Reply}
-use Rattle.answering.specs.Answering.{answered}
-use Rattle.sender.specs.declared.Queued.{Queued}
-use Rattle.sender.specs.declared.Received.{Received}
+use Rattle.receive.specs.Accepted.{acceptedReply}
+use Rattle.sender.specs.declared.Answer.{Answer}
 use Rattle.sender.specs.declared.Finding.{Finding}
-use Rattle.ledger.specs.Limits.{maxSlots}
 use Rattle.outgoing.specs.Outgoing.{burstOf}
 use Rattle.outgoing.specs.declared.Outgoing.{Outgoing}
 use Rattle.sender.specs.declared.Bursted.{Bursted}
 use Rattle.verdicts.specs.Verdicts.{passed, standing, queueVerdict, receiveVerdict, burstVerdict}
+use Rattle.limits.specs.Limits.{maxSlots}
 
 -- ---- queue: 1 2 3 4 8 9
 
-unfoldable pub queueOf : Profile → Sender → List ℕ → List ℕ → Queued × List ℕ
+unfoldable pub queueOf : Profile → Sender → List ℕ → List ℕ → Answer × List ℕ
 queueOf p s a bytes =
     let v = queueVerdict p s a (length bytes) in
     let after = L.queue bytes (view s a) in
@@ -32,10 +31,10 @@ queueOf p s a bytes =
 
 -- ---- sender_rx: 1 2 3 4 5 6, a long ack also 7
 
-unfoldable pub receiveOf : Profile → Sender → List ℕ → Heard → Reply → List ℕ → Received × List ℕ
+unfoldable pub receiveOf : Profile → Sender → List ℕ → Heard → Reply → List ℕ → Answer × List ℕ
 receiveOf p s a h r payload =
     let v = receiveVerdict p s a h r (length payload) in
-    let after = answered p h r payload s a in
+    let after = acceptedReply p h r payload s a in
     cond (passed v) (record { verdict = v; next = after .0 }, after .1) (record { verdict = v; next = s }, a)
 
 -- ---- lookup: 1 2 3 4

@@ -1,16 +1,17 @@
 // The sender's calls (sender.rs), with document 01's refusals. No call requires anything.
-use answering::answer;
-use answers::Heard;
+use area::lookup::Found;
+use byte_copy::copy_in;
 use config::Profile;
-use lookup::Found;
-use moves::copy_in;
+use limits::MAX_SLOTS;
 use outgoing::Frames;
 use outgoing::Outgoing;
+use receive::accepted::answer;
 use record::Sender;
 use refusals::Reply;
 use refusals::Verdict;
 use refusals::kind;
 use refusals::number;
+use replies::Heard;
 use verdicts::burst_verdict;
 use verdicts::queue_verdict;
 use verdicts::receive_verdict;
@@ -19,12 +20,8 @@ ghost use mathlib.Core.Path.{_≡_};
 ghost use Rattle.record.specs.Fresh.{fresh};
 ghost use Rattle.sender.specs.Calls.{queueOf, receiveOf, findOf, pieceOf, noBurst, burstCall};
 
-pub struct Queued {
-    pub verdict: Verdict,
-    pub next: Sender,
-}
-
-pub struct Received {
+// What a queuing or a reply answers, and the next record.
+pub struct Answer {
     pub verdict: Verdict,
     pub next: Sender,
 }
@@ -47,14 +44,14 @@ pub fn fresh() -> Sender
 }
 
 // Bytes to send.
-pub fn queue(p: Profile, s: Sender, a: &mut [u8], bytes: &[u8]) -> Queued
+pub fn queue(p: Profile, s: Sender, a: &mut [u8], bytes: &[u8]) -> Answer
     ensures { λ r. ⌜ (r, now (a .exit)) ≡ queueOf p s (now (a .entry)) (now (bytes .entry)) ⌝ }
 {
     let n = bytes.len();
     let c = s.counts;
     let v = queue_verdict(standing(p, s, a, false), c, n);
     if number(v) != 0 {
-        return Queued {
+        return Answer {
             verdict: v,
             next: s,
         };
@@ -64,31 +61,24 @@ pub fn queue(p: Profile, s: Sender, a: &mut [u8], bytes: &[u8]) -> Queued
     let w = c.waiting + n as u32;
     let mut next = s;
     next.counts.waiting = w;
-    Queued { verdict: v, next }
+    Answer { verdict: v, next }
 }
 
 // A reply, and a long ack's payload.
-pub fn sender_rx(
-    p: Profile,
-    s: Sender,
-    a: &mut [u8],
-    h: Heard,
-    r: Reply,
-    payload: &[u8],
-) -> Received
+pub fn sender_rx(p: Profile, s: Sender, a: &mut [u8], h: Heard, r: Reply, payload: &[u8]) -> Answer
     ensures { λ q. ⌜ (q, now (a .exit)) ≡ receiveOf p s (now (a .entry)) h r (now (payload .entry)) ⌝ }
 {
     let n = payload.len();
     let last = s.link.last_time;
     let v = receive_verdict(standing(p, s, a, kind(r) == 0), last, h, r, n);
     if number(v) != 0 {
-        return Received {
+        return Answer {
             verdict: v,
             next: s,
         };
     }
     let next = answer(p, s, a, h, r, payload);
-    Received { verdict: v, next }
+    Answer { verdict: v, next }
 }
 
 // Where the bytes of the piece at `off` lie in the work area.
@@ -108,7 +98,7 @@ pub fn find(p: Profile, s: Sender, a: &[u8], off: u32) -> Finding
         };
     }
     let n = s.counts.pieces;
-    let found = lookup::find(a, n, off);
+    let found = area::lookup::find(a, n, off);
     Finding { verdict: v, found }
 }
 
@@ -121,7 +111,7 @@ pub fn piece(p: Profile, s: Sender, a: &[u8], off: u32) -> &[u8]
         return &a[..0];
     }
     let n = s.counts.pieces;
-    lookup::piece(a, n, off)
+    area::lookup::piece(a, n, off)
 }
 
 fn no_burst() -> Outgoing
@@ -136,10 +126,10 @@ fn no_burst() -> Outgoing
         td_ease: false,
         number: 0,
         frames: Frames {
-            off: [0; 64],
-            len: [0; 64],
-            start: [0; 64],
-            bits: [0; 64],
+            off: [0; MAX_SLOTS],
+            len: [0; MAX_SLOTS],
+            start: [0; MAX_SLOTS],
+            bits: [0; MAX_SLOTS],
             n: 0,
         },
     }
@@ -159,7 +149,7 @@ pub fn data_burst(p: Profile, s: Sender, a: &mut [u8], out: &mut [u8]) -> Burste
             next: s,
         };
     }
-    let b = sending::data_burst(p, s, a, out);
+    let b = data_burst::burst::data_burst(p, s, a, out);
     let outgoing = b.outgoing;
     let next = b.next;
     Bursted {

@@ -1,4 +1,4 @@
--- `settle_burst` (sender.rs) on the record's lists and the work area's rows. The bitmap's lowest bit is the first frame's. Definitions only.
+-- `settle_burst` (sender.rs) on the record's lists and the work area's rows. The bitmap's lowest bit is the first frame's. Follows the code or serves proofs: nothing here has to be believed.
 use mathlib.Core.List.{List, [], _∷_, map}
 use mathlib.Core.Path.{_≡_}
 use mathlib.Core.Bool.{Bool, true, false, cond, not, _&&_}
@@ -6,12 +6,12 @@ use Prim.Native.Nat.{ℕ, _+_, _-_, _/_, _%_, _≤_}
 use lib.Dec.{ltb, eqb}
 use lib.ListN.{length, take, replicate}
 use Rattle.laws.specs.Bytes.{overwrite}
-use Rattle.ledger.specs.Limits.{maxSlots, maxFlying, maxWaiting, maxPieces, maxTaken}
 use Rattle.ledger.specs.Ledger.{Held, heldOffs}
-use Rattle.table.specs.Layout.{areaBytes}
-use Rattle.table.specs.Table.{rowsFrom, total}
-use Rattle.flight.specs.Flight.{removedPieces}
-use Rattle.flight.specs.declared.Kept.{Kept}
+use Rattle.area.specs.Layout.{areaBytes}
+use Rattle.area.specs.Table.{rowsFrom, total}
+use Rattle.area.specs.Removal.{removedPieces}
+use Rattle.area.specs.declared.removal.Kept.{Kept}
+use Rattle.record.specs.Setters.{withLink, withCounts, withAtPeer, withLastBurst, withAwaiting, withFlying, withPieces, withAcked, withoutFrames}
 use Rattle.record.specs.View.{restIn}
 use Rattle.record.specs.declared.AtPeer.{AtPeer}
 use Rattle.record.specs.declared.Counts.{Counts}
@@ -19,6 +19,7 @@ use Rattle.record.specs.declared.LastBurst.{LastBurst}
 use Rattle.record.specs.declared.Link.{Link}
 use Rattle.record.specs.declared.Sender.{Sender}
 use Rattle.settle.specs.declared.Offsets.{Offsets}
+use Rattle.limits.specs.Limits.{maxSlots, maxFlying, maxWaiting, maxPieces, maxTaken}
 
 -- the offsets whose bit is set
 unfoldable pub ackedIn : ℕ → List ℕ → List ℕ
@@ -54,46 +55,18 @@ unfoldable pub newHeld : ℕ → ℕ → Bool → AtPeer → LastBurst → AtPee
 newHeld m top keep h s = cond keep (heldMore (heldMore (heldNone h) (restIn h)) (missedIn m top (take (s .n) (s .off)) (take (s .n) (s .held)))) (heldNone h)
 
 abbrev pub unawaited : Link → Link
-unawaited k =
-    record {
-      connected = k .connected;
-      awaiting = false;
-      session = k .session;
-      «last_time» = k .«last_time»;
-      «burst_id» = k .«burst_id»;
-      heard = k .heard;
-      «peer_heard» = k .«peer_heard»;
-      «peer_slot» = k .«peer_slot»;
-      «peer_doppler_hz» = k .«peer_doppler_hz»;
-      «peer_wants_turn» = k .«peer_wants_turn»;
-      «peer_wants_disc» = k .«peer_wants_disc»;
-      «peer_wave» = k .«peer_wave»;
-    }
+unawaited k = withAwaiting k false
 
+-- what is left in flight; the rest was acknowledged
 abbrev pub withFlight : Counts → Kept → Counts
-withFlight c k =
-    record {
-      «next_offset» = c .«next_offset»;
-      waiting = c .waiting;
-      flying = k .bytes;
-      pieces = k .rows;
-      «bytes_acked» = c .«bytes_acked» + (c .flying - k .bytes);
-      «airtime_ms» = c .«airtime_ms»;
-    }
+withFlight c k = withAcked (withPieces (withFlying c (k .bytes)) (k .rows)) (c .«bytes_acked» + (c .flying - k .bytes))
 
 unfoldable pub settled : ℕ → ℕ → Bool → Sender → List ℕ → Sender × List ℕ
 settled m top keep s a =
     let b = s .«last_burst» in
-    let r = removedPieces (ackedIn m (take (b .n) (b .off))) (s .counts .pieces) (s .counts .flying + s .counts .waiting) a in (
-      record {
-        gear = s .gear;
-        link = unawaited (s .link);
-        counts = withFlight (s .counts) (r .0);
-        «at_peer» = newHeld m top keep (s .«at_peer») b;
-        «last_burst» = record { off = b .off; bits = b .bits; held = b .held; n = 0 };
-      },
-      r .1,
-    )
+    let r = removedPieces (ackedIn m (take (b .n) (b .off))) (s .counts .pieces) (s .counts .flying + s .counts .waiting) a in
+    let q = withCounts (withLink s (unawaited (s .link))) (withFlight (s .counts) (r .0)) in
+    (withLastBurst (withAtPeer q (newHeld m top keep (s .«at_peer») b)) (withoutFrames b), r .1)
 
 -- what settling needs of the numbers
 pub record Settling (s : Sender) (a : List ℕ) : Type 0 where

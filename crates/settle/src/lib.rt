@@ -1,6 +1,8 @@
 // settle_burst of sender.rs: what an ack leaves of the outstanding burst; and what it says of the burst to the gear.
-use flight::mark;
-use flight::remove_pieces;
+use area::removal::HASHES;
+use area::removal::hash;
+use area::removal::remove_pieces;
+use limits::MAX_SLOTS;
 use record::AtPeer;
 use record::Counts;
 use record::LastBurst;
@@ -9,13 +11,15 @@ ghost use mathlib.Core.Path.{_≡_};
 ghost use mathlib.Core.List.{_∷_, []};
 ghost use Prim.Native.Nat.{_+_, _≤_, _<_};
 ghost use lib.ListN.{length, drop};
-ghost use Rattle.ledger.specs.Limits.{maxSlots};
 ghost use Rattle.pieces.specs.Lists.{heldOf};
 ghost use Rattle.settle.specs.Settle.{ackedIn, offsetsOf, missedIn, heldMore, newHeld, Settling, settled};
+ghost use Rattle.limits.specs.Limits.{maxSlots};
+
+pub mod outcome;
 
 // A list of offsets.
 struct Offsets {
-    off: [u32; 64],
+    off: [u32; MAX_SLOTS],
     n: usize,
 }
 
@@ -24,7 +28,7 @@ fn acked(offs: &[u32], bitmap: u64) -> Offsets
     requires { ⌜ length (now offs) ≤ maxSlots ⌝ }
     ensures { λ r. ⌜ r ≡ offsetsOf (ackedIn bitmap (now (offs .entry))) ⌝ }
 {
-    let mut off = [0u32; 64];
+    let mut off = [0u32; MAX_SLOTS];
     let mut n = 0;
     let mut b = bitmap;
     let mut i = 0;
@@ -125,11 +129,11 @@ pub fn settle_burst(s: Sender, a: &mut [u8], bitmap: u64, top: u32, keep: bool) 
     let g = acked(&offs[..m], bitmap);
     let gone = g.off;
     let n = g.n;
-    let mut marks = [0u8; 2048];
-    mark(&mut marks, &gone[..n]);
+    let mut hashes = [0u8; HASHES];
+    hash(&mut hashes, &gone[..n]);
     let rows = c.pieces;
     let used = c.flying as usize + c.waiting as usize;
-    let left = remove_pieces(a, rows, used, &marks, &gone[..n]);
+    let left = remove_pieces(a, rows, used, &hashes, &gone[..n]);
     let held = new_held(h, b, bitmap, top, keep);
     let bytes = left.bytes as u32;
     let counts = Counts {

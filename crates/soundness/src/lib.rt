@@ -1,14 +1,18 @@
 // The sound record of document 01, tested.
-use checks::gear_ok;
-use checks::link_ok;
+use crate::fields::gear_ok;
+use crate::fields::link_ok;
+use crate::lists::counts_ok;
+use crate::lists::lists_ok;
+use area_check::rows::table_ok;
 use config::Profile;
-use lists::counts_ok;
-use lists::lists_ok;
+use limits::AREA_BYTES;
 use record::Sender;
-use sound::table_ok;
 ghost use mathlib.Core.Path.{_≡_};
-ghost use Rattle.limits.specs.Ranged.{Ranged};
-ghost use Rattle.checks.specs.Checked.{soundOk};
+ghost use Rattle.config.specs.Ranged.{Ranged};
+ghost use Rattle.soundness.specs.Soundness.{soundOk};
+
+pub mod fields;
+pub mod lists;
 
 // Refusal 3: whether the work area is large enough and the record is sound.
 pub fn is_sound(p: Profile, s: Sender, a: &[u8]) -> bool
@@ -22,7 +26,7 @@ pub fn is_sound(p: Profile, s: Sender, a: &[u8]) -> bool
     let short = frame::max_payload(p.short_bytes as usize) as u32;
     let long = frame::max_payload(p.long_bytes as usize) as u32;
     let top = p.codes.h_max();
-    if a.len() < 49152 {
+    if a.len() < AREA_BYTES {
         return false;
     }
     if !counts_ok(s) {

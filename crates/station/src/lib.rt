@@ -1,20 +1,20 @@
 // The thin layer: a station program holds one record, and each call of the sender changes it. The calls are exported, for C to link: a slice goes
 // as a pointer and a length. No call requires anything; the profile is read where it lies.
-use answers::Ack;
-use answers::ConnAck;
-use answers::Heard;
-use answers::LongAck;
-use answers::Turn;
 use config::Profile;
 use numbered::Burst;
 use numbered::Place;
 use record::Sender;
+use replies::Ack;
+use replies::ConnAck;
+use replies::Heard;
+use replies::LongAck;
+use replies::Turn;
 ghost use mathlib.Core.Path.{_≡_};
 ghost use mathlib.Core.List.{[]};
 ghost use Rattle.record.specs.Fresh.{fresh};
 ghost use Rattle.sender.specs.Calls.{queueOf, receiveOf, findOf, pieceOf, burstCall};
 ghost use Rattle.refusals.specs.declared.Reply.the-variants as R;
-ghost use Rattle.numbered.specs.Numbered.{queueNumber, replyNumber, burstNumber, findNumber};
+ghost use Rattle.numbered.specs.Numbered.{answerNumber, burstNumber, findNumber};
 ghost use Rattle.station.specs.Exported.{left, leftBurst};
 
 // The record of a new sender.
@@ -29,7 +29,7 @@ pub extern "C" fn vanitycrow_fresh(s: &mut Sender)
 // Bytes to send.
 #[no_mangle]
 pub extern "C" fn vanitycrow_queue(p: &Profile, s: &mut Sender, a: &mut [u8], bytes: &[u8]) -> u8
-    ensures { λ r. ⌜ (left r (now (s .exit)), now (a .exit)) ≡ queueNumber (queueOf (now (p .entry)) (now (s .entry)) (now (a .entry)) (now (bytes .entry))) ⌝ }
+    ensures { λ r. ⌜ (left r (now (s .exit)), now (a .exit)) ≡ answerNumber (queueOf (now (p .entry)) (now (s .entry)) (now (a .entry)) (now (bytes .entry))) ⌝ }
 {
     let q = numbered::queue(*p, *s, a, bytes);
     *s = q.next;
@@ -45,7 +45,7 @@ pub extern "C" fn vanitycrow_connect(
     h: Heard,
     r: ConnAck,
 ) -> u8
-    ensures { λ q. ⌜ (left q (now (s .exit)), now (a .exit)) ≡ replyNumber (receiveOf (now (p .entry)) (now (s .entry)) (now (a .entry)) h (R.ConnAck r) []) ⌝ }
+    ensures { λ q. ⌜ (left q (now (s .exit)), now (a .exit)) ≡ answerNumber (receiveOf (now (p .entry)) (now (s .entry)) (now (a .entry)) h (R.ConnAck r) []) ⌝ }
 {
     let q = numbered::connect(*p, *s, a, h, r);
     *s = q.next;
@@ -61,7 +61,7 @@ pub extern "C" fn vanitycrow_short_ack(
     h: Heard,
     r: Ack,
 ) -> u8
-    ensures { λ q. ⌜ (left q (now (s .exit)), now (a .exit)) ≡ replyNumber (receiveOf (now (p .entry)) (now (s .entry)) (now (a .entry)) h (R.Ack r) []) ⌝ }
+    ensures { λ q. ⌜ (left q (now (s .exit)), now (a .exit)) ≡ answerNumber (receiveOf (now (p .entry)) (now (s .entry)) (now (a .entry)) h (R.Ack r) []) ⌝ }
 {
     let q = numbered::short_ack(*p, *s, a, h, r);
     *s = q.next;
@@ -78,7 +78,7 @@ pub extern "C" fn vanitycrow_long_ack(
     r: LongAck,
     payload: &[u8],
 ) -> u8
-    ensures { λ q. ⌜ (left q (now (s .exit)), now (a .exit)) ≡ replyNumber (receiveOf (now (p .entry)) (now (s .entry)) (now (a .entry)) h (R.LongAck r) (now (payload .entry))) ⌝ }
+    ensures { λ q. ⌜ (left q (now (s .exit)), now (a .exit)) ≡ answerNumber (receiveOf (now (p .entry)) (now (s .entry)) (now (a .entry)) h (R.LongAck r) (now (payload .entry))) ⌝ }
 {
     let q = numbered::long_ack(*p, *s, a, h, r, payload);
     *s = q.next;
@@ -94,7 +94,7 @@ pub extern "C" fn vanitycrow_turn(
     h: Heard,
     r: Turn,
 ) -> u8
-    ensures { λ q. ⌜ (left q (now (s .exit)), now (a .exit)) ≡ replyNumber (receiveOf (now (p .entry)) (now (s .entry)) (now (a .entry)) h (R.Turn r) []) ⌝ }
+    ensures { λ q. ⌜ (left q (now (s .exit)), now (a .exit)) ≡ answerNumber (receiveOf (now (p .entry)) (now (s .entry)) (now (a .entry)) h (R.Turn r) []) ⌝ }
 {
     let q = numbered::turn(*p, *s, a, h, r);
     *s = q.next;

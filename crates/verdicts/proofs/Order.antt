@@ -8,16 +8,16 @@ use lib.Dec.{eqb}
 use borrow.Author.Tests.{eq-eqb, lt-ltb}
 use Rattle.laws.proofs.Picks.{cond-yes, cond-no}
 use Rattle.config.specs.declared.Profile.{Profile}
-use Rattle.limits.specs.Ranges.{inRange, inOrder}
-use Rattle.ledger.specs.Limits.{maxSlots, maxWaiting, maxTaken}
-use Rattle.queued.proofs.Laws.{full, over}
+use Rattle.config.specs.Ranges.{inRange, inOrder}
+use Rattle.area.proofs.room.Laws.{full, over}
 use Rattle.record.specs.declared.Sender.{Sender}
-use Rattle.checks.specs.Checked.{soundOk}
-use Rattle.answers.specs.declared.Heard.{Heard}
+use Rattle.soundness.specs.Soundness.{soundOk}
+use Rattle.replies.specs.declared.Heard.{Heard}
 use Rattle.refusals.specs.declared.Verdict.the-variants.{ProfileOutOfRange, ShortOverLong, Unsound, OutOfTurn, BadTime, BadValue, ShortPayload, QueueFull, AllTaken, ShortOutput}
 use Rattle.refusals.specs.declared.Reply.{Reply}
 use Rattle.refusals.specs.Refusals.{kindOf, timeOk, heardOk, replyOk}
 use Rattle.verdicts.specs.Verdicts.{passed, standing, replyVerdict, roomVerdict, outputVerdict, queueVerdict, receiveVerdict, burstVerdict}
+use Rattle.limits.specs.Limits.{maxSlots, maxWaiting, maxTaken}
 
 -- a connect that comes again, or another call before connect
 wrong-turn : (x : Bool) → ((x && x) || (not x && not x)) ≡ true

@@ -11,22 +11,22 @@ use borrow.Author.Tests.{not-false, eq-eqb, ne-eqb, leb-true, ltb-true, ltb-fals
 use Rattle.laws.proofs.Picks.{test, cond-no, and-first, and-second}
 use Rattle.laws.proofs.Tests.{all-at}
 use Rattle.config.specs.declared.Profile.{Profile}
-use Rattle.limits.specs.Ranges.{inRange, inOrder}
-use Rattle.ledger.specs.Limits.{maxSlots, maxWaiting, maxTaken, maxPieces}
-use Rattle.table.specs.Layout.{areaBytes, streamBytes}
-use Rattle.table.specs.Table.{rowsFrom, total}
+use Rattle.config.specs.Ranges.{inRange, inOrder}
+use Rattle.area.specs.Layout.{areaBytes, streamBytes}
+use Rattle.area.specs.Table.{rowsFrom, total}
 use Rattle.pieces.proofs.Sound.{table-total}
-use Rattle.queued.specs.Queued.{queueRefusal}
-use Rattle.queued.proofs.Laws.{full, over, room, not-refused, queue-fits}
+use Rattle.area.specs.Room.{queueRefusal}
+use Rattle.area.proofs.room.Laws.{full, over, room, not-refused, queue-fits}
 use Rattle.record.specs.declared.Sender.{Sender}
-use Rattle.checks.specs.Checked.{countsOk, soundOk}
-use Rattle.checks.proofs.Counts.{flying-few, pieces-few, taken-few}
-use Rattle.answers.specs.declared.Heard.{Heard}
+use Rattle.soundness.specs.Soundness.{countsOk, soundOk}
+use Rattle.soundness.proofs.fields.Counts.{flying-few, pieces-few, taken-few}
+use Rattle.replies.specs.declared.Heard.{Heard}
 use Rattle.refusals.specs.declared.Verdict.{Verdict}
 use Rattle.refusals.specs.declared.Verdict.the-variants.{Accepted, AllTaken, BadTime, BadValue, OutOfTurn, ProfileOutOfRange, QueueFull, ShortOutput, ShortOverLong, ShortPayload, Unsound}
 use Rattle.refusals.specs.declared.Reply.{Reply}
 use Rattle.refusals.specs.Refusals.{numberOf, kindOf, timeOk, heardOk, replyOk}
 use Rattle.verdicts.specs.Verdicts.{passed, firstOf, standing, roomVerdict, replyVerdict, outputVerdict, queueVerdict, receiveVerdict, burstVerdict}
+use Rattle.limits.specs.Limits.{maxSlots, maxWaiting, maxTaken, maxPieces}
 
 -- the number that a call reads says whether it is refused
 pub not-passed : (v u : Verdict) (n : ℕ) → v ≡ u → n ≡ numberOf v → (n ≡ 0 → ⊥) → passed u ≡ false
@@ -34,19 +34,6 @@ not-passed v u n e d h = ne-eqb _ _ (λ z. h (d ∙ ap numberOf e ∙ z))
 
 pub is-passed : (v u : Verdict) (n : ℕ) → v ≡ u → n ≡ numberOf v → n ≡ 0 → passed u ≡ true
 is-passed v u n e d h = eq-eqb _ _ (sym (d ∙ ap numberOf e) ∙ h)
-
-pub passed-is : (v : Verdict) → passed v ≡ true → v ≡ Accepted
-passed-is Accepted h = refl
-passed-is ProfileOutOfRange h = absurd (false≢true h)
-passed-is ShortOverLong h = absurd (false≢true h)
-passed-is Unsound h = absurd (false≢true h)
-passed-is OutOfTurn h = absurd (false≢true h)
-passed-is BadTime h = absurd (false≢true h)
-passed-is BadValue h = absurd (false≢true h)
-passed-is ShortPayload h = absurd (false≢true h)
-passed-is QueueFull h = absurd (false≢true h)
-passed-is AllTaken h = absurd (false≢true h)
-passed-is ShortOutput h = absurd (false≢true h)
 
 -- a test that would have turned the call down
 over-first : (b : Bool) (v w : Verdict) → passed v ≡ false → passed (cond b v w) ≡ true → (b ≡ false) × (passed w ≡ true)

@@ -4,18 +4,18 @@ use mathlib.Core.Bool.{Bool, false, cond, not, _&&_, _||_}
 use Prim.Native.Nat.{ℕ, _+_, _*_}
 use lib.Dec.{ltb, eqb}
 use lib.Ieee.{Float}
-use Rattle.limits.specs.Ranges.{inRange, inOrder}
+use Rattle.config.specs.Ranges.{inRange, inOrder}
 use Rattle.config.specs.declared.Profile.{Profile}
-use Rattle.ledger.specs.Limits.{maxSlots}
-use Rattle.queued.specs.Queued.{queueRefusal}
+use Rattle.area.specs.Room.{queueRefusal}
 use Rattle.record.specs.declared.Counts.{Counts}
 use Rattle.record.specs.declared.Sender.{Sender}
-use Rattle.checks.specs.Checked.{soundOk}
-use Rattle.answers.specs.declared.Heard.{Heard}
+use Rattle.soundness.specs.Soundness.{soundOk}
+use Rattle.replies.specs.declared.Heard.{Heard}
 use Rattle.refusals.specs.declared.Verdict.{Verdict}
 use Rattle.refusals.specs.declared.Verdict.the-variants.{Accepted, ProfileOutOfRange, ShortOverLong, Unsound, OutOfTurn, BadTime, BadValue, ShortPayload, QueueFull, AllTaken, ShortOutput}
 use Rattle.refusals.specs.declared.Reply.{Reply}
 use Rattle.refusals.specs.Refusals.{numberOf, kindOf, timeOk, heardOk, replyOk}
+use Rattle.limits.specs.Limits.{maxSlots}
 
 abbrev pub passed : Verdict → Bool
 passed v = eqb (numberOf v) 0

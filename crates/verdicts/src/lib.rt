@@ -1,9 +1,9 @@
 // What the sender turns down (document 01): the verdict of each call.
-use answers::Heard;
+use area::room::queue_refusal;
 use config::Profile;
-use limits::in_order;
-use limits::in_range;
-use queued::queue_refusal;
+use config::ranges::in_order;
+use config::ranges::in_range;
+use limits::MAX_SLOTS;
 use record::Counts;
 use record::Sender;
 use refusals::Reply;
@@ -13,12 +13,13 @@ use refusals::kind;
 use refusals::number;
 use refusals::reply_ok;
 use refusals::time_ok;
+use replies::Heard;
 use soundness::is_sound;
 ghost use mathlib.Core.Path.{_≡_};
 ghost use mathlib.Core.Bool.{true};
 ghost use Prim.Native.Nat.{_+_, _≤_};
-ghost use Rattle.ledger.specs.Limits.{maxTaken};
 ghost use Rattle.verdicts.specs.Verdicts.{passed, firstOf, standing as standingOf, replyVerdict, roomVerdict, outputVerdict};
+ghost use Rattle.limits.specs.Limits.{maxTaken};
 
 // Refusals 1 to 4. `connect`: the call is a connect.
 pub fn standing(p: Profile, s: Sender, a: &[u8], connect: bool) -> Verdict
@@ -84,7 +85,7 @@ pub fn burst_verdict(v: Verdict, long: u32, n: usize) -> Verdict
     if number(v) != 0 {
         return v;
     }
-    if n < 64 * (long as usize) {
+    if n < MAX_SLOTS * (long as usize) {
         return Verdict::ShortOutput;
     }
     Verdict::Accepted

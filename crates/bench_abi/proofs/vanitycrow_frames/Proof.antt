@@ -9,10 +9,10 @@ use borrow.Author.Needs.{needs}
 use Rattle.laws.specs.Steps.{steps}
 use Rattle.laws.proofs.Bytes.{length-over}
 use Rattle.laws.proofs.Steps.{steps-none, steps-more}
-use Rattle.crc.specs.Table.{tableOf}
+use Rattle.frame.specs.Table.{tableOf}
 use Rattle.frame.specs.Frame.{maxPayload}
 use Rattle.frame.proofs.Laws.{short}
-use Rattle.bench_abi.specs.Burst.{frameAt, framesOf}
+use Rattle.bench_abi.specs.Burst.{frameAt, benchFrames}
 use Rattle.bench_abi.proofs.vanitycrow_frames.Statement.{statement}
 use Rattle.bench_abi.proofs.vanitycrow_frames.Tie as tie
 
@@ -85,7 +85,7 @@ same-length : tie.Need-same-length Inv-loop μ-loop
 same-length c = c .before .loop .inv .2
 
 returns : tie.Need-returns Inv-loop μ-loop
-unfolding framesOf
+unfolding benchFrames
 returns c =
     let p = c .before in
     let s = p .before .before .before .before in

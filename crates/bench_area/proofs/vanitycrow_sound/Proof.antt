@@ -6,8 +6,8 @@ use Prim.Native.Nat.{_-_}
 use borrow.Author.Needs.{needs}
 use borrow.Author.Tests.{not-true, not-false}
 use Rattle.laws.proofs.Picks.{and-first}
-use Rattle.table.specs.Table.{rowsFrom}
-use Rattle.sound.specs.Sound.{ascends, tableOk}
+use Rattle.area.specs.Table.{rowsFrom}
+use Rattle.area_check.specs.Rows.{ascends, tableOk}
 use Rattle.bench_area.specs.Checked.{checked}
 use Rattle.bench_area.proofs.vanitycrow_sound.Statement.{statement}
 use Rattle.bench_area.proofs.vanitycrow_sound.Tie as tie

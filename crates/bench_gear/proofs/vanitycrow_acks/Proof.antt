@@ -8,10 +8,10 @@ use Rattle.laws.specs.Steps.{steps}
 use Rattle.laws.proofs.Steps.{steps-none, steps-more}
 use Rattle.config.specs.declared.Profile.{Profile}
 use Rattle.defaults.specs.Default.{newProfile}
-use Rattle.limits.specs.Ranged.{Ranged}
-use Rattle.limits.proofs.Ranged.{ranged}
+use Rattle.config.specs.Ranged.{Ranged}
+use Rattle.config.proofs.ranges.Ranged.{ranged}
 use Rattle.defaults.proofs.Accepted.{default-in-range}
-use Rattle.goodput.specs.declared.Gear.{Gear}
+use Rattle.gear.specs.declared.Gear.{Gear}
 use Rattle.gear.specs.declared.Outcome.{Outcome}
 use Rattle.gear.specs.Judging.{onAck}
 use Rattle.gear_laws.proofs.LevelLaws.{on-ack-low}

@@ -4,9 +4,8 @@ use native.Mathlib.Nat.{sub-zero, zero-add, add-sub-cancel-left}
 use Rattle.laws.specs.Bytes.{overwrite, part}
 use Rattle.laws.proofs.Bytes.{over-nil, length-over}
 use Rattle.frame.specs.Frame.{frameOf, maxPayload}
-use Rattle.ledger.specs.Limits.{maxSlots}
-use Rattle.slots.specs.Slots.{slotAt, slotsFrom}
-use Rattle.frames.specs.Frames.{framesOf, Fit}
+use Rattle.frames.specs.Slots.{nthSlot, slotsFrom}
+use Rattle.frames.specs.Frames.{framesWritten, Fit}
 use Rattle.frames.proofs.Laws.{fit-turn, frames-long, frames-turn}
 use Prim.Native.Nat.{ℕ, _+_, _-_, _≤_, _<_}
 use mathlib.Core.Path.{_≡_, refl, sym, ap, _∙_}
@@ -15,11 +14,12 @@ use lib.ListN.{length}
 use borrow.Author.Needs.{needs}
 use Rattle.frames.proofs.put_frames.Statement.{statement}
 use Rattle.frames.proofs.put_frames.Tie as tie
+use Rattle.limits.specs.Limits.{maxSlots}
 
 abbrev Inv-loop : tie.InvT-loop
 Inv-loop t out₀ a size s n at₀ i₀ out at i =
-    (i ≤ n) × (length out ≡ length out₀) × (at + length (framesOf size (slotsFrom s i (n - i)) a) ≤ length out₀) × Fit size (length a) (slotsFrom s i (n - i))
-    × (overwrite out₀ 0 (framesOf size (slotsFrom s 0 n) a) ≡ overwrite out at (framesOf size (slotsFrom s i (n - i)) a))
+    (i ≤ n) × (length out ≡ length out₀) × (at + length (framesWritten size (slotsFrom s i (n - i)) a) ≤ length out₀) × Fit size (length a) (slotsFrom s i (n - i))
+    × (overwrite out₀ 0 (framesWritten size (slotsFrom s 0 n) a) ≡ overwrite out at (framesWritten size (slotsFrom s i (n - i)) a))
 
 abbrev μ-loop : tie.MeasureT-loop
 μ-loop t out₀ a size s n at₀ i₀ out at i = n - i
@@ -31,12 +31,12 @@ below : (d : tie.In-loop Inv-loop μ-loop) → d .before .loop .i < maxSlots
 below d = omega (arith, d .loop-test .taken, d .before .before .before .before .pre .1)
 
 fits : (d : tie.In-loop Inv-loop μ-loop) → let p = d .before in let g = p .before .before .before .args in
-    (slotAt (g .t4) (p .loop .i) .len ≤ maxPayload (g .size)) × (slotAt (g .t4) (p .loop .i) .start + slotAt (g .t4) (p .loop .i) .len ≤ length (now (g .a)))
+    (nthSlot (g .t4) (p .loop .i) .len ≤ maxPayload (g .size)) × (nthSlot (g .t4) (p .loop .i) .start + nthSlot (g .t4) (p .loop .i) .len ≤ length (now (g .a)))
     × Fit (g .size) (length (now (g .a))) (slotsFrom (g .t4) (p .loop .i + 1) (g .t4 .n - (p .loop .i + 1)))
 fits d = let p = d .before in let s = p .before .before .before in fit-turn (s .args .size) (now (s .args .a)) (s .args .t4) _ _ (s .pre .2) (d .loop-test .taken) (p .loop .inv .3)
 
 long : (d : tie.In-loop Inv-loop μ-loop) → let p = d .before in let g = p .before .before .before .args in
-    length (framesOf (g .size) (slotsFrom (g .t4) (p .loop .i) (g .t4 .n - p .loop .i)) (now (g .a))) ≡ g .size + length (framesOf (g .size) (slotsFrom (g .t4) (p .loop .i + 1) (g .t4 .n - (p .loop .i + 1))) (now (g .a)))
+    length (framesWritten (g .size) (slotsFrom (g .t4) (p .loop .i) (g .t4 .n - p .loop .i)) (now (g .a))) ≡ g .size + length (framesWritten (g .size) (slotsFrom (g .t4) (p .loop .i + 1) (g .t4 .n - (p .loop .i + 1))) (now (g .a)))
 long d = let p = d .before in let s = p .before .before .before in frames-long (s .args .size) (now (s .args .a)) (s .args .t4) _ _ (s .pre .2) (d .loop-test .taken) (p .loop .inv .3)
 
 loop-holds : tie.Need-loop-holds Inv-loop μ-loop
@@ -99,7 +99,7 @@ loop-again c =
     let d = L (en .before .before .before) in
     let p = d .before in
     let g = p .before .before .before .args in
-    let x = slotAt (g .t4) (p .loop .i) in
+    let x = nthSlot (g .t4) (p .loop .i) in
     let v = en .encode .ensures ∙ ap (λ (k : ℕ). overwrite (p .loop .out) (p .loop .at) (frameOf (g .size) (x .off) (part (now (g .a)) (x .start) k))) (add-sub-cancel-left (x .start) (x .len)) in (
       omega arith,
       ap length v ∙ length-over (p .loop .out) (p .loop .at) _ ∙ p .loop .inv .1,
@@ -112,12 +112,12 @@ same-length : tie.Need-same-length Inv-loop μ-loop
 same-length c = c .before .loop .inv .1
 
 returns : tie.Need-returns Inv-loop μ-loop
-unfolding framesOf
+unfolding framesWritten
 returns c =
     let p = c .before in
     let g = p .before .before .before .args in
     let z : g .t4 .n - p .loop .i ≡ 0 = omega (arith, c .loop-test .left) in
-    sym (p .loop .inv .4 ∙ ap (λ (k : ℕ). overwrite (p .loop .out) (p .loop .at) (framesOf (g .size) (slotsFrom (g .t4) (p .loop .i) k) (now (g .a)))) z ∙ over-nil _ _)
+    sym (p .loop .inv .4 ∙ ap (λ (k : ℕ). overwrite (p .loop .out) (p .loop .at) (framesWritten (g .size) (slotsFrom (g .t4) (p .loop .i) k) (now (g .a)))) z ∙ over-nil _ _)
 
 pub put-frames-spec : {M : Type 1} → statement M
 put-frames-spec =

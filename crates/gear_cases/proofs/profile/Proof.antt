@@ -1,9 +1,12 @@
 -- `profile` is safe: the profile is in range. Assumes nothing.
 use mathlib.Core.Path.{sym, _∙_}
 use borrow.Author.Needs.{needs}
-use Rattle.limits.proofs.Ranged.{ranged}
+use Rattle.config.proofs.ranges.Ranged.{ranged}
 use Rattle.gear_cases.proofs.profile.Statement.{statement}
 use Rattle.gear_cases.proofs.profile.Tie as tie
+
+table-of-requires : tie.Need-table-of-requires
+table-of-requires c κs = search needs
 
 profile-of-requires : tie.Need-profile-of-requires
 profile-of-requires c κs = search needs
@@ -33,6 +36,7 @@ pub profile-spec : {M : Type 1} → statement M
 profile-spec =
     tie.close
     (tie.spec
+    table-of-requires
     profile-of-requires
     in-range-requires
     load32-requires

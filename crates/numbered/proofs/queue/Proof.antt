@@ -1,6 +1,6 @@
 -- `numbered::queue` meets its contract.
 use borrow.Author.Needs.{needs}
-use Rattle.numbered.proofs.Numbers.{queue-numbered}
+use Rattle.numbered.proofs.Numbers.{answer-numbered}
 use Rattle.numbered.proofs.queue.Statement.{statement}
 use Rattle.numbered.proofs.queue.Tie as tie
 
@@ -14,7 +14,7 @@ same-length : tie.Need-same-length
 same-length c = search needs
 
 returns : tie.Need-returns
-returns c = queue-numbered _ _ _ _ (c .before .before .before .before .queue .ensures) (c .before .number .ensures)
+returns c = answer-numbered _ _ _ _ (c .before .before .before .before .queue .ensures) (c .before .number .ensures)
 
 pub queue-spec : {M : Type 1} → statement M
 queue-spec = tie.close (tie.spec queue-requires number-requires same-length returns)

@@ -1,6 +1,6 @@
 -- `numbered::reply` meets its contract.
 use borrow.Author.Needs.{needs}
-use Rattle.numbered.proofs.Numbers.{reply-numbered}
+use Rattle.numbered.proofs.Numbers.{answer-numbered}
 use Rattle.numbered.proofs.reply.Statement.{statement}
 use Rattle.numbered.proofs.reply.Tie as tie
 
@@ -14,7 +14,7 @@ same-length : tie.Need-same-length
 same-length c = search needs
 
 returns : tie.Need-returns
-returns c = reply-numbered _ _ _ _ (c .before .before .before .before .sender-rx .ensures) (c .before .number .ensures)
+returns c = answer-numbered _ _ _ _ (c .before .before .before .before .sender-rx .ensures) (c .before .number .ensures)
 
 pub reply-spec : {M : Type 1} → statement M
 reply-spec = tie.close (tie.spec sender-rx-requires number-requires same-length returns)

@@ -1,4 +1,3 @@
-use Rattle.plan.specs.Planning.{oneMore}
 use Rattle.plan.proofs.Turns.{wholes-small}
 use mathlib.Core.Path.{refl}
 use native.Mathlib.Omega.{arith}
@@ -6,6 +5,7 @@ use native.Mathlib.Numerals.{add-one}
 use borrow.Author.Needs.{needs}
 use Rattle.plan.proofs.one_more.Statement.{statement}
 use Rattle.plan.proofs.one_more.Tie as tie
+use Rattle.plan.specs.PlanningCode.{oneMoreFits}
 
 cast-t : tie.Need-cast-t
 cast-t c = search needs
@@ -32,7 +32,7 @@ fits-requires : tie.Need-fits-requires
 fits-requires c κs = search needs
 
 returns : tie.Need-returns
-unfolding oneMore
+unfolding oneMoreFits
 returns c =
     let f = c .before in
     rw (f .before .cap .ensures .0, f .fits2 .ensures, add-one (f .before .before .before .args .r)) refl

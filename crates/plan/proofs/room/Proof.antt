@@ -1,6 +1,4 @@
-use Rattle.plan.specs.Planning.{oneMore, roomFrom}
 use Rattle.plan.proofs.Turns.{room-more, room-stop, room-end}
-use Rattle.ledger.specs.Limits.{maxSlots}
 use Prim.Native.Nat.{_-_, _≤_}
 use mathlib.Core.Path.{_≡_, refl, sym, _∙_}
 use native.Mathlib.Omega.{arith}
@@ -8,16 +6,18 @@ use borrow.Author.Needs.{needs}
 use borrow.Author.Tests.{not-true, not-false}
 use Rattle.plan.proofs.room.Statement.{statement}
 use Rattle.plan.proofs.room.Tie as tie
+use Rattle.limits.specs.Limits.{maxSlots}
+use Rattle.plan.specs.PlanningCode.{oneMoreFits, roomCounted}
 
 abbrev Inv-loop : tie.InvT-loop
-Inv-loop c n stored bits r₀ r = (r ≤ maxSlots) × (roomFrom c n stored bits maxSlots 0 ≡ roomFrom c n stored bits (maxSlots - r) r)
+Inv-loop c n stored bits r₀ r = (r ≤ maxSlots) × (roomCounted c n stored bits maxSlots 0 ≡ roomCounted c n stored bits (maxSlots - r) r)
 
 abbrev μ-loop : tie.MeasureT-loop
 μ-loop c n stored bits r₀ r = maxSlots - r
 
 -- the test
 more : (d : tie.After-one-more Inv-loop μ-loop) → let p = d .before .before in let a = p .before .args in
-    d .one-more .result ≡ oneMore (a .c) (a .n) (a .stored) (a .bits) (p .loop .r)
+    d .one-more .result ≡ oneMoreFits (a .c) (a .n) (a .stored) (a .bits) (p .loop .r)
 more d = d .one-more .ensures
 
 loop-holds : tie.Need-loop-holds Inv-loop μ-loop

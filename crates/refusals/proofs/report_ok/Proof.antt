@@ -1,10 +1,10 @@
 -- `refusals::report_ok` meets its contract.
 use lib.Ieee.{ofInt, ofBits, neg}
-use Rattle.limits.specs.Ranges.{inside}
 use Rattle.refusals.specs.Refusals.{reportOk}
 use borrow.Author.Needs.{needs}
 use Rattle.refusals.proofs.report_ok.Statement.{statement}
 use Rattle.refusals.proofs.report_ok.Tie as tie
+use Rattle.ieee.specs.Range.{inside}
 
 returns : tie.Need-returns
 unfolding inside reportOk ofInt ofBits neg

@@ -1,10 +1,10 @@
 -- `refusals::time_ok` meets its contract.
 use mathlib.Core.Path.{refl}
 use lib.Ieee.{ofInt, ofBits}
-use Rattle.limits.specs.Ranges.{inside}
 use Rattle.refusals.specs.Refusals.{timeOk}
 use Rattle.refusals.proofs.time_ok.Statement.{statement}
 use Rattle.refusals.proofs.time_ok.Tie as tie
+use Rattle.ieee.specs.Range.{inside}
 
 returns : tie.Need-returns
 unfolding inside timeOk ofInt ofBits

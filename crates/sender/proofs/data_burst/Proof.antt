@@ -5,16 +5,16 @@ use mathlib.Core.Path.{_≡_, ap, _∙_}
 use Prim.Native.Nat.{ℕ}
 use lib.ListN.{length}
 use borrow.Author.Needs.{needs, length-unmapped}
-use Rattle.limits.proofs.Ranged.{ranged}
-use Rattle.ledger.specs.Limits.{maxSlots}
+use Rattle.config.proofs.ranges.Ranged.{ranged}
 use Rattle.record.proofs.View.{Arrays}
-use Rattle.checks.proofs.Sound.{test-sound}
+use Rattle.soundness.proofs.fields.Sound.{test-sound}
 use Rattle.refusals.specs.declared.Verdict.{Verdict}
 use Rattle.verdicts.specs.Verdicts.{passed, firstOf, outputVerdict, burstVerdict}
 use Rattle.verdicts.proofs.Passed.{is-passed, not-passed, burst-passed}
 use Rattle.sender.proofs.Bursting.{burst-refused, burst-accepted}
 use Rattle.sender.proofs.data_burst.Statement.{statement}
 use Rattle.sender.proofs.data_burst.Tie as tie
+use Rattle.limits.specs.Limits.{maxSlots}
 
 arrays : (s : tie.Start) → Arrays (s .args .s)
 arrays s =

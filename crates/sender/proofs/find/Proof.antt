@@ -3,7 +3,7 @@ use denote.Ref.{now}
 use mathlib.Core.Bool.{true, false}
 use mathlib.Core.Path.{_≡_, ap, ap₂}
 use Rattle.laws.proofs.Picks.{cond-yes, cond-no}
-use Rattle.lookup.specs.declared.Found.{Found}
+use Rattle.area.specs.declared.lookup.Found.{Found}
 use Rattle.refusals.specs.declared.Verdict.{Verdict}
 use Rattle.verdicts.specs.Verdicts.{passed, standing}
 use Rattle.sender.specs.Calls.{nowhere, findOf}

@@ -3,7 +3,7 @@ use denote.Ref.{now}
 use mathlib.Core.Bool.{true, false}
 use mathlib.Core.Path.{_≡_, refl, _∙_}
 use Rattle.laws.proofs.Picks.{cond-yes, cond-no}
-use Rattle.table.specs.Table.{rowsFrom}
+use Rattle.area.specs.Table.{rowsFrom}
 use Rattle.pieces.proofs.Placed.{found-bytes}
 use Rattle.record.specs.View.{view}
 use Rattle.verdicts.specs.Verdicts.{passed, standing}

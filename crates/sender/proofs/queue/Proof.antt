@@ -6,8 +6,7 @@ use Prim.Native.Nat.{ℕ, _+_, _≤_}
 use native.Mathlib.Omega.{arith}
 use lib.ListN.{length}
 use borrow.Author.Needs.{length-unmapped}
-use Rattle.ledger.specs.Limits.{maxSlots, maxWaiting}
-use Rattle.table.specs.Layout.{areaBytes, streamBytes}
+use Rattle.area.specs.Layout.{areaBytes, streamBytes}
 use Rattle.record.proofs.View.{Arrays}
 use Rattle.refusals.specs.declared.Verdict.{Verdict}
 use Rattle.verdicts.specs.Verdicts.{passed, firstOf, roomVerdict, queueVerdict}
@@ -16,6 +15,7 @@ use Rattle.sender.proofs.Answered.{queue-refused, queue-accepted}
 use borrow.Author.Needs.{needs}
 use Rattle.sender.proofs.queue.Statement.{statement}
 use Rattle.sender.proofs.queue.Tie as tie
+use Rattle.limits.specs.Limits.{maxSlots, maxWaiting}
 
 arrays : (s : tie.Start) → Arrays (s .args .s)
 arrays s =

@@ -6,7 +6,6 @@ use Prim.Native.Nat.{ℕ}
 use lib.Dec.{eqb}
 use lib.ListN.{length}
 use borrow.Author.Needs.{length-unmapped}
-use Rattle.ledger.specs.Limits.{maxSlots}
 use Rattle.record.proofs.View.{Arrays}
 use Rattle.refusals.specs.declared.Verdict.{Verdict}
 use Rattle.verdicts.specs.Verdicts.{passed, firstOf, standing, replyVerdict, receiveVerdict}
@@ -15,6 +14,7 @@ use Rattle.sender.proofs.Answered.{receive-refused, answer-ranged, answ
 use borrow.Author.Needs.{needs}
 use Rattle.sender.proofs.sender_rx.Statement.{statement}
 use Rattle.sender.proofs.sender_rx.Tie as tie
+use Rattle.limits.specs.Limits.{maxSlots}
 
 arrays : (s : tie.Start) → Arrays (s .args .s)
 arrays s =

@@ -1,7 +1,6 @@
 -- `settle::acked` meets its contract.
 use denote.Ref.{now}
 use lib.ListN.{drop, length-replicate, length, length-set}
-use Rattle.ledger.specs.Limits.{maxSlots}
 use Rattle.settle.specs.Settle.{ackedIn, offsetsOf}
 use Rattle.settle.proofs.Laws.{more, more-start, more-end, acked-yes, acked-no, acked-end}
 use Prim.Native.Nat.{ℕ, _+_, _-_, _≤_, _<_}
@@ -10,6 +9,7 @@ use native.Mathlib.Omega.{arith}
 use borrow.Author.Needs.{needs}
 use Rattle.settle.proofs.acked.Statement.{statement}
 use Rattle.settle.proofs.acked.Tie as tie
+use Rattle.limits.specs.Limits.{maxSlots}
 
 abbrev Inv-loop : tie.InvT-loop
 Inv-loop offs bitmap off₀ n₀ b₀ i₀ off n b i = (n ≤ i) × (i ≤ length offs) × (length off ≡ maxSlots) × (offsetsOf (ackedIn bitmap offs) ≡ more off n (ackedIn b (drop i offs)))

@@ -1,7 +1,6 @@
 -- `settle::missed` meets its contract.
 use denote.Ref.{now}
 use lib.ListN.{drop, length, getD}
-use Rattle.ledger.specs.Limits.{maxSlots}
 use Rattle.record.specs.declared.AtPeer.{AtPeer}
 use Rattle.pieces.specs.Lists.{heldOf}
 use Rattle.settle.specs.Settle.{heldMore, missedIn}
@@ -13,6 +12,7 @@ use native.Mathlib.Omega.{arith}
 use borrow.Author.Needs.{needs}
 use Rattle.settle.proofs.missed.Statement.{statement}
 use Rattle.settle.proofs.missed.Tie as tie
+use Rattle.limits.specs.Limits.{maxSlots}
 
 abbrev Inv-loop : tie.InvT-loop
 Inv-loop offs held bitmap top h₀ b₀ i₀ h b i =

@@ -1,7 +1,6 @@
 -- `settle::rest` meets its contract.
 use denote.Ref.{now}
 use lib.ListN.{drop, length, getD}
-use Rattle.ledger.specs.Limits.{maxSlots}
 use Rattle.record.specs.declared.AtPeer.{AtPeer}
 use Rattle.pieces.specs.Lists.{heldOf}
 use Rattle.settle.specs.Settle.{heldMore}
@@ -13,6 +12,7 @@ use native.Mathlib.Omega.{arith}
 use borrow.Author.Needs.{needs}
 use Rattle.settle.proofs.rest.Statement.{statement}
 use Rattle.settle.proofs.rest.Tie as tie
+use Rattle.limits.specs.Limits.{maxSlots}
 
 abbrev Inv-loop : tie.InvT-loop
 Inv-loop offs bits from h₀ i₀ h i = (h .n + (length offs - i) ≤ maxSlots) × (heldMore h₀ (drop from (heldOf offs bits)) ≡ heldMore h (drop i (heldOf offs bits)))

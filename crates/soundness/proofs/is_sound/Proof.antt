@@ -9,12 +9,12 @@ use Rattle.laws.specs.Tests.{all}
 use Rattle.laws.proofs.Picks.{and-first}
 use Rattle.harq.specs.Held.{hMax}
 use Rattle.frame.specs.Frame.{maxPayload}
-use Rattle.table.specs.Layout.{areaBytes}
-use Rattle.table.specs.declared.Row.{Row}
-use Rattle.table.specs.Table.{rowsFrom}
-use Rattle.sound.specs.Sound.{tableOk, rowOffs}
-use Rattle.checks.specs.Checked.{countsOk, listsOk, soundOk}
-use Rattle.checks.proofs.Counts.{pieces-few}
+use Rattle.area.specs.Layout.{areaBytes}
+use Rattle.area.specs.declared.table.Row.{Row}
+use Rattle.area.specs.Table.{rowsFrom}
+use Rattle.area_check.specs.Rows.{tableOk, rowOffs}
+use Rattle.soundness.specs.Soundness.{countsOk, listsOk, soundOk}
+use Rattle.soundness.proofs.fields.Counts.{pieces-few}
 use borrow.Author.Needs.{needs}
 use Rattle.soundness.proofs.is_sound.Statement.{statement}
 use Rattle.soundness.proofs.is_sound.Tie as tie

@@ -1,11 +1,11 @@
 -- `station::vanitycrow_find` meets its contract: a walk of its MIR, printed by tools/walk.py station vanitycrow_find
-use Rattle.walks.proofs.Kit.{AllGo, Atoms, Calls, Contract, FmC, Fun, GName, Given, Heap, Is, Lasts, Lft, List, Loops, Meets, Memory, RefT, Routine, SProp, Share, ShrRef, ShrSlice, Stays, Tables, Triple, URA, Val, Walks, WpFn, WpFn-mono, alloc0, alloc1}
-use Rattle.walks.proofs.Kit.{and-then, ap, assigns, atExit, await, calls-at, cited, done, drop, emp, ends-at, ensured, ent, enter, entered, fat, feqI, fjoin, fjoin3, flft, fmOf, forget, frame, free0, free1, from, fsplit, fsplit3, fst∗, ftrue, fullShare, givenOf}
-use Rattle.walks.proofs.Kit.{hop, id⊢, init, join, keep, land, lasts, later, load, look, look-raw, looks, move, named, no-more, nothing, of-opd, onEntry, only, owned, owns, params1, pass0, pass1, peeks, pick, plain, ptr-vals, qed, raw, refl, returns, rewrite}
-use Rattle.walks.proofs.Kit.{shows, shr-slice-copy, shr-slice-lawful, shr-slice-tells, shr-tells, shrRefTo, shrSlice, shuts, slice-vals, some, spelt, split, stop, subst, suffices, tables, tablesOf, tripleOf, u32, u8, uint-lawful, uint-makes, uint-tells}
-use Rattle.walks.proofs.Kit.{uint-vals, use1, via, vptr, w32, walk-meets, walkOf, walked, ℕ, !, [], _$_, _∵_, _∷_, _⊛_, ‵}
+use Rattle.ref_laws.proofs.Kit.{AllGo, Atoms, Calls, Contract, FmC, Fun, GName, Given, Heap, Is, Lasts, Lft, List, Loops, Meets, Memory, RefT, Routine, SProp, Share, ShrRef, ShrSlice, Stays, Tables, Triple, URA, Val, Walks, WpFn, WpFn-mono, alloc0, alloc1}
+use Rattle.ref_laws.proofs.Kit.{and-then, ap, assigns, atExit, await, calls-at, cited, done, drop, emp, ends-at, ensured, ent, enter, entered, fat, feqI, fjoin, fjoin3, flft, fmOf, forget, frame, free0, free1, from, fsplit, fsplit3, fst∗, ftrue, fullShare, givenOf}
+use Rattle.ref_laws.proofs.Kit.{hop, id⊢, init, join, keep, land, lasts, later, load, look, look-raw, looks, move, named, no-more, nothing, of-opd, onEntry, only, owned, owns, params1, pass0, pass1, peeks, pick, plain, ptr-vals, qed, raw, refl, returns, rewrite}
+use Rattle.ref_laws.proofs.Kit.{shows, shr-slice-copy, shr-slice-lawful, shr-slice-tells, shr-tells, shrRefTo, shrSlice, shuts, slice-vals, some, spelt, split, stop, subst, suffices, tables, tablesOf, tripleOf, u32, u8, uint-lawful, uint-makes, uint-tells}
+use Rattle.ref_laws.proofs.Kit.{uint-vals, use1, via, vptr, w32, walk-meets, walkOf, walked, ℕ, !, [], _$_, _∵_, _∷_, _⊛_, ‵}
 use denote.Struct.Laws as LL
-use Rattle.walks.proofs.Left.{asks, goes-left, stay-left}
+use Rattle.ref_laws.proofs.Left.{asks, goes-left, stay-left}
 use Rattle.config.specs.declared.Profile.{Profile}
 use Rattle.config.proofs.Profile as T0
 use Rattle.config.proofs.Profile.Laws as T0′

@@ -1,10 +1,10 @@
 -- `station::vanitycrow_fresh` meets its contract: a walk of its MIR, printed by tools/walk.py station vanitycrow_fresh
-use Rattle.walks.proofs.Kit.{AllGo, Atoms, Calls, Contract, FmC, Fun, GName, Given, Heap, Is, Lasts, Lft, List, Loops, Meets, Memory, MutRef, Routine, SProp, Share, Stays, Tables, Triple, URA, Val, Walks, WpFn, WpFn-mono, alloc0, alloc1, ap, assigns, atExit}
-use Rattle.walks.proofs.Kit.{await, calls-at, cited, closes, done, drop, emp, ends-at, ensured, ent, enter, entered, fat, feqI, fjoin, fjoin3, flft, fmOf, forget, frame, free0, free1, from, fsplit, fsplit3, fst∗, ftrue, fullShare, givenOf, goes-ref, hop, id⊢}
-use Rattle.walks.proofs.Kit.{init, join, keep, land, lasts, later, load, look, move, mut-tells, named, no-more, nothing, nothing-lawful, nothing-makes, nothing-vals, of-opd, onEntry, only, opens, owned, owns, params1, pass0, pass1, peeks, pick, plain, ptr-vals}
-use Rattle.walks.proofs.Kit.{qed, raw, refl, returns, rewrite, shows, some, spelt, split, stay-ref, stop, store-raw, subst, suffices, tables, tablesOf, tripleOf, unit, unit-lit, use1, via, vptr, walk-meets, walkOf, walked, ℕ, !, [], _$_, _∵_, _∷_, _⊛_, ‵}
+use Rattle.ref_laws.proofs.Kit.{AllGo, Atoms, Calls, Contract, FmC, Fun, GName, Given, Heap, Is, Lasts, Lft, List, Loops, Meets, Memory, MutRef, Routine, SProp, Share, Stays, Tables, Triple, URA, Val, Walks, WpFn, WpFn-mono, alloc0, alloc1, ap, assigns, atExit}
+use Rattle.ref_laws.proofs.Kit.{await, calls-at, cited, closes, done, drop, emp, ends-at, ensured, ent, enter, entered, fat, feqI, fjoin, fjoin3, flft, fmOf, forget, frame, free0, free1, from, fsplit, fsplit3, fst∗, ftrue, fullShare, givenOf, goes-ref, hop, id⊢}
+use Rattle.ref_laws.proofs.Kit.{init, join, keep, land, lasts, later, load, look, move, mut-tells, named, no-more, nothing, nothing-lawful, nothing-makes, nothing-vals, of-opd, onEntry, only, opens, owned, owns, params1, pass0, pass1, peeks, pick, plain, ptr-vals}
+use Rattle.ref_laws.proofs.Kit.{qed, raw, refl, returns, rewrite, shows, some, spelt, split, stay-ref, stop, store-raw, subst, suffices, tables, tablesOf, tripleOf, unit, unit-lit, use1, via, vptr, walk-meets, walkOf, walked, ℕ, !, [], _$_, _∵_, _∷_, _⊛_, ‵}
 use denote.Struct.Laws as LL
-use Rattle.walks.proofs.Left.{asks}
+use Rattle.ref_laws.proofs.Left.{asks}
 use Rattle.record.specs.declared.Sender.{Sender}
 use Rattle.record.proofs.Sender as T0
 use Rattle.record.proofs.Sender.Laws as T0′

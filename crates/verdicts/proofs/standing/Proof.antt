@@ -4,9 +4,9 @@ use mathlib.Core.Bool.{false, not}
 use mathlib.Core.Path.{_≡_, refl, sym, ap, _∙_}
 use borrow.Author.Tests.{not-false}
 use Rattle.laws.proofs.Picks.{cond-yes, cond-no}
-use Rattle.limits.specs.Ranges.{inRange, inOrder}
-use Rattle.limits.proofs.Ranged.{ranged}
-use Rattle.checks.specs.Checked.{soundOk}
+use Rattle.config.specs.Ranges.{inRange, inOrder}
+use Rattle.config.proofs.ranges.Ranged.{ranged}
+use Rattle.soundness.specs.Soundness.{soundOk}
 use Rattle.verdicts.specs.Verdicts.{standing}
 use borrow.Author.Needs.{needs}
 use Rattle.verdicts.proofs.standing.Statement.{statement}

@@ -1,6 +1,6 @@
 -- `hold_case` is safe: the profile is in range. Assumes nothing.
 use mathlib.Core.Path.{sym, _∙_}
-use Rattle.limits.proofs.Ranged.{ranged}
+use Rattle.config.proofs.ranges.Ranged.{ranged}
 use borrow.Author.Needs.{needs}
 use Rattle.reckoned.proofs.holds.hold_case.Statement.{statement}
 use Rattle.reckoned.proofs.holds.hold_case.Tie as tie

@@ -1,12 +1,12 @@
 -- `replay::held::data_burst` meets its contract: a walk of its MIR, printed by tools/walk.py replay held::data_burst
-use Rattle.walks.proofs.Kit.{AllGo, Atoms, Body, Calls, Contract, FmC, Fun, GName, Given, Heap, Is, Lasts, Lft, List, Loops, Meets, Memory, MutRef, MutSlice, RefT, Routine, SProp, Share, ShrRef, Stays, Tables, Triple, URA, Val, Walks, WpFn, WpFn-mono, addr, agg}
-use Rattle.walks.proofs.Kit.{alloc0, alloc1, and-then, ap, assigns, atExit, await, calls-at, cellAt, cited, done, drop, emp, ends-at, ensured, ent, enter, entered, erased, fat, fjoin, fld, flent, flft, fmOf, forget, frame, free0, free1, from, fsplit, fst∗}
-use Rattle.walks.proofs.Kit.{ftrue, fullShare, givenOf, hop, id⊢, init, join, keep, land, lasts, later, lft-end, lft-new, load, look, look-in, mem, move, mut-slice-lawful, mut-slice-tells, mutSlice, named, no-more, nothing, of-opd, onEntry, only, owned, owns}
-use Rattle.walks.proofs.Kit.{params1, partAt, pass0, pass1, peeks, pick, plain, qed, raw, refl, returns, rewrite, shows, slice-vals, some, split, stop, sub, subst, suffices, tables, tablesOf, tripleOf, u8, use1, use2, use3, via, vptr, walk-meets, walkOf, walked}
-use Rattle.walks.proofs.Kit.{whole, ℕ, !, [], _$_, _∵_, _∷_, _⊛_, ‵}
+use Rattle.ref_laws.proofs.Kit.{AllGo, Atoms, Body, Calls, Contract, FmC, Fun, GName, Given, Heap, Is, Lasts, Lft, List, Loops, Meets, Memory, MutRef, MutSlice, RefT, Routine, SProp, Share, ShrRef, Stays, Tables, Triple, URA, Val, Walks, WpFn, WpFn-mono, addr, agg}
+use Rattle.ref_laws.proofs.Kit.{alloc0, alloc1, and-then, ap, assigns, atExit, await, calls-at, cellAt, cited, done, drop, emp, ends-at, ensured, ent, enter, entered, erased, fat, fjoin, fld, flent, flft, fmOf, forget, frame, free0, free1, from, fsplit, fst∗}
+use Rattle.ref_laws.proofs.Kit.{ftrue, fullShare, givenOf, hop, id⊢, init, join, keep, land, lasts, later, lft-end, lft-new, load, look, look-in, mem, move, mut-slice-lawful, mut-slice-tells, mutSlice, named, no-more, nothing, of-opd, onEntry, only, owned, owns}
+use Rattle.ref_laws.proofs.Kit.{params1, partAt, pass0, pass1, peeks, pick, plain, qed, raw, refl, returns, rewrite, shows, slice-vals, some, split, stop, sub, subst, suffices, tables, tablesOf, tripleOf, u8, use1, use2, use3, via, vptr, walk-meets, walkOf, walked}
+use Rattle.ref_laws.proofs.Kit.{whole, ℕ, !, [], _$_, _∵_, _∷_, _⊛_, ‵}
 use denote.Struct.Laws as LL
-use Rattle.walks.proofs.Here.{comes-here, lends-here, lends-shr-here, shr-comes-here}
-use Rattle.walks.proofs.Left.{asks, goes-left, stay-left}
+use Rattle.ref_laws.proofs.Here.{comes-here, lends-here, lends-shr-here, shr-comes-here}
+use Rattle.ref_laws.proofs.Left.{asks, goes-left, stay-left}
 use Rattle.config.specs.declared.Profile.{Profile}
 use Rattle.config.proofs.Profile as T0
 use Rattle.config.proofs.Profile.Laws as T0′

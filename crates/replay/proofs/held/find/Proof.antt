@@ -1,12 +1,12 @@
 -- `replay::held::find` meets its contract: a walk of its MIR, printed by tools/walk.py replay held::find
-use Rattle.walks.proofs.Kit.{AllGo, Atoms, Calls, Contract, FmC, Fun, GName, Given, Heap, Is, Lasts, Lft, List, Loops, Meets, Memory, RefT, Routine, SProp, Share, ShrRef, ShrSlice, Stays, Tables, Triple, URA, Val, Walks, WpFn, WpFn-mono, addr, alloc0, alloc1}
-use Rattle.walks.proofs.Kit.{and-then, ap, assigns, atExit, await, calls-at, cellAt, cited, done, drop, emp, ends-at, ensured, ent, enter, entered, fat, fjoin, flent, flft, fmOf, forget, frame, free0, free1, from, fsplit, fst∗, ftrue, fullShare, givenOf, id⊢}
-use Rattle.walks.proofs.Kit.{init, join, keep, land, lasts, later, lft-end, lft-new, load, look, move, named, no-more, nothing, of-opd, onEntry, only, owned, owns, params1, partAt, pass0, pass1, peeks, pick, plain, qed, raw, refl, returns, rewrite, shows}
-use Rattle.walks.proofs.Kit.{shr-slice-copy, shr-slice-lawful, shr-slice-tells, shrSlice, slice-vals, some, split, stop, subst, suffices, tables, tablesOf, tripleOf, u32, u8, uint-lawful, uint-makes, uint-tells, uint-vals, use1, use2, via, vptr, w32, walk-meets}
-use Rattle.walks.proofs.Kit.{walkOf, walked, ℕ, !, [], _$_, _∵_, _∷_, _⊛_, ‵}
+use Rattle.ref_laws.proofs.Kit.{AllGo, Atoms, Calls, Contract, FmC, Fun, GName, Given, Heap, Is, Lasts, Lft, List, Loops, Meets, Memory, RefT, Routine, SProp, Share, ShrRef, ShrSlice, Stays, Tables, Triple, URA, Val, Walks, WpFn, WpFn-mono, addr, alloc0, alloc1}
+use Rattle.ref_laws.proofs.Kit.{and-then, ap, assigns, atExit, await, calls-at, cellAt, cited, done, drop, emp, ends-at, ensured, ent, enter, entered, fat, fjoin, flent, flft, fmOf, forget, frame, free0, free1, from, fsplit, fst∗, ftrue, fullShare, givenOf, id⊢}
+use Rattle.ref_laws.proofs.Kit.{init, join, keep, land, lasts, later, lft-end, lft-new, load, look, move, named, no-more, nothing, of-opd, onEntry, only, owned, owns, params1, partAt, pass0, pass1, peeks, pick, plain, qed, raw, refl, returns, rewrite, shows}
+use Rattle.ref_laws.proofs.Kit.{shr-slice-copy, shr-slice-lawful, shr-slice-tells, shrSlice, slice-vals, some, split, stop, subst, suffices, tables, tablesOf, tripleOf, u32, u8, uint-lawful, uint-makes, uint-tells, uint-vals, use1, use2, via, vptr, w32, walk-meets}
+use Rattle.ref_laws.proofs.Kit.{walkOf, walked, ℕ, !, [], _$_, _∵_, _∷_, _⊛_, ‵}
 use denote.Struct.Laws as LL
-use Rattle.walks.proofs.Here.{lends-shr-here, shr-comes-here}
-use Rattle.walks.proofs.Left.{asks, goes-left, stay-left}
+use Rattle.ref_laws.proofs.Here.{lends-shr-here, shr-comes-here}
+use Rattle.ref_laws.proofs.Left.{asks, goes-left, stay-left}
 use Rattle.config.specs.declared.Profile.{Profile}
 use Rattle.config.proofs.Profile as T0
 use Rattle.config.proofs.Profile.Laws as T0′

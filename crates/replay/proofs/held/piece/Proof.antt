@@ -1,12 +1,12 @@
 -- `replay::held::piece` meets its contract: a walk of its MIR, printed by tools/walk.py replay held::piece
-use Rattle.walks.proofs.Kit.{AllGo, Atoms, Calls, Contract, FmC, Fun, GName, Given, Heap, Is, Lasts, Lft, List, Loops, Meets, Memory, RefT, Routine, SProp, Share, ShrRef, ShrSlice, Stays, Tables, Triple, URA, Val, Walks, WpFn, WpFn-mono, addr, alloc0, alloc1}
-use Rattle.walks.proofs.Kit.{and-then, assigns, atExit, await, calls-at, cellAt, cited, done, drop, emp, ends-at, ensured, ent, enter, entered, fat, fjoin, flent, flft, fmOf, forget, frame, free0, free1, from, fsplit, fst∗, ftrue, fullShare, givenOf, id⊢, init}
-use Rattle.walks.proofs.Kit.{join, keep, land, lasts, later, lft-end, lft-new, load, look, move, named, no-more, nothing, of-opd, onEntry, only, owned, owns, params1, partAt, pass0, pass1, peeks, pick, plain, qed, raw, refl, returns, shows, shr-slice-copy}
-use Rattle.walks.proofs.Kit.{shr-slice-lawful, shr-slice-tells, shrSlice, slice-vals, some, split, stop, suffices, tables, tablesOf, tripleOf, u32, u8, uint-lawful, uint-makes, uint-tells, uint-vals, use1, use2, via, vptr, w32, walk-meets, walkOf, walked, ℕ, ! }
-use Rattle.walks.proofs.Kit.{[], _$_, _∵_, _∷_, _⊛_, ‵}
+use Rattle.ref_laws.proofs.Kit.{AllGo, Atoms, Calls, Contract, FmC, Fun, GName, Given, Heap, Is, Lasts, Lft, List, Loops, Meets, Memory, RefT, Routine, SProp, Share, ShrRef, ShrSlice, Stays, Tables, Triple, URA, Val, Walks, WpFn, WpFn-mono, addr, alloc0, alloc1}
+use Rattle.ref_laws.proofs.Kit.{and-then, assigns, atExit, await, calls-at, cellAt, cited, done, drop, emp, ends-at, ensured, ent, enter, entered, fat, fjoin, flent, flft, fmOf, forget, frame, free0, free1, from, fsplit, fst∗, ftrue, fullShare, givenOf, id⊢, init}
+use Rattle.ref_laws.proofs.Kit.{join, keep, land, lasts, later, lft-end, lft-new, load, look, move, named, no-more, nothing, of-opd, onEntry, only, owned, owns, params1, partAt, pass0, pass1, peeks, pick, plain, qed, raw, refl, returns, shows, shr-slice-copy}
+use Rattle.ref_laws.proofs.Kit.{shr-slice-lawful, shr-slice-tells, shrSlice, slice-vals, some, split, stop, suffices, tables, tablesOf, tripleOf, u32, u8, uint-lawful, uint-makes, uint-tells, uint-vals, use1, use2, via, vptr, w32, walk-meets, walkOf, walked, ℕ, ! }
+use Rattle.ref_laws.proofs.Kit.{[], _$_, _∵_, _∷_, _⊛_, ‵}
 use denote.Struct.Laws as LL
-use Rattle.walks.proofs.Here.{lends-shr-here, shr-comes-here}
-use Rattle.walks.proofs.Left.{asks, goes-left, stay-left}
+use Rattle.ref_laws.proofs.Here.{lends-shr-here, shr-comes-here}
+use Rattle.ref_laws.proofs.Left.{asks, goes-left, stay-left}
 use Rattle.config.specs.declared.Profile.{Profile}
 use Rattle.config.proofs.Profile as T0
 use Rattle.config.proofs.Profile.Laws as T0′

@@ -1,24 +1,24 @@
 -- `replay::held::turn` meets its contract: a walk of its MIR, printed by tools/walk.py replay held::turn
-use Rattle.walks.proofs.Kit.{AllGo, Atoms, Body, Calls, Contract, FmC, Fun, GName, Given, Heap, Is, Lasts, Lft, List, Loops, Meets, Memory, MutRef, MutSlice, RefT, Routine, SProp, Share, ShrRef, Stays, Tables, Triple, URA, Val, Walks, WpFn, WpFn-mono, addr, agg}
-use Rattle.walks.proofs.Kit.{alloc0, alloc1, and-then, ap, assigns, atExit, await, calls-at, cellAt, cited, done, drop, emp, ends-at, ensured, ent, enter, entered, erased, fat, fjoin, fld, flent, flft, fmOf, forget, frame, free0, free1, from, fsplit, fst∗}
-use Rattle.walks.proofs.Kit.{ftrue, fullShare, givenOf, hop, id⊢, init, join, keep, land, lasts, later, lft-end, lft-new, load, look, look-in, mem, move, mut-slice-lawful, mut-slice-tells, mutSlice, named, no-more, nothing, of-opd, onEntry, only, owned, owns}
-use Rattle.walks.proofs.Kit.{params1, partAt, pass0, pass1, peeks, pick, plain, qed, raw, refl, returns, rewrite, shows, slice-vals, some, split, stop, sub, subst, suffices, tables, tablesOf, tripleOf, tyInt, u8, uint-lawful, uint-tells, use1, use2, use3, via}
-use Rattle.walks.proofs.Kit.{vptr, w8, walk-meets, walkOf, walked, whole, ℕ, !, [], _$_, _∵_, _∷_, _⊛_, ‵}
+use Rattle.ref_laws.proofs.Kit.{AllGo, Atoms, Body, Calls, Contract, FmC, Fun, GName, Given, Heap, Is, Lasts, Lft, List, Loops, Meets, Memory, MutRef, MutSlice, RefT, Routine, SProp, Share, ShrRef, Stays, Tables, Triple, URA, Val, Walks, WpFn, WpFn-mono, addr, agg}
+use Rattle.ref_laws.proofs.Kit.{alloc0, alloc1, and-then, ap, assigns, atExit, await, calls-at, cellAt, cited, done, drop, emp, ends-at, ensured, ent, enter, entered, erased, fat, fjoin, fld, flent, flft, fmOf, forget, frame, free0, free1, from, fsplit, fst∗}
+use Rattle.ref_laws.proofs.Kit.{ftrue, fullShare, givenOf, hop, id⊢, init, join, keep, land, lasts, later, lft-end, lft-new, load, look, look-in, mem, move, mut-slice-lawful, mut-slice-tells, mutSlice, named, no-more, nothing, of-opd, onEntry, only, owned, owns}
+use Rattle.ref_laws.proofs.Kit.{params1, partAt, pass0, pass1, peeks, pick, plain, qed, raw, refl, returns, rewrite, shows, slice-vals, some, split, stop, sub, subst, suffices, tables, tablesOf, tripleOf, tyInt, u8, uint-lawful, uint-tells, use1, use2, use3, via}
+use Rattle.ref_laws.proofs.Kit.{vptr, w8, walk-meets, walkOf, walked, whole, ℕ, !, [], _$_, _∵_, _∷_, _⊛_, ‵}
 use denote.Struct.Laws as LL
-use Rattle.walks.proofs.Here.{comes-here, lends-here, lends-shr-here, shr-comes-here}
-use Rattle.walks.proofs.Left.{asks, goes-left, stay-left}
+use Rattle.ref_laws.proofs.Here.{comes-here, lends-here, lends-shr-here, shr-comes-here}
+use Rattle.ref_laws.proofs.Left.{asks, goes-left, stay-left}
 use Rattle.config.specs.declared.Profile.{Profile}
 use Rattle.config.proofs.Profile as T0
 use Rattle.config.proofs.Profile.Laws as T0′
 use Rattle.record.specs.declared.Sender.{Sender}
 use Rattle.record.proofs.Sender as T1
 use Rattle.record.proofs.Sender.Laws as T1′
-use Rattle.answers.specs.declared.Heard.{Heard}
-use Rattle.answers.proofs.Heard as T2
-use Rattle.answers.proofs.Heard.Laws as T2′
-use Rattle.answers.specs.declared.Turn.{Turn}
-use Rattle.answers.proofs.Turn as T3
-use Rattle.answers.proofs.Turn.Laws as T3′
+use Rattle.replies.specs.declared.Heard.{Heard}
+use Rattle.replies.proofs.Heard as T2
+use Rattle.replies.proofs.Heard.Laws as T2′
+use Rattle.replies.specs.declared.Turn.{Turn}
+use Rattle.replies.proofs.Turn as T3
+use Rattle.replies.proofs.Turn.Laws as T3′
 use Rattle.numbered.proofs.Left as T4
 use Rattle.numbered.proofs.Left.Laws as T4′
 use Rattle.station.proofs.vanitycrow_turn as g0

@@ -1,3 +1,0 @@
-pub mod V42
-pub mod Crc
-pub mod Table

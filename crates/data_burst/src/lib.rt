@@ -1,0 +1,3 @@
+// A burst of data, once accepted.
+pub mod burst;
+pub mod sending;

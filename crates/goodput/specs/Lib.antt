@@ -1,3 +1,0 @@
-pub mod Setters
-pub mod Goodput
-pub mod Levels

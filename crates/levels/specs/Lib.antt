@@ -1,0 +1,4 @@
+pub mod Usable
+pub mod Memory
+pub mod Rates
+pub mod RatesCode

@@ -1,9 +1,0 @@
-use borrow.Author.Needs.{needs}
-use Rattle.limits.proofs.in_order.Statement.{statement}
-use Rattle.limits.proofs.in_order.Tie as tie
-
-returns : tie.Need-returns
-returns c = search needs
-
-pub in-order-spec : {M : Type 1} → statement M
-in-order-spec = tie.close (tie.spec returns)

@@ -1,1 +1,0 @@
-// Laws about the definitions of float, whole, order and exp that no function's proof needs: ranges, growth, order. The crate has no code.

@@ -1,0 +1,5 @@
+// What an accepted reply leaves.
+pub mod accepted;
+pub mod acks;
+pub mod awaited;
+pub mod turns;

@@ -1,0 +1,160 @@
+#!/bin/sh
+# The tools do what they say, over small repositories made here.
+#
+# tools/check-contracts notices what it is there for: in copies of the sources, a removed ensures (of a function, a method, an exported function with its signature over
+# several lines) and an added requires are each reported; a requires where one may stand, and a `pub(crate)` function without ensures, are not.
+set -eu
+cd "$(dirname "$0")/.."
+work=$(mktemp -d)
+trap 'rm -rf "$work"' EXIT
+tried=0
+
+# tries WANTED CRATE SOURCE: SOURCE as crate CRATE; WANTED is the row, or "none"
+tries() {
+    rm -rf "$work/copy"
+    mkdir -p "$work/copy/crates/$2/src" "$work/copy/crates/station/src"
+    printf '%s:\nstation:\n' "$2" | sort -u >"$work/copy/crates.txt"
+    printf 'pub extern "C" fn vanitycrow_none() -> u8\n    ensures { λ r. ⌜ r ≡ 0 ⌝ }\n{\n    0\n}\n' >"$work/copy/crates/station/src/lib.rt"
+    printf '%b' "$3" >"$work/copy/crates/$2/src/lib.rt"
+    status=0
+    tools/check-contracts "$work/copy" >"$work/rows" || status=$?
+    if [ "$1" = none ]; then
+        [ $status -eq 0 ] || { cat "$work/rows"; echo "reported, and should not be: $3"; exit 1; }
+    else
+        [ $status -eq 1 ] && grep -q "$1" "$work/rows" || { cat "$work/rows"; echo "not reported: $3"; exit 1; }
+    fi
+    tried=$((tried + 1))
+}
+
+tries none level 'pub fn a(x: [f32; 17]) -> [f32; 17]\n    ensures { λ r. ⌜ r ≡ x ⌝ }\n{\n    x\n}\n'
+tries 'lib.rt:1 a: no ensures' level 'pub fn a(x: [f32; 17]) -> [f32; 17]\n{\n    x\n}\n'
+tries none level 'pub(crate) fn a() -> u8 {\n    0\n}\nfn b() {}\n'
+tries none level '// pub fn gone() {}\nconst A: u8 = 0;\n'
+tries 'lib.rt:4 Gear::a: no ensures' level 'impl Gear {\n    // ensures { }\n    // a comment\n    pub fn a(mut self) -> Gear {\n        self\n    }\n}\n'
+tries 'lib.rt:2 vanitycrow_a: no ensures' station '#[no_mangle]\npub extern "C" fn vanitycrow_a(\n    p: &Profile,\n    s: &mut Sender,\n) -> u8\n{\n    0\n}\n'
+tries 'lib.rt:1 a: an entry point with a requires' station 'pub fn a(x: u8) -> u8\n    requires { ⌜ x < 2 ⌝ }\n    ensures { λ r. ⌜ r ≡ x ⌝ }\n{\n    x\n}\n'
+tries none level 'pub fn a(x: u8) -> u8\n    requires { ⌜ x < 2 ⌝ }\n    ensures { λ r. ⌜ r ≡ x ⌝ }\n{\n    x\n}\n'
+
+# Of the sources as they stand: each public function of the calls, with its ensures taken out
+for source in crates/sender/src/lib.rt crates/station/src/lib.rt; do
+    crate=$(echo "$source" | cut -d / -f 2)
+    rm -rf "$work/copy"
+    mkdir -p "$work/copy/crates/$crate/src"
+    echo "$crate:" >"$work/copy/crates.txt"
+    cp "$source" "$work/copy/crates/$crate/src/lib.rt"
+    tools/check-contracts "$work/copy" >/dev/null
+    for line in $(grep -n '^    ensures' "$source" | cut -d : -f 1); do
+        sed "${line}d" "$source" >"$work/copy/crates/$crate/src/lib.rt"
+        if head -n "$line" "$source" | grep -E '^(pub )?(extern "C" )?fn |^pub extern' | tail -n 1 | grep -q '^pub'; then
+            if tools/check-contracts "$work/copy" >"$work/rows"; then
+                echo "$source: line $line removed, and not reported"
+                exit 1
+            fi
+            grep -q 'no ensures' "$work/rows"
+            tried=$((tried + 1))
+        fi
+    done
+done
+
+# tools/believed follows citations: an alias, a name of the own crate, a module's parameters, a constructor on the left, a struct's fields; and is not taken in by a variable
+# that has a definition's name, a field, or a comment.
+small=$work/small
+mkdir -p "$small/tools"
+cp tools/believed tools/sources.py "$small/tools/"
+for crate in base sender station demand frame; do
+    mkdir -p "$small/crates/$crate/src" "$small/crates/$crate/specs" "$small/crates/$crate/proofs/crc"
+    echo "$crate:" >>"$small/crates.txt"
+    echo "pub mod Lib" >"$small/crates/$crate/specs/Lib.antt"
+    echo "// Nothing." >"$small/crates/$crate/src/lib.rt"
+done
+cat >"$small/crates/base/src/lib.rt" <<'END'
+pub mod parts;
+use parts::Part;
+
+pub struct Whole {
+    pub part: Part,
+}
+END
+printf 'pub struct Part {\n    pub n: u8,\n}\n\npub struct Unused {\n    pub n: u8,\n}\n' >"$small/crates/base/src/parts.rt"
+cat >"$small/crates/base/specs/Base.antt" <<'END'
+-- Definitions only.
+use Prim.Native.Nat.{ℕ}
+use Rattle.base.specs.declared.Whole.{Whole}
+
+pub data Kind : Type 0 where
+  one : Kind
+  other : Kind
+
+abbrev pub cited : ℕ → ℕ
+cited n = 0
+
+abbrev pub hidden : ℕ
+hidden = 1
+
+abbrev pub field : ℕ
+field = 2
+
+-- by its parameter alone
+abbrev pub Parameter : Type 0
+Parameter = ℕ
+
+module _ (x : Parameter) where
+  abbrev pub inside : Kind → ℕ
+  inside one = 0
+  inside other = 1
+END
+cat >"$small/crates/sender/specs/Calls.antt" <<'END'
+-- Definitions only.
+use Prim.Native.Nat.{ℕ}
+use Rattle.base.specs.Base as B
+use Rattle.base.specs.Base.{hidden, field, inside}
+use Rattle.base.specs.declared.Whole.{Whole}
+
+-- mentions Rattle and unused
+abbrev pub helper : ℕ → Whole → ℕ
+helper hidden w = B.cited (w .field)
+
+abbrev pub call :
+    ℕ → Whole → ℕ
+call n w =
+    let field = helper n w in
+    inside n field
+
+abbrev pub unused : ℕ
+unused = hidden
+END
+cat >"$small/crates/sender/src/lib.rt" <<'END'
+use base::Whole;
+ghost use mathlib.Core.Path.{_≡_};
+ghost use Rattle.sender.specs.Calls.{call, unused};
+
+pub fn calls(w: Whole) -> u8
+    ensures { λ r. ⌜ r ≡ call 0 w ⌝ }
+{
+    0
+}
+
+fn private() -> u8
+    ensures { λ r. ⌜ r ≡ unused ⌝ }
+{
+    1
+}
+END
+for file in Lists Claim; do
+    printf -- '-- Definitions only.\nabbrev pub of%s : Type 0\nof%s = Unit\n' $file $file >"$small/crates/demand/specs/$file.antt"
+done
+printf -- '-- Definitions only.\nabbrev pub fcs : Type 0\nfcs = Unit\n' >"$small/crates/frame/specs/V42.antt"
+printf 'pub demand3 : Unit\ndemand3 = tt\n' >"$small/crates/demand/proofs/Theorem.antt"
+printf 'pub v42 : Unit\nv42 = tt\n' >"$small/crates/frame/proofs/crc/Rule.antt"
+"$small/tools/believed" --names >"$work/believed"
+"$small/tools/believed" --rest >"$work/rest"
+for name in Kind cited Parameter inside helper call ofLists ofClaim fcs Whole Part; do
+    grep -q "^ *$name (line" "$work/believed" || { cat "$work/believed"; echo "believed: not reached: $name"; exit 1; }
+    tried=$((tried + 1))
+done
+for name in hidden field unused; do
+    grep -q "^ *$name (line" "$work/rest" || { cat "$work/rest"; echo "believed: reached, and should not be: $name"; exit 1; }
+    tried=$((tried + 1))
+done
+! grep -q Unused "$work/believed"
+echo "$tried cases"
