@@ -1,4 +1,4 @@
--- Offsets that are looked for by marks, and pieces that leave the table and the stream in one pass. Definitions only.
+-- Offsets that are looked for by hashes, and pieces that leave the table and the stream in one pass. Definitions only.
 use mathlib.Core.List.{List, [], _∷_, _++_}
 use mathlib.Core.Path.{_≡_}
 use mathlib.Core.Bool.{cond}
@@ -10,25 +10,25 @@ use Rattle.area.specs.Table.{rowsFrom, withRows, total}
 use Rattle.area.specs.declared.table.Row.{Row}
 use Rattle.area.specs.declared.removal.Kept.{Kept}
 
--- ---- marks
+-- ---- hashes
 
--- marks of a list of offsets
-abbrev pub markCount : ℕ
-markCount = 2048
+-- hashes of a list of offsets
+abbrev pub hashCount : ℕ
+hashCount = 2048
 
--- an offset's mark: a multiplicative hash, 2654435761 being 2^32 over the golden ratio
-unfoldable pub markPlace : ℕ → ℕ
-markPlace o = o * 2654435761 / 2097152 % markCount
+-- an offset's hash: a multiplicative hash, 2654435761 being 2^32 over the golden ratio
+unfoldable pub hashPlace : ℕ → ℕ
+hashPlace o = o * 2654435761 / 2097152 % hashCount
 
--- each listed offset's mark set to 1, one after the other
-unfoldable pub markAll : List ℕ → List ℕ → List ℕ
-markAll marks [] = marks
-markAll marks (x ∷ xs) = markAll (set marks (markPlace x) 1) xs
+-- each listed offset's hash set to 1, one after the other
+unfoldable pub hashAll : List ℕ → List ℕ → List ℕ
+hashAll hashes [] = hashes
+hashAll hashes (x ∷ xs) = hashAll (set hashes (hashPlace x) 1) xs
 
--- every listed offset has its mark: so it is after `markAll`, whatever other marks there are (proofs/removal/Laws.antt)
-pub record Marked (marks xs : List ℕ) : Type 0 where
-  pub size : length marks ≡ markCount
-  pub set : (j : ℕ) → j < length xs → getD marks (markPlace (getD xs j 0)) 0 ≡ 1
+-- every listed offset has its hash: so it is after `hashAll`, whatever other hashes there are (proofs/removal/Laws.antt)
+pub record Hashed (hashes xs : List ℕ) : Type 0 where
+  pub size : length hashes ≡ hashCount
+  pub set : (j : ℕ) → j < length xs → getD hashes (hashPlace (getD xs j 0)) 0 ≡ 1
 
 -- ---- `inflight.remove(&off)` of `settle_burst` (sender.rs), for every listed offset
 

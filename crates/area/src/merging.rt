@@ -1,5 +1,5 @@
 // Neighbouring pieces joined in place.
-use crate::removal::contains_marked;
+use crate::removal::contains_hashed;
 use crate::table::Row;
 use crate::table::load_row;
 use crate::table::store_row;
@@ -7,13 +7,13 @@ ghost use mathlib.Core.Path.{_≡_};
 ghost use Prim.Native.Nat.{_≤_};
 ghost use lib.ListN.{length};
 ghost use Rattle.area.specs.Layout.{areaBytes};
-ghost use Rattle.area.specs.Removal.{Marked};
+ghost use Rattle.area.specs.Removal.{Hashed};
 ghost use Rattle.area.specs.Recut.{joinsRow, mergeTable};
 ghost use Rattle.limits.specs.Limits.{maxPieces};
 
 // Whether q is joined to p.
-fn joins(p: Row, q: Row, max: u32, marks: &[u8], held: &[u32]) -> bool
-    requires { ⌜ Marked (now marks) (now held) ⌝ }
+fn joins(p: Row, q: Row, max: u32, hashes: &[u8], held: &[u32]) -> bool
+    requires { ⌜ Hashed (now hashes) (now held) ⌝ }
     ensures { λ r. ⌜ r ≡ joinsRow (now (held .entry)) max p q ⌝ }
 {
     let po = p.off;
@@ -24,15 +24,15 @@ fn joins(p: Row, q: Row, max: u32, marks: &[u8], held: &[u32]) -> bool
     if (max as u64) < p.len as u64 + q.len as u64 {
         return false;
     }
-    if contains_marked(marks, held, po) {
+    if contains_hashed(hashes, held, po) {
         return false;
     }
-    !contains_marked(marks, held, qo)
+    !contains_hashed(hashes, held, qo)
 }
 
 // Joins neighbours, and returns how many rows there are then.
-pub fn merge_table(a: &mut [u8], n: usize, max: u32, marks: &[u8], held: &[u32]) -> usize
-    requires { ⌜ (n ≤ maxPieces) × (areaBytes ≤ length (now a)) × Marked (now marks) (now held) ⌝ }
+pub fn merge_table(a: &mut [u8], n: usize, max: u32, hashes: &[u8], held: &[u32]) -> usize
+    requires { ⌜ (n ≤ maxPieces) × (areaBytes ≤ length (now a)) × Hashed (now hashes) (now held) ⌝ }
     ensures { λ r. ⌜ (r, now (a .exit)) ≡ mergeTable (now (held .entry)) max n (now (a .entry)) ⌝ }
 {
     if n == 0 {
@@ -45,7 +45,7 @@ pub fn merge_table(a: &mut [u8], n: usize, max: u32, marks: &[u8], held: &[u32])
     let mut i = 1;
     while i < n {
         let q = load_row(a, i);
-        if joins(Row { off, len }, q, max, marks, held) {
+        if joins(Row { off, len }, q, max, hashes, held) {
             len = len + q.len;
             i += 1;
         } else {

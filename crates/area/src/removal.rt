@@ -1,4 +1,4 @@
-// Offsets looked for by marks, and pieces that leave the work area in one pass.
+// Offsets looked for by their hashes, and pieces that leave the work area in one pass.
 use crate::table::Row;
 use crate::table::load_row;
 use crate::table::store_row;
@@ -11,27 +11,27 @@ ghost use Rattle.laws.specs.Bytes.{overwrite, part};
 ghost use Rattle.laws.specs.Lists.{listed};
 ghost use Rattle.area.specs.Layout.{place, areaBytes, streamBytes};
 ghost use Rattle.area.specs.Table.{rowAt, rowsFrom, tableBytes, total};
-ghost use Rattle.area.specs.Removal.{markCount, markPlace, markAll, Marked, removedPieces};
+ghost use Rattle.area.specs.Removal.{hashCount, hashPlace, hashAll, Hashed, removedPieces};
 ghost use Rattle.limits.specs.Limits.{maxPieces};
 
-// Marks of a list of offsets.
-const MARKS: u64 = 2048;
+// How many hashes of offsets there are.
+pub const HASHES: usize = 2048;
 
-fn mark_place(off: u32) -> usize
-    ensures { λ r. ⌜ (r ≡ markPlace off) × (r < markCount) ⌝ }
+fn hash_place(off: u32) -> usize
+    ensures { λ r. ⌜ (r ≡ hashPlace off) × (r < hashCount) ⌝ }
 {
-    (off as u64 * 2654435761 / 2097152 % MARKS) as usize
+    (off as u64 * 2654435761 / 2097152 % HASHES as u64) as usize
 }
 
-// Marks each offset of `offs`.
-pub fn mark(marks: &mut [u8], offs: &[u32])
-    requires { ⌜ length (now marks) ≡ markCount ⌝ }
-    ensures { λ _. ⌜ now (marks .exit) ≡ markAll (now (marks .entry)) (now (offs .entry)) ⌝ }
+// Sets the hash of each offset of `offs`.
+pub fn hash(hashes: &mut [u8], offs: &[u32])
+    requires { ⌜ length (now hashes) ≡ hashCount ⌝ }
+    ensures { λ _. ⌜ now (hashes .exit) ≡ hashAll (now (hashes .entry)) (now (offs .entry)) ⌝ }
 {
     let mut i = 0;
     while i < offs.len() {
-        let k = mark_place(offs[i]);
-        marks[k] = 1;
+        let k = hash_place(offs[i]);
+        hashes[k] = 1;
         i += 1;
     }
 }
@@ -49,21 +49,21 @@ pub fn contains(offs: &[u32], off: u32) -> bool
     found
 }
 
-// The same, where most offsets that are not there have no mark.
-pub fn contains_marked(marks: &[u8], offs: &[u32], off: u32) -> bool
-    requires { ⌜ Marked (now marks) (now offs) ⌝ }
+// The same, where most offsets that are not there have none.
+pub fn contains_hashed(hashes: &[u8], offs: &[u32], off: u32) -> bool
+    requires { ⌜ Hashed (now hashes) (now offs) ⌝ }
     ensures { λ r. ⌜ r ≡ listed off (now (offs .entry)) ⌝ }
 {
-    let k = mark_place(off);
-    if marks[k] == 0 {
+    let k = hash_place(off);
+    if hashes[k] == 0 {
         return false;
     }
     contains(offs, off)
 }
 
 // The same; it looks at place g first.
-fn contains_near(marks: &[u8], offs: &[u32], g: usize, off: u32) -> bool
-    requires { ⌜ Marked (now marks) (now offs) ⌝ }
+fn contains_near(hashes: &[u8], offs: &[u32], g: usize, off: u32) -> bool
+    requires { ⌜ Hashed (now hashes) (now offs) ⌝ }
     ensures { λ r. ⌜ r ≡ listed off (now (offs .entry)) ⌝ }
 {
     if g < offs.len() {
@@ -71,7 +71,7 @@ fn contains_near(marks: &[u8], offs: &[u32], g: usize, off: u32) -> bool
             return true;
         }
     }
-    contains_marked(marks, offs, off)
+    contains_hashed(hashes, offs, off)
 }
 
 // Moves piece i down: its row r to row w, and its bytes from `from` to `to`. Where none before it was taken out, it lies there already.
@@ -94,8 +94,8 @@ pub struct Kept {
 }
 
 // Takes out each of n pieces whose offset is listed, mostly in the rows' order; the first `used` bytes of the stream are in use.
-pub fn remove_pieces(a: &mut [u8], n: usize, used: usize, marks: &[u8], gone: &[u32]) -> Kept
-    requires { ⌜ (n ≤ maxPieces) × (areaBytes ≤ length (now a)) × (used ≤ streamBytes) × (total (rowsFrom (now a) 0 n) ≤ used) × Marked (now marks) (now gone) ⌝ }
+pub fn remove_pieces(a: &mut [u8], n: usize, used: usize, hashes: &[u8], gone: &[u32]) -> Kept
+    requires { ⌜ (n ≤ maxPieces) × (areaBytes ≤ length (now a)) × (used ≤ streamBytes) × (total (rowsFrom (now a) 0 n) ≤ used) × Hashed (now hashes) (now gone) ⌝ }
     ensures { λ r. ⌜ (r, now (a .exit)) ≡ removedPieces (now (gone .entry)) n used (now (a .entry)) ⌝ }
 {
     let mut from: usize = 0;
@@ -106,7 +106,7 @@ pub fn remove_pieces(a: &mut [u8], n: usize, used: usize, marks: &[u8], gone: &[
         let r = load_row(a, i);
         let off = r.off;
         let len = r.len as usize;
-        if contains_near(marks, gone, i - w, off) {
+        if contains_near(hashes, gone, i - w, off) {
             from = from + len;
             i += 1;
         } else {

@@ -1,6 +1,7 @@
 // The sound record's test of offsets: distinct, each that of a row.
-use area::removal::contains_marked;
-use area::removal::mark;
+use area::removal::HASHES;
+use area::removal::contains_hashed;
+use area::removal::hash;
 use area::table::load_row;
 ghost use mathlib.Core.Path.{_≡_};
 ghost use mathlib.Core.Bool.{true};
@@ -48,7 +49,7 @@ fn flies_near(a: &[u8], n: usize, behind: usize, off: u32, long: u32, next: u32)
     is_flying(a, n, off, long, next)
 }
 
-// Whether xs are distinct, each the offset of a row. From the end, so that those behind are marked; mostly in the rows' order.
+// Whether xs are distinct, each the offset of a row. From the end, so that those behind are hashed; mostly in the rows' order.
 pub fn all_flying(a: &[u8], n: usize, xs: &[u32], long: u32, next: u32) -> bool
     requires { ⌜ (n ≤ maxPieces) × (areaBytes ≤ length (now a)) × (ascends long next 0 (rowsFrom (now a) 0 n) ≡ true) ⌝ }
     ensures { λ r. ⌜ r ≡ allFlying (now (xs .entry)) (rowOffs (rowsFrom (now (a .entry)) 0 n)) ⌝ }
@@ -56,17 +57,17 @@ pub fn all_flying(a: &[u8], n: usize, xs: &[u32], long: u32, next: u32) -> bool
     if xs.len() == 0 {
         return true;
     }
-    let mut marks = [0u8; 2048];
+    let mut hashes = [0u8; HASHES];
     let mut i = xs.len();
     while 0 < i {
         let x = xs[i - 1];
         if !flies_near(a, n, xs.len() - i, x, long, next) {
             return false;
         }
-        if contains_marked(&marks, &xs[i..], x) {
+        if contains_hashed(&hashes, &xs[i..], x) {
             return false;
         }
-        mark(&mut marks, &xs[i - 1..i]);
+        hash(&mut hashes, &xs[i - 1..i]);
         i = i - 1;
     }
     true

@@ -1,6 +1,7 @@
 // The sound record's test that two lists of offsets share none.
-use area::removal::contains_marked;
-use area::removal::mark;
+use area::removal::HASHES;
+use area::removal::contains_hashed;
+use area::removal::hash;
 ghost use mathlib.Core.Path.{_≡_};
 ghost use Rattle.area_check.specs.Rows.{noneListed};
 
@@ -11,12 +12,12 @@ pub fn none_listed(xs: &[u32], ys: &[u32]) -> bool
     if ys.len() == 0 {
         return true;
     }
-    let mut marks = [0u8; 2048];
-    mark(&mut marks, ys);
+    let mut hashes = [0u8; HASHES];
+    hash(&mut hashes, ys);
     let mut i = 0;
     while i < xs.len() {
         let x = xs[i];
-        if contains_marked(&marks, ys, x) {
+        if contains_hashed(&hashes, ys, x) {
             return false;
         }
         i += 1;

@@ -1,6 +1,7 @@
 // What bench/area.c measures of the work area, as functions for C: a slice is a pointer and a length.
 use area::merging::merge_table;
-use area::removal::mark;
+use area::removal::HASHES;
+use area::removal::hash;
 use area::removal::remove_pieces;
 use area_check::flying::all_flying;
 use area_check::rows::held_bits_ok;
@@ -15,8 +16,6 @@ ghost use Rattle.area.specs.Removal.{removedPieces};
 ghost use Rattle.area.specs.Recut.{mergeTable};
 ghost use Rattle.bench_area.specs.Checked.{checked};
 ghost use Rattle.limits.specs.Limits.{maxPieces, longestPayload};
-
-const MARKS: usize = 2048;
 
 // The sound record's tests of the table and of the lists.
 #[no_mangle]
@@ -49,25 +48,25 @@ pub extern "C" fn vanitycrow_sound(
     held_bits_ok(held_bits, top) & sent_bits_ok(bits, sent_held)
 }
 
-// Marks the held pieces and joins the others, and returns how many rows there are then.
+// Hashes the held pieces and joins the others, and returns how many rows there are then.
 #[no_mangle]
 pub extern "C" fn vanitycrow_merge(a: &mut [u8], n: usize, max: u32, held: &[u32]) -> usize
     requires { ⌜ (n ≤ maxPieces) × (areaBytes ≤ length (now a)) ⌝ }
     ensures { λ r. ⌜ (r, now (a .exit)) ≡ mergeTable (now (held .entry)) max n (now (a .entry)) ⌝ }
 {
-    let mut marks = [0; MARKS];
-    mark(&mut marks, held);
-    merge_table(a, n, max, &marks, held)
+    let mut hashes = [0; HASHES];
+    hash(&mut hashes, held);
+    merge_table(a, n, max, &hashes, held)
 }
 
-// Marks the settled pieces and takes them out, and returns how many rows stay.
+// Hashes the settled pieces and takes them out, and returns how many rows stay.
 #[no_mangle]
 pub extern "C" fn vanitycrow_remove(a: &mut [u8], n: usize, used: usize, gone: &[u32]) -> usize
     requires { ⌜ (n ≤ maxPieces) × (areaBytes ≤ length (now a)) × (used ≤ streamBytes) × (total (rowsFrom (now a) 0 n) ≤ used) ⌝ }
     ensures { λ r. ⌜ (r ≡ removedPieces (now (gone .entry)) n used (now (a .entry)) .0 .rows) × (now (a .exit) ≡ removedPieces (now (gone .entry)) n used (now (a .entry)) .1) ⌝ }
 {
-    let mut marks = [0; MARKS];
-    mark(&mut marks, gone);
-    let k = remove_pieces(a, n, used, &marks, gone);
+    let mut hashes = [0; HASHES];
+    hash(&mut hashes, gone);
+    let k = remove_pieces(a, n, used, &hashes, gone);
     k.rows
 }

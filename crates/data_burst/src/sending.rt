@@ -1,6 +1,7 @@
 // data_burst of sender.rs: what it leaves of the record's lists, the work area and the output.
 use area::merging::merge_table;
-use area::removal::mark;
+use area::removal::HASHES;
+use area::removal::hash;
 use area::splitting::split_table;
 use frames::put_frames;
 use frames::slots::Added;
@@ -24,7 +25,7 @@ ghost use lib.ListN.{length, take};
 ghost use Rattle.frame.specs.Table.{tableOf};
 ghost use Rattle.area.specs.Layout.{areaBytes, streamBytes};
 ghost use Rattle.area.specs.Table.{rowAt, rowsFrom};
-ghost use Rattle.area.specs.Removal.{Marked};
+ghost use Rattle.area.specs.Removal.{Hashed};
 ghost use Rattle.area.specs.Recut.{splitRows};
 ghost use Rattle.data_burst.specs.Rows.{keptHeld, cutTable, slotsIn, Pickable, picked, nextOf, Ready, burstRows};
 ghost use Rattle.limits.specs.Limits.{maxPieces, maxTaken};
@@ -58,17 +59,17 @@ fn cut(
     long: bool,
     merging: bool,
     payload: u32,
-    marks: &[u8],
+    hashes: &[u8],
     held: &[u32],
 ) -> usize
-    requires { ⌜ (n ≤ maxPieces) × (areaBytes ≤ length (now a)) × (1 ≤ payload) × (long ≡ false → length (splitRows payload (rowsFrom (now a) 0 n)) ≤ maxPieces) × ((i : ℕ) → i < n → rowAt (now a) i .off + rowAt (now a) i .len ≤ maxTaken) × Marked (now marks) (now held) ⌝ }
+    requires { ⌜ (n ≤ maxPieces) × (areaBytes ≤ length (now a)) × (1 ≤ payload) × (long ≡ false → length (splitRows payload (rowsFrom (now a) 0 n)) ≤ maxPieces) × ((i : ℕ) → i < n → rowAt (now a) i .off + rowAt (now a) i .len ≤ maxTaken) × Hashed (now hashes) (now held) ⌝ }
     ensures { λ r. ⌜ (r, now (a .exit)) ≡ cutTable long merging payload (now (held .entry)) n (now (a .entry)) ⌝ }
 {
     if !long {
         return split_table(a, n, payload);
     }
     if merging {
-        return merge_table(a, n, payload, marks, held);
+        return merge_table(a, n, payload, hashes, held);
     }
     n
 }
@@ -100,9 +101,9 @@ fn pick(
     pl: Planned,
     a: &mut [u8],
     n: usize,
-    marks: &[u8],
+    hashes: &[u8],
 ) -> Added
-    requires { ⌜ Pickable q slot payload s h pl n (now a) × Marked (now marks) (take (h .n) (h .off)) ⌝ }
+    requires { ⌜ Pickable q slot payload s h pl n (now a) × Hashed (now hashes) (take (h .n) (h .off)) ⌝ }
     ensures { λ r. ⌜ (r, now (a .exit)) ≡ picked q slot payload s h pl n (now (a .entry)) ⌝ }
 {
     let c = s.counts;
@@ -114,7 +115,7 @@ fn pick(
     let room = pl.room;
     let none = no_slots(b);
     let s1 = increments(q, slot, a, n, &off[..k], &bits[..k], none);
-    let s2 = old_pieces(a, n, marks, &off[..held], room, slot, s1);
+    let s2 = old_pieces(a, n, hashes, &off[..held], room, slot, s1);
     let left = room - (s2.n - s1.n);
     new_pieces(
         a,
@@ -187,10 +188,10 @@ pub fn go(
     let h = keep(h0, pl.parity);
     let off = h.off;
     let n = h.n;
-    let mut marks = [0u8; 2048];
-    mark(&mut marks, &off[..n]);
-    let rows = cut(a, pieces, c.long, merging, payload, &marks, &off[..n]);
-    let p = pick(q, c.slot, payload, s, h, pl, a, rows, &marks);
+    let mut hashes = [0u8; HASHES];
+    hash(&mut hashes, &off[..n]);
+    let rows = cut(a, pieces, c.long, merging, payload, &hashes, &off[..n]);
+    let p = pick(q, c.slot, payload, s, h, pl, a, rows, &hashes);
     let slots = p.slots;
     put_frames(t, out, a, slots, size);
     let next = after(s, h, p, number);

@@ -9,7 +9,6 @@ use native.Mathlib.Omega.{arith}
 use lib.Dec.{leb, eqb}
 use lib.ListN.{length, getD, replicate, length-replicate}
 use borrow.Author.Tests.{leb-true, leb-false}
-use Rattle.laws.proofs.Little.{Bytes}
 use Rattle.laws.proofs.Picks.{test, and-yes, and-first, and-second}
 use Rattle.laws.proofs.Tests.{all-at}
 use Rattle.config.specs.declared.Profile.{Profile}
@@ -28,7 +27,7 @@ use Rattle.record.specs.Profiles.{sizesOf}
 use Rattle.record.proofs.View.{view-fresh}
 use Rattle.soundness.specs.Soundness.{soundOk}
 use Rattle.soundness.proofs.fields.Sound.{sound-test, profile-sizes}
-use Rattle.laws.specs.Bytes.{overwrite}
+use Rattle.laws.specs.Bytes.{overwrite, Bytes}
 use Rattle.config.specs.Durations.{frameBytes}
 use Rattle.pieces.specs.Burst.{framesSent}
 use Rattle.outgoing.specs.Outgoing.{burstOf, output}

@@ -1,6 +1,6 @@
 // The frames of a burst: which pieces go, and where their bytes lie (`slots` of `data_burst`, sender.rs).
 use area::lookup::find;
-use area::removal::contains_marked;
+use area::removal::contains_hashed;
 use area::table::Row;
 use area::table::load_row;
 use area::table::store_row;
@@ -12,7 +12,7 @@ ghost use lib.ListN.{length, take, getD};
 ghost use Rattle.harq.specs.Held.{incrementOf};
 ghost use Rattle.area.specs.Layout.{areaBytes, streamBytes};
 ghost use Rattle.area.specs.Table.{rowsFrom, total};
-ghost use Rattle.area.specs.Removal.{Marked};
+ghost use Rattle.area.specs.Removal.{Hashed};
 ghost use Rattle.frames.specs.Slots.{pushAll, incrementSlots, unheldSlots, addedPieces};
 ghost use Rattle.limits.specs.Limits.{maxPieces, maxSlots, maxHeld, maxTaken};
 
@@ -71,13 +71,13 @@ pub fn increments(
 pub fn old_pieces(
     a: &[u8],
     n: usize,
-    marks: &[u8],
+    hashes: &[u8],
     held: &[u32],
     room: usize,
     bits: u32,
     given: Slots,
 ) -> Slots
-    requires { ⌜ (n ≤ maxPieces) × (areaBytes ≤ length (now a)) × (total (rowsFrom (now a) 0 n) ≤ streamBytes) × (given .n + room ≤ maxSlots) × Marked (now marks) (now held) ⌝ }
+    requires { ⌜ (n ≤ maxPieces) × (areaBytes ≤ length (now a)) × (total (rowsFrom (now a) 0 n) ≤ streamBytes) × (given .n + room ≤ maxSlots) × Hashed (now hashes) (now held) ⌝ }
     ensures { λ r. ⌜ r ≡ pushAll given (take room (unheldSlots (now (held .entry)) bits 0 (rowsFrom (now (a .entry)) 0 n))) ⌝ }
 {
     let mut s = given;
@@ -87,7 +87,7 @@ pub fn old_pieces(
     while (i < n) & (0 < left) {
         let r = load_row(a, i);
         let len = r.len;
-        if contains_marked(marks, held, r.off) {
+        if contains_hashed(hashes, held, r.off) {
             start = start + len;
             i += 1;
         } else {

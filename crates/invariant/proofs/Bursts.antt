@@ -6,7 +6,7 @@ use mathlib.Core.Bool.{true}
 use Prim.Native.Nat.{ℕ, zero, suc, _≤_}
 use lib.Dec.{lit<}
 use lib.ListN.{length}
-use Rattle.laws.proofs.Little.{Bytes}
+use Rattle.laws.specs.Bytes.{Bytes}
 use Rattle.config.specs.declared.Profile.{Profile}
 use Rattle.config.specs.Ranged.{Ranged}
 use Rattle.config.specs.Ranges.{inOrder}

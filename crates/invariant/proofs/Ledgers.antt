@@ -7,10 +7,10 @@ use Prim.Native.Nat.{ℕ, zero, suc, _/_, _≤_}
 use native.Mathlib.Omega.{arith}
 use lib.Dec.{lit<, eqb}
 use lib.ListN.{length, drop}
-use Rattle.laws.specs.Bytes.{overwrite}
+use Rattle.laws.specs.Bytes.{overwrite, Bytes}
 use Rattle.laws.specs.Little.{le}
 use Rattle.laws.proofs.Bytes.{length-over}
-use Rattle.laws.proofs.Little.{Bytes, bytes-take, bytes-drop, bytes-part}
+use Rattle.laws.proofs.Little.{bytes-take, bytes-drop, bytes-part}
 use Rattle.laws.proofs.Picks.{either}
 use Rattle.ledger.specs.Reply.{Reply}
 use Rattle.ledger.specs.Ledger as L

@@ -13,7 +13,7 @@ use Rattle.ieee.specs.Range.{In, w32}
 use Rattle.ieee.proofs.Bounds.{in-wider}
 use Rattle.ieee.proofs.Value.{lt→le, lt-not-le, le-no-nan}
 use Rattle.float_laws.proofs.Reports.{snr-in, spread-in, slot-in}
-use Rattle.laws.proofs.Little.{Bytes}
+use Rattle.laws.specs.Bytes.{Bytes}
 use Rattle.laws.proofs.Picks.{either, test, and-first, and-second}
 use Rattle.level.proofs.Laws.{wave-lt}
 use Rattle.report.specs.Report.{spreadOf, reportAt}

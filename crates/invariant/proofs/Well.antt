@@ -11,7 +11,7 @@ use Rattle.ieee.specs.Range.{w32}
 use Rattle.laws.specs.Span.{from, upto, every}
 use Rattle.laws.proofs.Span.{every-all}
 use Rattle.laws.proofs.Bytes.{length-over}
-use Rattle.laws.proofs.Little.{Bytes}
+use Rattle.laws.specs.Bytes.{Bytes}
 use Rattle.config.specs.declared.Profile.{Profile}
 use Rattle.gear.specs.declared.goodput.Gear.{Gear}
 use Rattle.ledger.specs.Ledger as L

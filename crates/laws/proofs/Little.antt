@@ -8,7 +8,7 @@ use native.Mathlib.Omega.{arith}
 use lib.Dec.{lit<}
 use lib.ListN.{length, getD, set, take, drop, length-take}
 use lib.Seq.{getD-drop}
-use Rattle.laws.specs.Bytes.{overwrite, part}
+use Rattle.laws.specs.Bytes.{overwrite, part, Bytes}
 use Rattle.laws.specs.Little.{num, le, load}
 use Rattle.laws.proofs.Bytes.{part-cons, part-add, set-over, over-snoc, part-before, part-after, length-part}
 
@@ -45,10 +45,6 @@ module _ (a : List ℕ) (at : ℕ) (bs : List ℕ) where
   load-after p h = ap num (part-after a at bs p 4 h)
 
 -- ---- bytes
-
--- every element is a byte, as those of a slice are
-abbrev pub Bytes : List ℕ → Type 0
-Bytes l = (i : ℕ) → getD l i 0 < 256
 
 low : (b x : ℕ) → b < 256 → (b + 256 * x) % 256 ≡ b
 low b x h = omega arith

@@ -1,6 +1,7 @@
 // The examples of pieces cut and merged, over a work area of zeros with the pieces as its table's rows.
 use area::merging::merge_table;
-use area::removal::mark;
+use area::removal::HASHES;
+use area::removal::hash;
 use area::splitting::split_table;
 use area::table::Row;
 use area::table::load_row;
@@ -47,12 +48,12 @@ fn split_case(a: &mut [u8])
 fn merge_case(a: &mut [u8], held: &[u32])
     requires { ⌜ areaBytes ≤ length (now a) ⌝ }
 {
-    let mut marks = [0u8; 2048];
-    mark(&mut marks, held);
+    let mut hashes = [0u8; HASHES];
+    hash(&mut hashes, held);
     store_row(a, 0, Row { off: 0, len: 40 });
     store_row(a, 1, Row { off: 40, len: 40 });
     store_row(a, 2, Row { off: 80, len: 40 });
-    let n = merge_table(a, 3, 100, &marks, held);
+    let n = merge_table(a, 3, 100, &hashes, held);
     say_rows(a, n);
 }
 

@@ -6,9 +6,8 @@ use Prim.Native.Nat.{ℕ, zero, suc, _+_, _-_, _*_, _^_, _≤_, _<_}
 use native.Mathlib.Omega.{arith}
 use lib.ListN.{length, take, drop, length-take, length-drop, length-append, length-map, take-append-drop}
 use lib.Seq.{take-at, drop-at, take-add, take-length, take-append-seam, drop-append-seam, length-take-le, drop-append-add, take-append-le, drop-drop}
-use Rattle.laws.specs.Bytes.{overwrite, part}
+use Rattle.laws.specs.Bytes.{overwrite, part, Bytes}
 use Rattle.laws.proofs.Bytes.{length-over, over-part, part-add, take-over, part-inside, length-part}
-use Rattle.laws.proofs.Little.{Bytes}
 use Rattle.ledger.specs.Ledger as L
 use Rattle.ledger.specs.Ledger.{Piece, Held, Sent, size, bytesOf, heldOffs, sentOffs}
 use Rattle.ledger.proofs.Stream.{length-bytesOf}
@@ -20,6 +19,7 @@ use Rattle.pieces.specs.Pieces.{piecesOf}
 use Rattle.pieces.specs.Lists.{heldOf, sentOf}
 use Rattle.pieces.proofs.Lists.{held-offs, held-length, held-map, sent-offs, sent-length}
 use Rattle.pieces.proofs.Sound.{size-rows, length-pieces}
+use Rattle.record.specs.Setters.{withCounts, withAtPeer, withLastBurst, withWaiting, withFlying, withPieces}
 use Rattle.record.specs.declared.Counts.{Counts}
 use Rattle.record.specs.declared.AtPeer.{AtPeer}
 use Rattle.record.specs.declared.LastBurst.{LastBurst}
@@ -203,8 +203,8 @@ module _ (s : Sender) (a : List ℕ) (c : Counted s a) (by : Bytes a) where
       let e₁ : length (part a (s .counts .flying) (s .counts .waiting)) ≡ s .counts .waiting = length-part a (s .counts .flying) (s .counts .waiting) (omega (arith, c .stream, c .area)) in
       let e₂ : size (piecesOf rows a) ≡ s .counts .flying = size-rows rows a fits-area ∙ c .flying in
       let e₃ : length (piecesOf rows a) ≡ s .counts .pieces = length-pieces rows a ∙ length-rows a 0 (s .counts .pieces) in
-      ap₂ (λ (w f : ℕ). record { «next_offset» = s .counts .«next_offset»; waiting = w; flying = f; pieces = length (piecesOf rows a); «bytes_acked» = s .counts .«bytes_acked»; «airtime_ms» = s .counts .«airtime_ms» }) e₁ e₂
-      ∙ ap (λ (n : ℕ). record { «next_offset» = s .counts .«next_offset»; waiting = s .counts .waiting; flying = s .counts .flying; pieces = n; «bytes_acked» = s .counts .«bytes_acked»; «airtime_ms» = s .counts .«airtime_ms» }) e₃
+      ap₂ (λ (w f : ℕ). withPieces (withFlying (withWaiting (s .counts) w) f) (length (piecesOf rows a))) e₁ e₂
+      ∙ ap (withPieces (s .counts)) e₃
 
 -- a list in an array, written again
 again : (l xs : List ℕ) (n : ℕ) → xs ≡ take n l → overwrite l 0 xs ≡ l
@@ -264,9 +264,9 @@ module _ (s : Sender) (a : List ℕ) (c : Counted s a) (ar : Arrays s) where
   pub store-view : Bytes a → store (view s a) s ≡ s
   unfolding store storeLink view
   store-view by =
-      ap₂ (λ (x : Counts) (y : AtPeer). record { gear = s .gear; link = s .link; counts = x; «at_peer» = y; «last_burst» = storeSent (view s a) b })
+      ap₂ (λ (x : Counts) (y : AtPeer). withLastBurst (withAtPeer (withCounts s x) y) (storeSent (view s a) b))
       (counts-kept s a c by) held-kept
-      ∙ ap (λ (x : LastBurst). record { gear = s .gear; link = s .link; counts = s .counts; «at_peer» = h; «last_burst» = x }) sent-kept
+      ∙ ap (withLastBurst s) sent-kept
 
 -- a fresh record shows a fresh sender, whatever the work area has
 pub view-fresh : (a : List ℕ) → view fresh a ≡ L.freshLedger

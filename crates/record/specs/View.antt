@@ -12,7 +12,7 @@ use Rattle.pieces.specs.Pieces.{piecesOf}
 use Rattle.pieces.specs.Lists.{heldOf, sentOf}
 use Rattle.record.specs.declared.Link.{Link}
 use Rattle.record.specs.declared.Counts.{Counts}
-use Rattle.record.specs.Setters.{withAwaiting, withNumber}
+use Rattle.record.specs.Setters.{withAwaiting, withNumber, withLink, withCounts, withAtPeer, withLastBurst, withNext, withWaiting, withFlying, withPieces, withAcked}
 use Rattle.record.specs.declared.AtPeer.{AtPeer}
 use Rattle.record.specs.declared.LastBurst.{LastBurst}
 use Rattle.record.specs.declared.Sender.{Sender}
@@ -54,14 +54,7 @@ storeArea l a = overwrite (overwrite a 0 (bytesOf (l .pieces) ++ l .waiting)) (p
 
 unfoldable pub storeCounts : L.Sender → Counts → Counts
 storeCounts l c =
-    record {
-      «next_offset» = l .next;
-      waiting = length (l .waiting);
-      flying = size (l .pieces);
-      pieces = length (l .pieces);
-      «bytes_acked» = l .acked;
-      «airtime_ms» = c .«airtime_ms»;
-    }
+    withAcked (withPieces (withFlying (withWaiting (withNext c (l .next)) (length (l .waiting))) (size (l .pieces))) (length (l .pieces))) (l .acked)
 
 -- entries past the count stay as they are
 unfoldable pub storeHeld : L.Sender → AtPeer → AtPeer
@@ -88,10 +81,5 @@ storeLink l k = withNumber (withAwaiting k (l .awaited)) (l .number)
 -- the record, where the rest of it is as in s
 unfoldable pub store : L.Sender → Sender → Sender
 store l s =
-    record {
-      gear = s .gear;
-      link = storeLink l (s .link);
-      counts = storeCounts l (s .counts);
-      «at_peer» = storeHeld l (s .«at_peer»);
-      «last_burst» = storeSent l (s .«last_burst»);
-    }
+    let q = withCounts (withLink s (storeLink l (s .link))) (storeCounts l (s .counts)) in
+    withLastBurst (withAtPeer q (storeHeld l (s .«at_peer»))) (storeSent l (s .«last_burst»))

@@ -5,8 +5,7 @@ use mathlib.Core.List.{List}
 use mathlib.Core.Bool.{true, false}
 use Prim.Native.Nat.{ℕ, _+_}
 use lib.ListN.{length}
-use Rattle.laws.specs.Bytes.{overwrite}
-use Rattle.laws.proofs.Little.{Bytes}
+use Rattle.laws.specs.Bytes.{overwrite, Bytes}
 use Rattle.laws.proofs.Picks.{cond-yes, cond-no, by₂}
 use Rattle.config.specs.declared.Profile.{Profile}
 use Rattle.config.specs.Ranged.{Ranged}
@@ -29,7 +28,7 @@ use Rattle.verdicts.specs.Verdicts.{passed, standing, queueVerdict, receiveVerd
 use Rattle.receive.specs.Accepted.{acceptedReply}
 use Rattle.sender.specs.Calls.{queueOf, receiveOf, findOf, pieceOf}
 use Rattle.verdicts.proofs.Passed.{queue-passed, queue-room, receive-passed}
-use Rattle.sender.proofs.Queuing.{withWaiting, queue-area, queue-record}
+use Rattle.sender.proofs.Queuing.{queuedTo, queue-area, queue-record}
 
 abbrev answer : Verdict → Sender → List ℕ → Answer × List ℕ
 answer v q b = (record { verdict = v; next = q }, b)
@@ -44,12 +43,12 @@ module _ (p : Profile) (s : Sender) (a : List ℕ) where
   queue-refused bs v e t = cond-no _ _ _ _ t (ap (λ (u : Verdict). answer u s a) e)
 
   pub queue-accepted : Arrays s → Bytes a → (bs b : List ℕ) (v : Verdict) → v ≡ queueVerdict p s a (length bs) → passed (queueVerdict p s a (length bs)) ≡ true
-      → b ≡ overwrite a (s .counts .flying + s .counts .waiting) bs → answer v (withWaiting s (s .counts .waiting + length bs)) b ≡ queueOf p s a bs
+      → b ≡ overwrite a (s .counts .flying + s .counts .waiting) bs → answer v (queuedTo s (s .counts .waiting + length bs)) b ≡ queueOf p s a bs
   unfolding queueOf
   queue-accepted ar by bs b v e ok d =
       let c = sound-counted p s a (test-sound p s a ar (queue-passed p s a (length bs) ok .1)) in
       cond-yes _ _ _ _ ok
-      (ap₂ (λ (u : Verdict) (x : List ℕ). answer u (withWaiting s (s .counts .waiting + length bs)) x) e (d ∙ sym (queue-area s a c by bs (queue-room p s a (length bs) ok .0)))
+      (ap₂ (λ (u : Verdict) (x : List ℕ). answer u (queuedTo s (s .counts .waiting + length bs)) x) e (d ∙ sym (queue-area s a c by bs (queue-room p s a (length bs) ok .0)))
       ∙ ap (λ (q : Sender). answer (queueVerdict p s a (length bs)) q (storeArea (L.queue bs (view s a)) a)) (sym (queue-record s a c by bs ar)))
 
   pub receive-refused : (h : Heard) (r : Reply) (payload : List ℕ) (v : Verdict) → v ≡ receiveVerdict p s a h r (length payload)

@@ -7,9 +7,8 @@ use native.Mathlib.Nat.{zero-add}
 use native.Mathlib.Omega.{arith}
 use lib.ListN.{length, take, length-append}
 use lib.Seq.{take-add}
-use Rattle.laws.specs.Bytes.{overwrite, part}
+use Rattle.laws.specs.Bytes.{overwrite, part, Bytes}
 use Rattle.laws.proofs.Bytes.{over-keep, over-comm, length-part}
-use Rattle.laws.proofs.Little.{Bytes}
 use Rattle.ledger.specs.Ledger as L
 use Rattle.ledger.specs.Ledger.{bytesOf}
 use Rattle.area.specs.Layout.{place, streamBytes}
@@ -17,18 +16,17 @@ use Rattle.area.specs.Table.{rowsFrom, tableBytes}
 use Rattle.area.specs.declared.table.Row.{Row}
 use Rattle.area.proofs.table.Laws.{table-kept}
 use Rattle.pieces.specs.Pieces.{piecesOf}
+use Rattle.record.specs.Setters.{withLink, withCounts, withAtPeer, withLastBurst, withWaiting, withFlying, withPieces}
 use Rattle.record.specs.View.{view, store, storeArea, storeCounts, storeHeld, storeSent, storeLink}
 use Rattle.record.specs.declared.Counts.{Counts}
 use Rattle.record.specs.declared.AtPeer.{AtPeer}
 use Rattle.record.specs.declared.LastBurst.{LastBurst}
+use Rattle.record.specs.declared.Link.{Link}
 use Rattle.record.specs.declared.Sender.{Sender}
 use Rattle.record.proofs.View.{Arrays, Counted, bytes-pieces, rows-pieces, counts-kept, held-kept, sent-kept}
 
-abbrev waits : Counts → ℕ → Counts
-waits c n = record { «next_offset» = c .«next_offset»; waiting = n; flying = c .flying; pieces = c .pieces; «bytes_acked» = c .«bytes_acked»; «airtime_ms» = c .«airtime_ms» }
-
-abbrev pub withWaiting : Sender → ℕ → Sender
-withWaiting s n = record { gear = s .gear; link = s .link; counts = waits (s .counts) n; «at_peer» = s .«at_peer»; «last_burst» = s .«last_burst» }
+abbrev pub queuedTo : Sender → ℕ → Sender
+queuedTo s n = withCounts s (withWaiting (s .counts) n)
 
 module _ (s : Sender) (a : List ℕ) (c : Counted s a) (by : Bytes a) (bs : List ℕ) where
   abbrev f : ℕ
@@ -51,13 +49,13 @@ module _ (s : Sender) (a : List ℕ) (c : Counted s a) (by : Bytes a) (bs : List
       ∙ over-comm a (f + w) bs (place 0) (tableBytes rows) (omega (arith, fits))
       ∙ ap (λ (x : List ℕ). overwrite x (f + w) bs) (table-kept a by 0 (s .counts .pieces) (omega (arith, c .pieces, c .area)))
 
-  queue-counts : storeCounts (L.queue bs (view s a)) (s .counts) ≡ waits (s .counts) (w + length bs)
+  queue-counts : storeCounts (L.queue bs (view s a)) (s .counts) ≡ withWaiting (s .counts) (w + length bs)
   unfolding storeCounts view L.queue
   queue-counts =
       let k = counts-kept s a c by in
       let e : length (part a f w ++ bs) ≡ w + length bs = omega (arith, length-append (part a f w) bs, length-part a f w (omega (arith, c .stream, c .area))) in
-      ap₂ (λ (x y : ℕ). record { «next_offset» = s .counts .«next_offset»; waiting = x; flying = y; pieces = length (piecesOf rows a); «bytes_acked» = s .counts .«bytes_acked»; «airtime_ms» = s .counts .«airtime_ms» }) e (ap (λ (x : Counts). x .flying) k)
-      ∙ ap (λ (n : ℕ). record { «next_offset» = s .counts .«next_offset»; waiting = w + length bs; flying = f; pieces = n; «bytes_acked» = s .counts .«bytes_acked»; «airtime_ms» = s .counts .«airtime_ms» }) (ap (λ (x : Counts). x .pieces) k)
+      ap₂ (λ (x y : ℕ). withPieces (withFlying (withWaiting (s .counts) x) y) (length (piecesOf rows a))) e (ap (λ (x : Counts). x .flying) k)
+      ∙ ap (withPieces (withWaiting (s .counts) (w + length bs))) (ap (λ (x : Counts). x .pieces) k)
 
   module _ (ar : Arrays s) where
     queue-held : storeHeld (L.queue bs (view s a)) (s .«at_peer») ≡ s .«at_peer»
@@ -72,8 +70,9 @@ module _ (s : Sender) (a : List ℕ) (c : Counted s a) (by : Bytes a) (bs : List
     unfolding storeLink view L.queue
     queue-link = refl
 
-    pub queue-record : store (L.queue bs (view s a)) s ≡ withWaiting s (w + length bs)
+    pub queue-record : store (L.queue bs (view s a)) s ≡ queuedTo s (w + length bs)
     unfolding store
     queue-record =
-        ap₂ (λ (x : Counts) (y : AtPeer). record { gear = s .gear; link = storeLink (L.queue bs (view s a)) (s .link); counts = x; «at_peer» = y; «last_burst» = storeSent (L.queue bs (view s a)) (s .«last_burst») }) queue-counts queue-held
-        ∙ ap₂ (λ x (y : LastBurst). record { gear = s .gear; link = x; counts = waits (s .counts) (w + length bs); «at_peer» = s .«at_peer»; «last_burst» = y }) queue-link queue-sent
+        ap₂ (λ (x : Counts) (y : AtPeer). withLastBurst (withAtPeer (withCounts (withLink s (storeLink (L.queue bs (view s a)) (s .link))) x) y) (storeSent (L.queue bs (view s a)) (s .«last_burst»)))
+        queue-counts queue-held
+        ∙ ap₂ (λ (x : Link) (y : LastBurst). withLastBurst (withLink (queuedTo s (w + length bs)) x) y) queue-link queue-sent

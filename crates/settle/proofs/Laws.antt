@@ -15,6 +15,7 @@ use Rattle.laws.proofs.Bytes.{set-over, over-cat, over-nil, length-over, part-i
 use Rattle.ledger.specs.Ledger.{Held, heldOffs}
 use Rattle.pieces.specs.Lists.{heldOf}
 use Rattle.pieces.proofs.Lists.{held-drop}
+use Rattle.record.specs.Setters.{withLink, withCounts, withAtPeer, withLastBurst, withoutFrames}
 use Rattle.record.specs.View.{restIn}
 use Rattle.record.specs.declared.AtPeer.{AtPeer}
 use Rattle.record.specs.declared.LastBurst.{LastBurst}
@@ -171,10 +172,9 @@ offsets-fit xs r h e =
 
 module _ (m top : ℕ) (keep : Bool) (s : Sender) (a : List ℕ) where
   abbrev settledTo : Kept × List ℕ → AtPeer → Sender × List ℕ
-  settledTo x h = (
-    record { gear = s .gear; link = unawaited (s .link); counts = withFlight (s .counts) (x .0); «at_peer» = h; «last_burst» = record { off = s .«last_burst» .off; bits = s .«last_burst» .bits; held = s .«last_burst» .held; n = 0 } },
-    x .1,
-  )
+  settledTo x h =
+      let q = withCounts (withLink s (unawaited (s .link))) (withFlight (s .counts) (x .0)) in
+      (withLastBurst (withAtPeer q h) (withoutFrames (s .«last_burst»)), x .1)
 
   pub settled-is : (gone b : List ℕ) (k : Kept) (h : AtPeer) → gone ≡ ackedIn m (take (s .«last_burst» .n) (s .«last_burst» .off))
       → (k, b) ≡ removedPieces gone (s .counts .pieces) (s .counts .flying + s .counts .waiting) a → h ≡ newHeld m top keep (s .«at_peer») (s .«last_burst»)

@@ -9,9 +9,8 @@ use native.Mathlib.Nat.{div-div-eq-div-mul, div-one, pow-succ'}
 use lib.Dec.{eqb, ltb}
 use lib.ListN.{length, take, drop, length-take, length-drop, take-append-drop, length-append}
 use lib.Seq.{take-take, take-add, drop-at, length-take-le}
-use Rattle.laws.specs.Bytes.{overwrite, part}
+use Rattle.laws.specs.Bytes.{overwrite, part, Bytes}
 use Rattle.laws.proofs.Bytes.{over-nil, length-part}
-use Rattle.laws.proofs.Little.{Bytes}
 use Rattle.ledger.specs.Reply.{Reply, bitAt}
 use Rattle.ledger.specs.Ledger as L
 use Rattle.ledger.specs.Ledger.{Piece, Held, Sent, size, bytesOf, heldOffs, sentOffs, remaining, ackedBytes, missed, settleBurst}
@@ -27,13 +26,14 @@ use Rattle.pieces.proofs.Settle.{kept-total, kept-waiting, kept-length, settled
 use Rattle.pieces.proofs.Sound.{length-pieces}
 use Rattle.pieces.proofs.Lists.{sent-length}
 use Rattle.pieces.proofs.Carried.{pieces-take}
+use Rattle.record.specs.Setters.{withLink, withCounts, withAtPeer, withLastBurst, withWaiting, withFlying, withPieces, withAcked}
 use Rattle.record.specs.declared.AtPeer.{AtPeer}
 use Rattle.record.specs.declared.LastBurst.{LastBurst}
 use Rattle.record.specs.declared.Counts.{Counts}
 use Rattle.record.specs.declared.Sender.{Sender}
 use Rattle.record.specs.View.{heldIn, restIn, sentIn, view, rowsOf, storeArea, storeHeld, storeSent, storeCounts, storeLink, store}
 use Rattle.record.proofs.View.{Counted, Arrays, rows-pieces, bytes-pieces}
-use Rattle.settle.specs.Settle.{ackedIn, missedIn, heldMore, heldNone, newHeld, settled}
+use Rattle.settle.specs.Settle.{ackedIn, missedIn, heldMore, heldNone, newHeld, settled, withFlight}
 use Rattle.settle.proofs.Laws.{held-more}
 use Rattle.ledger.specs.Sizes.{Sizes}
 
@@ -199,9 +199,10 @@ module _ (z : Sizes) (m top : ℕ) (keep : Bool) (r : Reply) (s : Sender) (a : L
       let e₃ : length (remaining bit 0 (sentIn last) (piecesOf rows a)) ≡ length kept = ap length (sym remaining-are) ∙ length-pieces kept bytes in
       let b : ackedBytes bit 0 (sentIn last) (piecesOf rows st) ≡ ackedBytes bit 0 (sentIn last) (piecesOf rows a) = ap (ackedBytes bit 0 (sentIn last)) same-pieces in
       let e₄ : ackedBytes bit 0 (sentIn last) (piecesOf rows a) ≡ s .counts .flying - total kept = omega (arith, b, settled-bytes bit (z .long) (s .counts .«next_offset») 0 (sentIn last) rows st rows-st ascend, c .flying) in
-      ap (λ (g : List ℕ). record { «next_offset» = s .counts .«next_offset»; waiting = s .counts .waiting; flying = total (keptRows g rows); pieces = length (keptRows g rows); «bytes_acked» = s .counts .«bytes_acked» + (s .counts .flying - total (keptRows g rows)); «airtime_ms» = s .counts .«airtime_ms» }) gone-are
-      ∙ sym (ap₂ (λ (w f : ℕ). record { «next_offset» = s .counts .«next_offset»; waiting = w; flying = f; pieces = length (remaining bit 0 (sentIn last) (piecesOf rows a)); «bytes_acked» = s .counts .«bytes_acked» + ackedBytes bit 0 (sentIn last) (piecesOf rows a); «airtime_ms» = s .counts .«airtime_ms» }) e₁ e₂
-      ∙ ap₂ (λ (n x : ℕ). record { «next_offset» = s .counts .«next_offset»; waiting = s .counts .waiting; flying = total kept; pieces = n; «bytes_acked» = s .counts .«bytes_acked» + x; «airtime_ms» = s .counts .«airtime_ms» }) e₃ e₄)
+      ap (λ (g : List ℕ). withFlight (s .counts) (record { rows = length (keptRows g rows); bytes = total (keptRows g rows) })) gone-are
+      ∙ sym (ap₂ (λ (w f : ℕ). withAcked (withPieces (withFlying (withWaiting (s .counts) w) f) (length (remaining bit 0 (sentIn last) (piecesOf rows a))))
+      (s .counts .«bytes_acked» + ackedBytes bit 0 (sentIn last) (piecesOf rows a))) e₁ e₂
+      ∙ ap₂ (λ (n x : ℕ). withAcked (withPieces (withFlying (s .counts) (total kept)) n) (s .counts .«bytes_acked» + x)) e₃ e₄)
 
   sent-after : settled m top keep s a .0 .«last_burst» ≡ storeSent after last
   unfolding settled storeSent settleBurst
@@ -213,5 +214,5 @@ module _ (z : Sizes) (m top : ℕ) (keep : Bool) (r : Reply) (s : Sender) (a : L
   pub settles : settled m top keep s a ≡ (store after s, storeArea after a)
   unfolding store settled storeLink settleBurst view
   settles =
-      ap₂ (λ (x : Counts) (y : AtPeer). (record { gear = s .gear; link = settled m top keep s a .0 .link; counts = x; «at_peer» = y; «last_burst» = settled m top keep s a .0 .«last_burst» }, settled m top keep s a .1)) counts-after held-after
-      ∙ ap₂ (λ (x : LastBurst) (y : List ℕ). (record { gear = s .gear; link = storeLink after (s .link); counts = storeCounts after (s .counts); «at_peer» = storeHeld after held; «last_burst» = x }, y)) sent-after area-after
+      ap₂ (λ (x : Counts) (y : AtPeer). (withAtPeer (withCounts (settled m top keep s a .0) x) y, settled m top keep s a .1)) counts-after held-after
+      ∙ ap₂ (λ (x : LastBurst) (y : List ℕ). (withLastBurst (withAtPeer (withCounts (withLink s (storeLink after (s .link))) (storeCounts after (s .counts))) (storeHeld after held)) x, y)) sent-after area-after

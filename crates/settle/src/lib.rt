@@ -1,5 +1,6 @@
 // settle_burst of sender.rs: what an ack leaves of the outstanding burst; and what it says of the burst to the gear.
-use area::removal::mark;
+use area::removal::HASHES;
+use area::removal::hash;
 use area::removal::remove_pieces;
 use limits::MAX_SLOTS;
 use record::AtPeer;
@@ -128,11 +129,11 @@ pub fn settle_burst(s: Sender, a: &mut [u8], bitmap: u64, top: u32, keep: bool) 
     let g = acked(&offs[..m], bitmap);
     let gone = g.off;
     let n = g.n;
-    let mut marks = [0u8; 2048];
-    mark(&mut marks, &gone[..n]);
+    let mut hashes = [0u8; HASHES];
+    hash(&mut hashes, &gone[..n]);
     let rows = c.pieces;
     let used = c.flying as usize + c.waiting as usize;
-    let left = remove_pieces(a, rows, used, &marks, &gone[..n]);
+    let left = remove_pieces(a, rows, used, &hashes, &gone[..n]);
     let held = new_held(h, b, bitmap, top, keep);
     let bytes = left.bytes as u32;
     let counts = Counts {

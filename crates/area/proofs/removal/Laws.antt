@@ -1,4 +1,4 @@
--- Laws of marks, and of pieces that leave in one pass.
+-- Laws of hashes, and of pieces that leave in one pass.
 -- Assumes nothing.
 use mathlib.Core.Path.{_≡_, refl, sym, ap, ap₂, _∙_}
 use mathlib.Core.List.{List, [], _∷_, _++_}
@@ -11,20 +11,19 @@ use lib.ListN.{length, take, drop, getD, set, length-append, length-take, length
 use lib.Seq.{drop-cons, getD-set-same, getD-set-other, take-take, drop-at}
 use lib.Dec.{eqb}
 use borrow.Author.Tests.{eq-eqb, ne-eqb, eqb-true, eqb-false}
-use Rattle.laws.specs.Bytes.{overwrite, part}
+use Rattle.laws.specs.Bytes.{overwrite, part, Bytes}
 use Rattle.laws.proofs.Bytes.{length-over, over-nil, over-cat, over-comm, part-before, part-after, part-add, over-part, length-part}
-use Rattle.laws.proofs.Little.{Bytes}
 use Rattle.area.specs.Layout.{place, streamBytes, areaBytes}
 use Rattle.area.specs.Table.{rowAt, rowsFrom, tableBytes, withRows, total}
 use Rattle.area.specs.declared.table.Row.{Row}
 use Rattle.area.proofs.table.Laws.{rows-turn, rows-none, rows-after, table-kept}
 use Rattle.laws.specs.Lists.{listed}
 use Rattle.laws.proofs.Picks.{test, or-left, or-right}
-use Rattle.area.specs.Removal.{markCount, markPlace, markAll, Marked, keptRows, keptBytes, removedPieces}
+use Rattle.area.specs.Removal.{hashCount, hashPlace, hashAll, Hashed, keptRows, keptBytes, removedPieces}
 use Rattle.area.specs.declared.removal.Kept.{Kept}
 use Rattle.limits.specs.Limits.{maxPieces}
 
--- ---- marks
+-- ---- hashes
 
 pub listed-turn : (o : ℕ) (xs : List ℕ) (i : ℕ) → i < length xs → listed o (drop i xs) ≡ (eqb o (getD xs i 0) || listed o (drop (i + 1) xs))
 listed-turn o xs i h = ap (listed o) (drop-cons xs i 0 h ∙ ap (λ (k : ℕ). getD xs i 0 ∷ drop k xs) (sym (add-one i)))
@@ -39,69 +38,69 @@ listed-at o [] g h e = absurd (not-suc-le-zero h)
 listed-at o (x ∷ xs) zero h e = or-left (eqb o x) (listed o xs) (eq-eqb o x (sym e))
 listed-at o (x ∷ xs) (suc g) h e = or-right (eqb o x) (listed o xs) (listed-at o xs g (omega (arith, h)) e)
 
-pub unmarked : (marks xs : List ℕ) (o k : ℕ) → k ≡ markPlace o → Marked marks xs → getD marks k 0 ≡ 0 → listed o xs ≡ false
-unmarked marks xs o k p m z = listed-none o xs (λ j h e. let q : _≡_ {A = ℕ} 0 1 = sym z ∙ ap (λ (i : ℕ). getD marks i 0) (p ∙ ap markPlace (sym e)) ∙ m .set j h in omega arith)
+pub unhashed : (hashes xs : List ℕ) (o k : ℕ) → k ≡ hashPlace o → Hashed hashes xs → getD hashes k 0 ≡ 0 → listed o xs ≡ false
+unhashed hashes xs o k p m z = listed-none o xs (λ j h e. let q : _≡_ {A = ℕ} 0 1 = sym z ∙ ap (λ (i : ℕ). getD hashes i 0) (p ∙ ap hashPlace (sym e)) ∙ m .set j h in omega arith)
 
--- one mark more
-pub mark-turn : (marks xs : List ℕ) (i k : ℕ) → i < length xs → k ≡ markPlace (getD xs i 0) → markAll marks (drop i xs) ≡ markAll (set marks k 1) (drop (i + 1) xs)
-unfolding markAll
-mark-turn marks xs i k h e =
-    ap (markAll marks) (drop-cons xs i 0 h ∙ ap (λ (k : ℕ). getD xs i 0 ∷ drop k xs) (sym (add-one i))) ∙ ap (λ (m : ℕ). markAll (set marks m 1) (drop (i + 1) xs)) (sym e)
+-- one hash more
+pub hash-turn : (hashes xs : List ℕ) (i k : ℕ) → i < length xs → k ≡ hashPlace (getD xs i 0) → hashAll hashes (drop i xs) ≡ hashAll (set hashes k 1) (drop (i + 1) xs)
+unfolding hashAll
+hash-turn hashes xs i k h e =
+    ap (hashAll hashes) (drop-cons xs i 0 h ∙ ap (λ (k : ℕ). getD xs i 0 ∷ drop k xs) (sym (add-one i))) ∙ ap (λ (m : ℕ). hashAll (set hashes m 1) (drop (i + 1) xs)) (sym e)
 
-pub mark-end : (marks xs : List ℕ) (i : ℕ) → length xs ≤ i → markAll marks (drop i xs) ≡ marks
-unfolding markAll
-mark-end marks xs i h = ap (markAll marks) (drop-of-length-le xs h)
+pub hash-end : (hashes xs : List ℕ) (i : ℕ) → length xs ≤ i → hashAll hashes (drop i xs) ≡ hashes
+unfolding hashAll
+hash-end hashes xs i h = ap (hashAll hashes) (drop-of-length-le xs h)
 
--- a mark that is set stays
-set-stays : (marks : List ℕ) (j k : ℕ) → k < length marks → getD marks k 0 ≡ 1 → getD (set marks j 1) k 0 ≡ 1
-set-stays marks j k h e =
+-- a hash that is set stays
+set-stays : (hashes : List ℕ) (j k : ℕ) → k < length hashes → getD hashes k 0 ≡ 1 → getD (set hashes j 1) k 0 ≡ 1
+set-stays hashes j k h e =
     test (eqb k j)
-    (λ q. ap (λ (m : ℕ). getD (set marks m 1) k 0) (sym (eqb-true k j q)) ∙ getD-set-same marks k 1 0 h)
-    (λ q. getD-set-other marks j k 1 0 (eqb-false k j q) ∙ e)
+    (λ q. ap (λ (m : ℕ). getD (set hashes m 1) k 0) (sym (eqb-true k j q)) ∙ getD-set-same hashes k 1 0 h)
+    (λ q. getD-set-other hashes j k 1 0 (eqb-false k j q) ∙ e)
 
-mark-stays : (marks xs : List ℕ) (k : ℕ) → k < length marks → getD marks k 0 ≡ 1 → getD (markAll marks xs) k 0 ≡ 1
-unfolding markAll
-mark-stays marks [] k h e = e
-mark-stays marks (x ∷ xs) k h e = mark-stays (set marks (markPlace x) 1) xs k (omega (arith, length-set marks (markPlace x) 1)) (set-stays marks (markPlace x) k h e)
+hash-stays : (hashes xs : List ℕ) (k : ℕ) → k < length hashes → getD hashes k 0 ≡ 1 → getD (hashAll hashes xs) k 0 ≡ 1
+unfolding hashAll
+hash-stays hashes [] k h e = e
+hash-stays hashes (x ∷ xs) k h e = hash-stays (set hashes (hashPlace x) 1) xs k (omega (arith, length-set hashes (hashPlace x) 1)) (set-stays hashes (hashPlace x) k h e)
 
-pub length-marks : (marks xs : List ℕ) → length (markAll marks xs) ≡ length marks
-unfolding markAll
-length-marks marks [] = refl
-length-marks marks (x ∷ xs) = length-marks (set marks (markPlace x) 1) xs ∙ length-set marks (markPlace x) 1
+pub length-hashes : (hashes xs : List ℕ) → length (hashAll hashes xs) ≡ length hashes
+unfolding hashAll
+length-hashes hashes [] = refl
+length-hashes hashes (x ∷ xs) = length-hashes (set hashes (hashPlace x) 1) xs ∙ length-set hashes (hashPlace x) 1
 
-place-in : (o : ℕ) → markPlace o < markCount
-unfolding markPlace
+place-in : (o : ℕ) → hashPlace o < hashCount
+unfolding hashPlace
 place-in o = omega arith
 
-marks-set : (marks xs : List ℕ) → length marks ≡ markCount → (j : ℕ) → j < length xs → getD (markAll marks xs) (markPlace (getD xs j 0)) 0 ≡ 1
-unfolding markAll
-marks-set marks [] l j h = absurd (not-suc-le-zero h)
-marks-set marks (x ∷ xs) l zero h =
+hashes-set : (hashes xs : List ℕ) → length hashes ≡ hashCount → (j : ℕ) → j < length xs → getD (hashAll hashes xs) (hashPlace (getD xs j 0)) 0 ≡ 1
+unfolding hashAll
+hashes-set hashes [] l j h = absurd (not-suc-le-zero h)
+hashes-set hashes (x ∷ xs) l zero h =
     let p = place-in x in
-    mark-stays (set marks (markPlace x) 1) xs (markPlace x) (omega (arith, length-set marks (markPlace x) 1)) (getD-set-same marks (markPlace x) 1 0 (omega arith))
-marks-set marks (x ∷ xs) l (suc j) h = marks-set (set marks (markPlace x) 1) xs (length-set marks (markPlace x) 1 ∙ l) j (omega arith)
+    hash-stays (set hashes (hashPlace x) 1) xs (hashPlace x) (omega (arith, length-set hashes (hashPlace x) 1)) (getD-set-same hashes (hashPlace x) 1 0 (omega arith))
+hashes-set hashes (x ∷ xs) l (suc j) h = hashes-set (set hashes (hashPlace x) 1) xs (length-set hashes (hashPlace x) 1 ∙ l) j (omega arith)
 
--- marked offsets have their marks, whatever other marks there are
-pub marked-all : (marks xs : List ℕ) → length marks ≡ markCount → Marked (markAll marks xs) xs
-marked-all marks xs l = record { size = length-marks marks xs ∙ l; set = marks-set marks xs l }
+-- hashed offsets have their hashes, whatever other hashes there are
+pub hashed-all : (hashes xs : List ℕ) → length hashes ≡ hashCount → Hashed (hashAll hashes xs) xs
+hashed-all hashes xs l = record { size = length-hashes hashes xs ∙ l; set = hashes-set hashes xs l }
 
--- marks that `mark` made
-pub marked-by : (m marks xs : List ℕ) → m ≡ markAll marks xs → length marks ≡ markCount → Marked m xs
-marked-by m marks xs e h = rw e (marked-all marks xs h)
+-- hashes that `hash` made
+pub hashed-by : (m hashes xs : List ℕ) → m ≡ hashAll hashes xs → length hashes ≡ hashCount → Hashed m xs
+hashed-by m hashes xs e h = rw e (hashed-all hashes xs h)
 
--- behind the last offset none needs a mark
-pub marked-end : (marks xs : List ℕ) (i : ℕ) → length xs ≤ i → length marks ≡ markCount → Marked marks (drop i xs)
-marked-end marks xs i h l = record { size = l; set = λ j k. absurd (let z : suc j ≤ 0 = omega (arith, length-drop i xs) in not-suc-le-zero z) }
+-- behind the last offset none needs a hash
+pub hashed-end : (hashes xs : List ℕ) (i : ℕ) → length xs ≤ i → length hashes ≡ hashCount → Hashed hashes (drop i xs)
+hashed-end hashes xs i h l = record { size = l; set = λ j k. absurd (let z : suc j ≤ 0 = omega (arith, length-drop i xs) in not-suc-le-zero z) }
 
 -- one offset more in front
-pub marked-more : (m marks xs : List ℕ) (x : ℕ) → m ≡ markAll marks (x ∷ []) → Marked marks xs → Marked m (x ∷ xs)
-marked-more m marks xs x e h = record { size = ap length e ∙ length-marks marks (x ∷ []) ∙ h .size; set = sets }
+pub hashed-more : (m hashes xs : List ℕ) (x : ℕ) → m ≡ hashAll hashes (x ∷ []) → Hashed hashes xs → Hashed m (x ∷ xs)
+hashed-more m hashes xs x e h = record { size = ap length e ∙ length-hashes hashes (x ∷ []) ∙ h .size; set = sets }
   where
-    sets : (j : ℕ) → j < length (x ∷ xs) → getD m (markPlace (getD (x ∷ xs) j 0)) 0 ≡ 1
-    sets zero l = ap (λ (n : List ℕ). getD n (markPlace x) 0) e ∙ marks-set marks (x ∷ []) (h .size) 0 (omega arith)
+    sets : (j : ℕ) → j < length (x ∷ xs) → getD m (hashPlace (getD (x ∷ xs) j 0)) 0 ≡ 1
+    sets zero l = ap (λ (n : List ℕ). getD n (hashPlace x) 0) e ∙ hashes-set hashes (x ∷ []) (h .size) 0 (omega arith)
     sets (suc j) l =
         let p = place-in (getD xs j 0) in
-        ap (λ (n : List ℕ). getD n (markPlace (getD xs j 0)) 0) e ∙ mark-stays marks (x ∷ []) (markPlace (getD xs j 0)) (omega (arith, h .size)) (h .set j (omega arith))
+        ap (λ (n : List ℕ). getD n (hashPlace (getD xs j 0)) 0) e ∙ hash-stays hashes (x ∷ []) (hashPlace (getD xs j 0)) (omega (arith, h .size)) (h .set j (omega arith))
 
 -- ---- one pass
 

@@ -6,10 +6,10 @@ use Prim.Native.Nat.{ℕ, zero, suc, _+_, _-_, _*_, _≤_, _<_}
 use native.Mathlib.Nat.{suc-add, zero-add, add-zero}
 use native.Mathlib.Omega.{arith}
 use lib.ListN.{length}
-use Rattle.laws.specs.Bytes.{overwrite, part}
+use Rattle.laws.specs.Bytes.{overwrite, part, Bytes}
 use Rattle.laws.specs.Little.{num, le, load}
 use Rattle.laws.proofs.Bytes.{length-over, over-cat, part-inside, part-add, over-part}
-use Rattle.laws.proofs.Little.{Bytes, num-le4, load-before, load-after, le-load, load-small}
+use Rattle.laws.proofs.Little.{num-le4, load-before, load-after, le-load, load-small}
 use Rattle.area.specs.Layout.{place}
 use Rattle.area.specs.Table.{rowAt, rowsFrom, tableBytes, Small}
 use Rattle.area.specs.declared.table.Row.{Row}

@@ -1,7 +1,7 @@
 -- `bench_area::vanitycrow_merge` meets its contract.
 use denote.Ref.{now}
-use Rattle.area.specs.Removal.{Marked}
-use Rattle.area.proofs.removal.Laws.{marked-all}
+use Rattle.area.specs.Removal.{Hashed}
+use Rattle.area.proofs.removal.Laws.{hashed-all}
 use Prim.Native.Nat.{ℕ, _-_}
 use mathlib.Core.Path.{sym, subst}
 use mathlib.Core.List.{List}
@@ -10,11 +10,11 @@ use borrow.Author.Needs.{needs}
 use Rattle.bench_area.proofs.vanitycrow_merge.Statement.{statement}
 use Rattle.bench_area.proofs.vanitycrow_merge.Tie as tie
 
-slice-aggregate-mark : tie.Need-slice-aggregate-mark
-slice-aggregate-mark c = search needs
+slice-aggregate-hash : tie.Need-slice-aggregate-hash
+slice-aggregate-hash c = search needs
 
-mark-requires : tie.Need-mark-requires
-mark-requires c κs = search needs
+hash-requires : tie.Need-hash-requires
+hash-requires c κs = search needs
 
 slice-aggregate-merge-table : tie.Need-slice-aggregate-merge-table
 slice-aggregate-merge-table c = search needs
@@ -23,7 +23,7 @@ merge-table-requires : tie.Need-merge-table-requires
 merge-table-requires c κs =
     let d = c .before .before .before in
     let s = d .before .before .before .before in
-    let m = subst (λ (x : List ℕ). Marked x (now (s .args .held))) (sym (d .mark .ensures)) (marked-all _ (now (s .args .held)) (length-replicate {A = ℕ} 2048 0)) in
+    let m = subst (λ (x : List ℕ). Hashed x (now (s .args .held))) (sym (d .hash .ensures)) (hashed-all _ (now (s .args .held)) (length-replicate {A = ℕ} 2048 0)) in
     (s .pre .0, s .pre .1, m)
 
 same-length : tie.Need-same-length
@@ -36,8 +36,8 @@ pub vanitycrow-merge-spec : {M : Type 1} → statement M
 vanitycrow-merge-spec =
     tie.close
     (tie.spec
-    slice-aggregate-mark
-    mark-requires
+    slice-aggregate-hash
+    hash-requires
     slice-aggregate-merge-table
     merge-table-requires
     same-length

@@ -27,6 +27,7 @@ use Rattle.pieces.specs.Burst.{framesSent}
 use Rattle.plan.specs.Planning.{CodesRange}
 use Rattle.plan.specs.declared.Choice.{Choice}
 use Rattle.plan.specs.declared.Planned.{Planned}
+use Rattle.record.specs.Setters.{withCounts, withAirtime}
 use Rattle.record.specs.Profiles.{sizesOf}
 use Rattle.record.specs.View.{view, store, storeArea}
 use Rattle.record.specs.declared.Sender.{Sender}
@@ -199,21 +200,7 @@ module _ (p : Profile) (r : Ranged p) (o : inOrder p ≡ true) (s : Sender) (a :
             ∙ airtime-is p s a bs held xs sent (s .counts)
 
         abbrev timed : Sender → ℕ → Sender
-        timed q t =
-            record {
-              gear = q .gear;
-              link = q .link;
-              counts = record {
-                «next_offset» = q .counts .«next_offset»;
-                waiting = q .counts .waiting;
-                flying = q .counts .flying;
-                pieces = q .counts .pieces;
-                «bytes_acked» = q .counts .«bytes_acked»;
-                «airtime_ms» = t;
-              };
-              «at_peer» = q .«at_peer»;
-              «last_burst» = q .«last_burst»;
-            }
+        timed q t = withCounts q (withAirtime (q .counts) t)
 
         pub done : ((h, timed (b .next) ms), (a₁, out₁)) ≡ burstOf p s a out
         unfolding burstOf output

@@ -51,6 +51,7 @@ use Rattle.pieces.proofs.Room.{payload-some, split-few, table-few, table-room, 
 use Rattle.pieces.proofs.Placed.{frames-length}
 use Rattle.pieces.proofs.Carried.{waiting-count, burst-fits, burst-pieces, burst-waiting, burst-next, burst-sent, burst-few, burst-carry, burst-frames, burst-fit}
 use Rattle.pieces.proofs.Slots.{push-all-off, push-all-bits, push-all-held, push-all-len, slots-read}
+use Rattle.record.specs.Setters.{withLink, withCounts, withAtPeer, withLastBurst, withNext, withWaiting, withFlying, withPieces, withAcked}
 use Rattle.record.specs.declared.AtPeer.{AtPeer}
 use Rattle.record.specs.declared.LastBurst.{LastBurst}
 use Rattle.record.specs.declared.Sender.{Sender}
@@ -412,7 +413,7 @@ module _ (z : Sizes) (zr : SizeRange z) (q : Harq) (c : Choice) (merging : Bool)
       let e₂ : s .counts .flying + total new ≡ size (after .pieces) =
       omega (arith, ap size then-pieces, size-rows (rs ++ new) a (omega (arith, then-fits, fits-w)), total-append rs new, rs-total) in
       let e₃ : length (rs ++ new) ≡ length (after .pieces) = sym (length-pieces (rs ++ new) a) ∙ ap length then-pieces in
-      λ i. record { «next_offset» = sym next-is i; waiting = e₁ i; flying = e₂ i; pieces = e₃ i; «bytes_acked» = acked-is i; «airtime_ms» = s .counts .«airtime_ms» }
+      λ i. withAcked (withPieces (withFlying (withWaiting (withNext (s .counts) (sym next-is i)) (e₁ i)) (e₂ i)) (e₃ i)) (acked-is i)
 
   -- the held list
   rest-length : length (after .rest) ≡ kp .rest
@@ -451,7 +452,7 @@ module _ (z : Sizes) (zr : SizeRange z) (q : Harq) (c : Choice) (merging : Bool)
   next-after : nextOf s kp added number ≡ store after s
   unfolding nextOf store storeLink dataBurst
   next-after =
-      λ i. record { gear = s .gear; link = storeLink after (s .link); counts = counts-after i; «at_peer» = held-after i; «last_burst» = sent-after i }
+      λ i. withLastBurst (withAtPeer (withCounts (withLink s (storeLink after (s .link))) (counts-after i)) (held-after i)) (sent-after i)
 
   -- each frame's offset and length, as the answer tells them
   frames-told : frames (after .pieces) (after .sent) ≡ map (λ (x : Slot). record { off = x .off; len = x .len }) xs

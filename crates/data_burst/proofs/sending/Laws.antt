@@ -8,8 +8,7 @@ use native.Mathlib.Omega.{arith}
 use lib.Dec.{eqb}
 use lib.ListN.{length, take, length-take}
 use borrow.Author.Tests.{eq-eqb, ne-eqb}
-use Rattle.laws.specs.Bytes.{overwrite}
-use Rattle.laws.proofs.Little.{Bytes}
+use Rattle.laws.specs.Bytes.{overwrite, Bytes}
 use Rattle.laws.proofs.Picks.{by}
 use Rattle.harq.specs.declared.Harq.{Harq}
 use Rattle.area.specs.Layout.{place}

@@ -12,11 +12,11 @@ use lib.Dec.{lit<}
 use lib.ListN.{getD, length, drop, take-append-drop, List·getD-append, length-map}
 use lib.Seq.{drop-cons, drop-drop, getD-append-add}
 use lib.Bits.{bitXor, differ, xor-step, xor-zero-r, xor-comm, xor-shr, xor-shifted}
-use Rattle.laws.specs.Bytes.{part}
+use Rattle.laws.specs.Bytes.{part, Bytes}
 use Rattle.laws.specs.Little.{num}
 use Rattle.laws.specs.Span.{from, upto}
 use Rattle.laws.proofs.Bytes.{length-part}
-use Rattle.laws.proofs.Little.{Bytes, bytes-part}
+use Rattle.laws.proofs.Little.{bytes-part}
 use Rattle.frame.specs.Crc.{poly, shift, shifts, feedBytes}
 use Rattle.frame.specs.Table.{halfByteTable, tables, tableOf}
 

@@ -10,7 +10,7 @@ use lib.Ieee.Fits.{and-l, and-r}
 use lib.ListN.{length, replicate, length-append, length-replicate}
 use lib.Bits.{bitXor, differ, xor-step, xor-zero-r}
 use Rattle.laws.specs.Little.{num}
-use Rattle.laws.proofs.Little.{Bytes}
+use Rattle.laws.specs.Bytes.{Bytes}
 use Rattle.laws.proofs.Tables.{passes}
 use Rattle.frame.specs.V42.{generator, plus, times, divide, bits, content, complement, fcs, number}
 use Rattle.frame.specs.Crc.{poly, shift, shifts, feedBytes, crc32}

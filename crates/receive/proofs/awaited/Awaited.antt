@@ -7,7 +7,7 @@ use Prim.Native.Nat.{ℕ}
 use lib.Dec.{eqb, ltb}
 use lib.Ieee.{Float}
 use lib.ListN.{length}
-use Rattle.laws.proofs.Little.{Bytes}
+use Rattle.laws.specs.Bytes.{Bytes}
 use Rattle.laws.proofs.Picks.{test}
 use Rattle.level.specs.Ladder.{waveRank}
 use Rattle.harq.specs.Held.{hMax}

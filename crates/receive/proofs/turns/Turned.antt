@@ -9,7 +9,7 @@ use native.Mathlib.Nat.{zero-div}
 use lib.Dec.{eqb}
 use lib.Ieee.{Float}
 use borrow.Author.Tests.{ne-eqb}
-use Rattle.laws.proofs.Little.{Bytes}
+use Rattle.laws.specs.Bytes.{Bytes}
 use Rattle.config.specs.declared.Profile.{Profile}
 use Rattle.gear.specs.declared.goodput.Gear.{Gear}
 use Rattle.gear.specs.declared.Outcome.{Outcome}

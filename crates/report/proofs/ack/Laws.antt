@@ -5,10 +5,9 @@ use mathlib.Core.List.{List}
 use Prim.Native.Nat.{ℕ, _+_, _*_, _/_, _≤_}
 use native.Mathlib.Omega.{arith}
 use lib.ListN.{length, getD}
-use Rattle.laws.specs.Bytes.{part}
+use Rattle.laws.specs.Bytes.{part, Bytes}
 use Rattle.laws.proofs.Bytes.{part-cons}
 use Rattle.laws.specs.Little.{num, load}
-use Rattle.laws.proofs.Little.{Bytes}
 
 -- the three bytes after the first of four
 pub upper : (l : List ℕ) (at : ℕ) → Bytes l → at + 4 ≤ length l → load l at / 256 ≡ num (part l (at + 1) 3)

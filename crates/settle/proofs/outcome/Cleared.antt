@@ -4,9 +4,8 @@ use mathlib.Core.Path.{_≡_, sym, ap, ap₂, _∙_}
 use mathlib.Core.List.{List, []}
 use mathlib.Core.Bool.{false}
 use Prim.Native.Nat.{ℕ}
-use Rattle.laws.specs.Bytes.{overwrite}
+use Rattle.laws.specs.Bytes.{overwrite, Bytes}
 use Rattle.laws.proofs.Bytes.{over-nil}
-use Rattle.laws.proofs.Little.{Bytes}
 use Rattle.gear.specs.declared.goodput.Gear.{Gear}
 use Rattle.ledger.specs.Ledger as L
 use Rattle.ledger.specs.Ledger.{clearBurst}
@@ -19,7 +18,7 @@ use Rattle.record.specs.declared.Sender.{Sender}
 use Rattle.record.proofs.View.{Counted, Arrays, area-kept, counts-kept, held-kept}
 use Rattle.settle.specs.Settle.{unawaited}
 use Rattle.settle.specs.AckIn.{withoutBurst}
-use Rattle.record.specs.Setters.{withGear, withLink}
+use Rattle.record.specs.Setters.{withGear, withLink, withCounts, withAtPeer, withLastBurst, withAwaiting, withNumber}
 
 module _ (s : Sender) (a : List ℕ) (c : Counted s a) (ar : Arrays s) (by : Bytes a) where
   abbrev gone : L.Sender
@@ -49,11 +48,11 @@ module _ (s : Sender) (a : List ℕ) (c : Counted s a) (ar : Arrays s) (by : Byt
   link-gone : (k : Link) → k .«burst_id» ≡ s .link .«burst_id» → unawaited k ≡ storeLink gone k
   unfolding clearBurst storeLink view
   link-gone k e =
-      ap (λ (n : ℕ). record { connected = k .connected; awaiting = false; session = k .session; «last_time» = k .«last_time»; «burst_id» = n; heard = k .heard; «peer_heard» = k .«peer_heard»; «peer_slot» = k .«peer_slot»; «peer_doppler_hz» = k .«peer_doppler_hz»; «peer_wants_turn» = k .«peer_wants_turn»; «peer_wants_disc» = k .«peer_wants_disc»; «peer_wave» = k .«peer_wave» }) e
+      ap (withNumber (withAwaiting k false)) e
 
   pub cleared : (g : Gear) (k : Link) → k .«burst_id» ≡ s .link .«burst_id» → _≡_ {A = Sender × List ℕ} (withoutBurst (withLink (withGear s g) k), a) (store gone (withLink (withGear s g) k), storeArea gone a)
   unfolding store
   cleared g k e =
-      sym (ap₂ (λ (x : Counts) (y : AtPeer). (record { gear = g; link = storeLink gone k; counts = x; «at_peer» = y; «last_burst» = storeSent gone (s .«last_burst») }, storeArea gone a)) counts-same held-same
-      ∙ ap₂ (λ (x : LastBurst) (y : List ℕ). (record { gear = g; link = storeLink gone k; counts = s .counts; «at_peer» = s .«at_peer»; «last_burst» = x }, y)) sent-gone area-same
-      ∙ ap (λ (x : Link). (record { gear = g; link = x; counts = s .counts; «at_peer» = s .«at_peer»; «last_burst» = none }, a)) (sym (link-gone k e)))
+      sym (ap₂ (λ (x : Counts) (y : AtPeer). (withLastBurst (withAtPeer (withCounts (withLink (withGear s g) (storeLink gone k)) x) y) (storeSent gone (s .«last_burst»)), storeArea gone a)) counts-same held-same
+      ∙ ap₂ (λ (x : LastBurst) (y : List ℕ). (withLastBurst (withLink (withGear s g) (storeLink gone k)) x, y)) sent-gone area-same
+      ∙ ap (λ (x : Link). (withLastBurst (withLink (withGear s g) x) none, a)) (sym (link-gone k e)))

@@ -4,7 +4,7 @@ use lib.ListN.{length, take, length-take}
 use lib.Seq.{length-take-le}
 use borrow.Author.Needs.{needs, length-unmapped}
 use Rattle.area.specs.Table.{rowsFrom, total}
-use Rattle.area.proofs.removal.Laws.{length-marks, removed-facts, marked-by}
+use Rattle.area.proofs.removal.Laws.{length-hashes, removed-facts, hashed-by}
 use Rattle.pieces.proofs.Settle.{kept-total}
 use Rattle.settle.specs.Settle.{ackedIn, offsetsOf}
 use Rattle.settle.proofs.Laws.{acked-few, offsets-list, offsets-fit, settled-is}
@@ -44,17 +44,17 @@ slice-aggregate-acked c = let s = c .before .before .before .before .before .bef
 acked-requires : tie.Need-acked-requires
 acked-requires c κs = let s = c .before .before .before .before .before .before in omega (arith, sent s, s .pre .out)
 
-slice-aggregate-mark : tie.Need-slice-aggregate-mark
-slice-aggregate-mark c = refl
+slice-aggregate-hash : tie.Need-slice-aggregate-hash
+slice-aggregate-hash c = refl
 
 array-share-prefix-gone : tie.Need-array-share-prefix-gone
 array-share-prefix-gone c = fit (c .before .before)
 
-slice-aggregate-mark-2 : tie.Need-slice-aggregate-mark-2
-slice-aggregate-mark-2 c = sym (length-take-le _ _ (fit (c .before .before .before)))
+slice-aggregate-hash-2 : tie.Need-slice-aggregate-hash-2
+slice-aggregate-hash-2 c = sym (length-take-le _ _ (fit (c .before .before .before)))
 
-mark-requires : tie.Need-mark-requires
-mark-requires c κs = refl
+hash-requires : tie.Need-hash-requires
+hash-requires c κs = refl
 
 cast-used : tie.Need-cast-used
 cast-used c = search needs
@@ -66,7 +66,7 @@ add-used : tie.Need-add-used
 add-used c = search needs
 
 slice-aggregate-remove-pieces : tie.Need-slice-aggregate-remove-pieces
-slice-aggregate-remove-pieces c = sym (ap length (c .before .before .before .before .before .mark .ensures) ∙ length-marks _ _)
+slice-aggregate-remove-pieces c = sym (ap length (c .before .before .before .before .before .hash .ensures) ∙ length-hashes _ _)
 
 array-share-prefix-gone-2 : tie.Need-array-share-prefix-gone-2
 array-share-prefix-gone-2 c = fit (c .before .before .before .before .before .before .before .before .before)
@@ -75,7 +75,7 @@ slice-aggregate-remove-pieces-2 : tie.Need-slice-aggregate-remove-pieces-2
 slice-aggregate-remove-pieces-2 c = sym (length-take-le _ _ (fit (c .before .before .before .before .before .before .before .before .before .before)))
 
 remove-pieces-requires : tie.Need-remove-pieces-requires
-remove-pieces-requires c κs = let s = c .before .before .before .before .before .before .before .before .before .before .before .before .before .before .before .before .before in (s .pre .pieces, s .pre .area, omega (arith, s .pre .flies, s .pre .waits), omega (arith, s .pre .flying), marked-by _ _ _ (c .before .before .before .before .before .before .mark .ensures) refl)
+remove-pieces-requires c κs = let s = c .before .before .before .before .before .before .before .before .before .before .before .before .before .before .before .before .before in (s .pre .pieces, s .pre .area, omega (arith, s .pre .flies, s .pre .waits), omega (arith, s .pre .flying), hashed-by _ _ _ (c .before .before .before .before .before .before .hash .ensures) refl)
 
 new-held-requires : tie.Need-new-held-requires
 new-held-requires c κs = let s = c .before .before .before .before .before .before .before .before .before .before .before .before .before .before .before .before .before .before .before .before in (s .pre .held, s .pre .rest, s .pre .out)
@@ -113,10 +113,10 @@ settle-burst-spec =
     array-share-prefix-offs
     slice-aggregate-acked
     acked-requires
-    slice-aggregate-mark
+    slice-aggregate-hash
     array-share-prefix-gone
-    slice-aggregate-mark-2
-    mark-requires
+    slice-aggregate-hash-2
+    hash-requires
     cast-used
     cast-used-2
     add-used

@@ -34,17 +34,17 @@ add-if2 c = search needs
 returns-2 : tie.Need-returns-2
 returns-2 c = simp (eq-eqb _ _ (c .before .before .before .if1 .left), lt-leb _ _ (c .if2 .taken))
 
-contains-marked-requires : tie.Need-contains-marked-requires
-contains-marked-requires c κs = search needs
+contains-hashed-requires : tie.Need-contains-hashed-requires
+contains-hashed-requires c κs = search needs
 
 returns-3 : tie.Need-returns-3
-returns-3 c = let e = c .before .before in simp (eq-eqb _ _ (e .before .before .before .if1 .left), le-leb _ _ (e .if2 .left), sym (c .before .contains-marked .ensures) ∙ c .if3 .taken)
+returns-3 c = let e = c .before .before in simp (eq-eqb _ _ (e .before .before .before .if1 .left), le-leb _ _ (e .if2 .left), sym (c .before .contains-hashed .ensures) ∙ c .if3 .taken)
 
-contains-marked-requires-2 : tie.Need-contains-marked-requires-2
-contains-marked-requires-2 c κs = search needs
+contains-hashed-requires-2 : tie.Need-contains-hashed-requires-2
+contains-hashed-requires-2 c κs = search needs
 
 returns-4 : tie.Need-returns-4
-returns-4 c = let f = c .before in let e = f .before .before in simp (eq-eqb _ _ (e .before .before .before .if1 .left), le-leb _ _ (e .if2 .left), sym (f .before .contains-marked .ensures) ∙ f .if3 .left) (ap not (c .contains-marked2 .ensures))
+returns-4 c = let f = c .before in let e = f .before .before in simp (eq-eqb _ _ (e .before .before .before .if1 .left), le-leb _ _ (e .if2 .left), sym (f .before .contains-hashed .ensures) ∙ f .if3 .left) (ap not (c .contains-hashed2 .ensures))
 
 pub joins-spec : {M : Type 1} → statement M
 joins-spec =
@@ -59,7 +59,7 @@ joins-spec =
     cast-if2-2
     add-if2
     returns-2
-    contains-marked-requires
+    contains-hashed-requires
     returns-3
-    contains-marked-requires-2
+    contains-hashed-requires-2
     returns-4)

@@ -18,13 +18,13 @@ use Rattle.area.proofs.merging.merge_table.Statement.{statement}
 use Rattle.area.proofs.merging.merge_table.Tie as tie
 
 abbrev Inv-loop : tie.InvT-loop
-Inv-loop a₀ n max marks held off₀ len₀ w₀ i₀ a off len w i =
+Inv-loop a₀ n max hashes held off₀ len₀ w₀ i₀ a off len w i =
     (w < i) × (i ≤ n) × (length a ≡ length a₀)
     × (length (mergeRows held max (rowsFrom a₀ 0 n)) ≡ w + length (mergeRowsFrom held max (row off len) (rowsFrom a i (n - i))))
     × (overwrite a₀ (place 0) (tableBytes (mergeRows held max (rowsFrom a₀ 0 n))) ≡ overwrite a (place w) (tableBytes (mergeRowsFrom held max (row off len) (rowsFrom a i (n - i)))))
 
 abbrev μ-loop : tie.MeasureT-loop
-μ-loop a₀ n max marks held off₀ len₀ w₀ i₀ a off len w i = n - i
+μ-loop a₀ n max hashes held off₀ len₀ w₀ i₀ a off len w i = n - i
 
 returns : tie.Need-returns Inv-loop μ-loop
 unfolding mergeRows mergeTable

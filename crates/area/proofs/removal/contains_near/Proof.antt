@@ -18,11 +18,11 @@ returns c =
     let s = t .before .before .before in
     sym (listed-at (s .args .off) (now (s .args .offs)) (s .args .g) (t .if1 .taken) (c .if2 .taken))
 
-contains-marked-requires : tie.Need-contains-marked-requires
-contains-marked-requires c κs = search needs
+contains-hashed-requires : tie.Need-contains-hashed-requires
+contains-hashed-requires c κs = search needs
 
 returns-2 : tie.Need-returns-2
 returns-2 c = search needs
 
 pub contains-near-spec : {M : Type 1} → statement M
-contains-near-spec = tie.close (tie.spec mul-if2 shared-slice-read-if2 returns contains-marked-requires returns-2)
+contains-near-spec = tie.close (tie.spec mul-if2 shared-slice-read-if2 returns contains-hashed-requires returns-2)

@@ -9,10 +9,10 @@ use Rattle.area.proofs.removal.remove_pieces.Statement.{statement}
 use Rattle.area.proofs.removal.remove_pieces.Tie as tie
 
 abbrev Inv-loop : tie.InvT-loop
-Inv-loop a₀ n used marks gone from₀ to₀ w₀ i₀ a from to w i = Removing a₀ n used gone a from to w i
+Inv-loop a₀ n used hashes gone from₀ to₀ w₀ i₀ a from to w i = Removing a₀ n used gone a from to w i
 
 abbrev μ-loop : tie.MeasureT-loop
-μ-loop a₀ n used marks gone from₀ to₀ w₀ i₀ a from to w i = n - i
+μ-loop a₀ n used hashes gone from₀ to₀ w₀ i₀ a from to w i = n - i
 
 -- in a turn, once row i is loaded
 abbrev P : tie.After-load-row Inv-loop μ-loop → tie.At-loop Inv-loop μ-loop

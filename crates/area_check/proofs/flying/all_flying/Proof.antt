@@ -6,8 +6,8 @@ use lib.Seq.{take-all}
 use borrow.Author.Tests.{not-true, not-false}
 use Rattle.area.specs.Table.{rowsFrom}
 use Rattle.laws.specs.Lists.{listed}
-use Rattle.area.specs.Removal.{Marked, markAll}
-use Rattle.area.proofs.removal.Laws.{marked-end, marked-more}
+use Rattle.area.specs.Removal.{Hashed, hashAll}
+use Rattle.area.proofs.removal.Laws.{hashed-end, hashed-more}
 use Rattle.area_check.specs.Rows.{rowOffs, allFlying}
 use Rattle.area_check.proofs.flying.Laws.{drop-back, take-back, flying-back, flying-part, flying-end}
 use Prim.Native.Nat.{ℕ, _-_, _≤_}
@@ -20,10 +20,10 @@ use Rattle.area_check.proofs.flying.all_flying.Statement.{statement}
 use Rattle.area_check.proofs.flying.all_flying.Tie as tie
 
 abbrev Inv-loop : tie.InvT-loop
-Inv-loop a n xs long next marks₀ i₀ marks i = (i ≤ length xs) × Marked marks (drop i xs) × (allFlying (drop i xs) (rowOffs (rowsFrom a 0 n)) ≡ true)
+Inv-loop a n xs long next hashes₀ i₀ hashes i = (i ≤ length xs) × Hashed hashes (drop i xs) × (allFlying (drop i xs) (rowOffs (rowsFrom a 0 n)) ≡ true)
 
 abbrev μ-loop : tie.MeasureT-loop
-μ-loop a n xs long next marks₀ i₀ marks i = i
+μ-loop a n xs long next hashes₀ i₀ hashes i = i
 
 whole : (l : List ℕ) (i : ℕ) → take (length l - i) (drop i l) ≡ drop i l
 whole l i = take-all (length l - i) (drop i l) (omega (arith, length-drop i l))
@@ -36,7 +36,7 @@ returns : tie.Need-returns Inv-loop μ-loop
 returns c = sym (flying-end _ _ 0 (omega (arith, c .if1 .taken)))
 
 loop-holds : tie.Need-loop-holds Inv-loop μ-loop
-loop-holds c = let xs = now (c .before .before .before .args .xs) in (le-refl _, marked-end _ xs (length xs) (le-refl _) refl, flying-end xs _ (length xs) (le-refl _))
+loop-holds c = let xs = now (c .before .before .before .args .xs) in (le-refl _, hashed-end _ xs (length xs) (le-refl _) refl, flying-end xs _ (length xs) (le-refl _))
 
 sub-x : tie.Need-sub-x Inv-loop μ-loop
 sub-x c = search needs
@@ -59,25 +59,25 @@ returns-2 c =
     let d = e .before .before in
     sym (flying-part _ _ (d .before .loop .i - 1) (turned d ∙ simp (sym (e .flies-near .ensures) ∙ not-true (e .flies-near .result) (c .if2 .taken))))
 
-slice-aggregate-contains-marked : tie.Need-slice-aggregate-contains-marked Inv-loop μ-loop
-slice-aggregate-contains-marked c = search needs
+slice-aggregate-contains-hashed : tie.Need-slice-aggregate-contains-hashed Inv-loop μ-loop
+slice-aggregate-contains-hashed c = search needs
 
-mul-contains-marked : tie.Need-mul-contains-marked Inv-loop μ-loop
-mul-contains-marked c = search needs
+mul-contains-hashed : tie.Need-mul-contains-hashed Inv-loop μ-loop
+mul-contains-hashed c = search needs
 
-sub-contains-marked : tie.Need-sub-contains-marked Inv-loop μ-loop
-sub-contains-marked c = search needs
+sub-contains-hashed : tie.Need-sub-contains-hashed Inv-loop μ-loop
+sub-contains-hashed c = search needs
 
-part-contains-marked-start : tie.Need-part-contains-marked-start Inv-loop μ-loop
-part-contains-marked-start c = search needs
+part-contains-hashed-start : tie.Need-part-contains-hashed-start Inv-loop μ-loop
+part-contains-hashed-start c = search needs
 
-part-contains-marked-end : tie.Need-part-contains-marked-end Inv-loop μ-loop
-part-contains-marked-end c = search needs
+part-contains-hashed-end : tie.Need-part-contains-hashed-end Inv-loop μ-loop
+part-contains-hashed-end c = search needs
 
-contains-marked-requires : tie.Need-contains-marked-requires Inv-loop μ-loop
-contains-marked-requires c κs =
+contains-hashed-requires : tie.Need-contains-hashed-requires Inv-loop μ-loop
+contains-hashed-requires c κs =
     let p = c .before .before .before .before .before .before in
-    subst (Marked (p .loop .marks)) (sym (whole (now (p .before .before .before .before .args .xs)) (p .loop .i))) (p .loop .inv .1)
+    subst (Hashed (p .loop .hashes)) (sym (whole (now (p .before .before .before .before .args .xs)) (p .loop .i))) (p .loop .inv .1)
 
 returns-3 : tie.Need-returns-3 Inv-loop μ-loop
 returns-3 c =
@@ -88,29 +88,29 @@ returns-3 c =
     let a = p .before .before .before .before .args in
     let x = getD (now (a .xs)) (p .loop .i - 1) 0 in
     let f : listed x (rowOffs (rowsFrom (now (a .a)) 0 (a .n))) ≡ true = sym (e .before .flies-near .ensures) ∙ not-false (e .before .flies-near .result) (e .if2 .left) in
-    let l : listed x (drop (p .loop .i) (now (a .xs))) ≡ true = ap (listed x) (sym (whole (now (a .xs)) (p .loop .i))) ∙ sym (sr .contains-marked .ensures) ∙ c .if3 .taken in
+    let l : listed x (drop (p .loop .i) (now (a .xs))) ≡ true = ap (listed x) (sym (whole (now (a .xs)) (p .loop .i))) ∙ sym (sr .contains-hashed .ensures) ∙ c .if3 .taken in
     sym (flying-part _ _ (p .loop .i - 1) (turned d ∙ simp (f, l)))
 
-slice-aggregate-mark : tie.Need-slice-aggregate-mark Inv-loop μ-loop
-slice-aggregate-mark c = search needs
+slice-aggregate-hash : tie.Need-slice-aggregate-hash Inv-loop μ-loop
+slice-aggregate-hash c = search needs
 
-sub-mark : tie.Need-sub-mark Inv-loop μ-loop
-sub-mark c = search needs
+sub-hash : tie.Need-sub-hash Inv-loop μ-loop
+sub-hash c = search needs
 
-mul-mark : tie.Need-mul-mark Inv-loop μ-loop
-mul-mark c = search needs
+mul-hash : tie.Need-mul-hash Inv-loop μ-loop
+mul-hash c = search needs
 
-sub-mark-2 : tie.Need-sub-mark-2 Inv-loop μ-loop
-sub-mark-2 c = search needs
+sub-hash-2 : tie.Need-sub-hash-2 Inv-loop μ-loop
+sub-hash-2 c = search needs
 
-part-mark-start : tie.Need-part-mark-start Inv-loop μ-loop
-part-mark-start c = search needs
+part-hash-start : tie.Need-part-hash-start Inv-loop μ-loop
+part-hash-start c = search needs
 
-part-mark-end : tie.Need-part-mark-end Inv-loop μ-loop
-part-mark-end c = search needs
+part-hash-end : tie.Need-part-hash-end Inv-loop μ-loop
+part-hash-end c = search needs
 
-mark-requires : tie.Need-mark-requires Inv-loop μ-loop
-mark-requires c κs = search needs
+hash-requires : tie.Need-hash-requires Inv-loop μ-loop
+hash-requires c κs = search needs
 
 sub-i : tie.Need-sub-i Inv-loop μ-loop
 sub-i c = search needs
@@ -129,12 +129,12 @@ loop-again c =
     let a = p .before .before .before .before .args in
     let x = getD (now (a .xs)) (p .loop .i - 1) 0 in
     let f : listed x (rowOffs (rowsFrom (now (a .a)) 0 (a .n))) ≡ true = sym (e .before .flies-near .ensures) ∙ not-false (e .before .flies-near .result) (e .if2 .left) in
-    let l : listed x (drop (p .loop .i) (now (a .xs))) ≡ false = ap (listed x) (sym (whole (now (a .xs)) (p .loop .i))) ∙ sym (sr .contains-marked .ensures) ∙ o .if3 .left in
+    let l : listed x (drop (p .loop .i) (now (a .xs))) ≡ false = ap (listed x) (sym (whole (now (a .xs)) (p .loop .i))) ∙ sym (sr .contains-hashed .ensures) ∙ o .if3 .left in
     let t = d .loop-test .taken in
     let b = p .loop .inv .0 in (
       omega (arith, b),
-      subst (Marked _) (sym (drop-back (now (a .xs)) (p .loop .i) t b))
-          (marked-more _ (p .loop .marks) (drop (p .loop .i) (now (a .xs))) x (m .mark .ensures ∙ ap (markAll (p .loop .marks)) (take-back (now (a .xs)) (p .loop .i) t b)) (p .loop .inv .1)),
+      subst (Hashed _) (sym (drop-back (now (a .xs)) (p .loop .i) t b))
+          (hashed-more _ (p .loop .hashes) (drop (p .loop .i) (now (a .xs))) x (m .hash .ensures ∙ ap (hashAll (p .loop .hashes)) (take-back (now (a .xs)) (p .loop .i) t b)) (p .loop .inv .1)),
       turned d ∙ simp (f, l, p .loop .inv .2),
     )
 
@@ -159,20 +159,20 @@ all-flying-spec =
     sub-flies-near
     flies-near-requires
     returns-2
-    slice-aggregate-contains-marked
-    mul-contains-marked
-    sub-contains-marked
-    part-contains-marked-start
-    part-contains-marked-end
-    contains-marked-requires
+    slice-aggregate-contains-hashed
+    mul-contains-hashed
+    sub-contains-hashed
+    part-contains-hashed-start
+    part-contains-hashed-end
+    contains-hashed-requires
     returns-3
-    slice-aggregate-mark
-    sub-mark
-    mul-mark
-    sub-mark-2
-    part-mark-start
-    part-mark-end
-    mark-requires
+    slice-aggregate-hash
+    sub-hash
+    mul-hash
+    sub-hash-2
+    part-hash-start
+    part-hash-end
+    hash-requires
     sub-i
     loop-less
     loop-again

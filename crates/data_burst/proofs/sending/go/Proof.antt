@@ -3,7 +3,7 @@ use denote.Ref.{now}
 use lib.ListN.{length, take, length-take}
 use lib.Seq.{length-take-le}
 use borrow.Author.Needs.{needs, length-unmapped}
-use Rattle.area.proofs.removal.Laws.{length-marks, marked-by}
+use Rattle.area.proofs.removal.Laws.{length-hashes, hashed-by}
 use Rattle.data_burst.proofs.sending.Laws.{parity-few, held-fits, pick-able, shows, bytes-few, done}
 use Prim.Native.Nat.{ℕ, _-_, _≤_}
 use mathlib.Core.Path.{_≡_, refl, sym, ap, _∙_}
@@ -40,20 +40,20 @@ plan-requires c κs = let s = c .before .before .before .before .before in (s .p
 keep-requires : tie.Need-keep-requires
 keep-requires c κs = let s = c .before .before .before .before .before .before in parity-few (s .args .q) (s .args .c) (s .args .payload) (s .args .merging) (s .args .s) (now (s .args .a)) (s .args .size) (now (s .args .out)) (s .pre .1) _ (c .plan .ensures)
 
-slice-aggregate-mark : tie.Need-slice-aggregate-mark
-slice-aggregate-mark c = refl
+slice-aggregate-hash : tie.Need-slice-aggregate-hash
+slice-aggregate-hash c = refl
 
 array-share-prefix-off : tie.Need-array-share-prefix-off
 array-share-prefix-off c = fits (c .before .before)
 
-slice-aggregate-mark-2 : tie.Need-slice-aggregate-mark-2
-slice-aggregate-mark-2 c = count (c .before .before .before)
+slice-aggregate-hash-2 : tie.Need-slice-aggregate-hash-2
+slice-aggregate-hash-2 c = count (c .before .before .before)
 
-mark-requires : tie.Need-mark-requires
-mark-requires c κs = refl
+hash-requires : tie.Need-hash-requires
+hash-requires c κs = refl
 
 slice-aggregate-cut : tie.Need-slice-aggregate-cut
-slice-aggregate-cut c = sym (ap length (c .before .before .before .mark .ensures) ∙ length-marks _ _)
+slice-aggregate-cut c = sym (ap length (c .before .before .before .hash .ensures) ∙ length-hashes _ _)
 
 array-share-prefix-off-2 : tie.Need-array-share-prefix-off-2
 array-share-prefix-off-2 c = fits (c .before .before .before .before .before .before .before)
@@ -62,13 +62,13 @@ slice-aggregate-cut-2 : tie.Need-slice-aggregate-cut-2
 slice-aggregate-cut-2 c = count (c .before .before .before .before .before .before .before .before)
 
 cut-requires : tie.Need-cut-requires
-cut-requires c κs = let p = c .before .before .before .before .before .before .before .before .before .before .before .before .before .before .before .pre .1 in (p .pieces, p .area, p .bound, p .cuts, p .ends, marked-by _ _ _ (c .before .before .before .before .mark .ensures) refl)
+cut-requires c κs = let p = c .before .before .before .before .before .before .before .before .before .before .before .before .before .before .before .pre .1 in (p .pieces, p .area, p .bound, p .cuts, p .ends, hashed-by _ _ _ (c .before .before .before .before .hash .ensures) refl)
 
 slice-aggregate-pick : tie.Need-slice-aggregate-pick
-slice-aggregate-pick c = sym (ap length (c .before .before .before .before .before .before .before .before .before .mark .ensures) ∙ length-marks _ _)
+slice-aggregate-pick c = sym (ap length (c .before .before .before .before .before .before .before .before .before .hash .ensures) ∙ length-hashes _ _)
 
 pick-requires : tie.Need-pick-requires
-pick-requires c κs = let k = c .before .before .before .before .before .before .before .before .before .before .before .before .before in let s = S k in (pick-able (s .args .q) (s .args .c) (s .args .payload) (s .args .merging) (s .args .s) (now (s .args .a)) (s .args .size) (now (s .args .out)) (s .pre .1) _ (k .before .plan .ensures) _ (k .keep .ensures) _ (c .before .before .before .before .cut .ensures), marked-by _ _ _ (c .before .before .before .before .before .before .before .before .before .mark .ensures) refl)
+pick-requires c κs = let k = c .before .before .before .before .before .before .before .before .before .before .before .before .before in let s = S k in (pick-able (s .args .q) (s .args .c) (s .args .payload) (s .args .merging) (s .args .s) (now (s .args .a)) (s .args .size) (now (s .args .out)) (s .pre .1) _ (k .before .plan .ensures) _ (k .keep .ensures) _ (c .before .before .before .before .cut .ensures), hashed-by _ _ _ (c .before .before .before .before .before .before .before .before .before .hash .ensures) refl)
 
 put-frames-requires : tie.Need-put-frames-requires
 put-frames-requires c κs = let k = c .before .before .before .before .before .before .before .before .before .before .before .before .before .before .before .before .before .before .before in let s = S k in let w = shows (s .args .q) (s .args .c) (s .args .payload) (s .args .merging) (s .args .s) (now (s .args .a)) (s .args .size) (now (s .args .out)) (s .pre .1) _ (k .before .plan .ensures) _ (k .keep .ensures) _ (c .before .before .before .before .before .before .before .before .before .before .cut .ensures) _ (c .before .before .before .before .before .pick .ensures) in (s .pre .0, w .0, w .1, w .2, w .3)
@@ -93,10 +93,10 @@ go-spec =
     slice-aggregate-plan
     plan-requires
     keep-requires
-    slice-aggregate-mark
+    slice-aggregate-hash
     array-share-prefix-off
-    slice-aggregate-mark-2
-    mark-requires
+    slice-aggregate-hash-2
+    hash-requires
     slice-aggregate-cut
     array-share-prefix-off-2
     slice-aggregate-cut-2

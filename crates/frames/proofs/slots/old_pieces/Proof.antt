@@ -15,10 +15,10 @@ use Rattle.frames.proofs.slots.old_pieces.Tie as tie
 use Rattle.limits.specs.Limits.{maxSlots}
 
 abbrev Inv-loop : tie.InvT-loop
-Inv-loop a n marks held room bits s₀ left₀ start₀ i₀ s left start i = Choosing s₀ a n held room bits s left start i
+Inv-loop a n hashes held room bits s₀ left₀ start₀ i₀ s left start i = Choosing s₀ a n held room bits s left start i
 
 abbrev μ-loop : tie.MeasureT-loop
-μ-loop a n marks held room bits s₀ left₀ start₀ i₀ s left start i = n - i
+μ-loop a n hashes held room bits s₀ left₀ start₀ i₀ s left start i = n - i
 
 -- in a turn
 more : (d : tie.In-loop Inv-loop μ-loop) → d .before .loop .i < d .before .before .before .before .before .args .n
@@ -37,8 +37,8 @@ loop-holds c = let s = c .before .before .before in choosing-start _ _ _ _ _ _ (
 load-row-requires : tie.Need-load-row-requires Inv-loop μ-loop
 load-row-requires c κs = omega (arith, more c)
 
-contains-marked-requires : tie.Need-contains-marked-requires Inv-loop μ-loop
-contains-marked-requires c κs = search needs
+contains-hashed-requires : tie.Need-contains-hashed-requires Inv-loop μ-loop
+contains-hashed-requires c κs = search needs
 
 add-start : tie.Need-add-start Inv-loop μ-loop
 add-start c = omega (arith, fits (c .before .before))
@@ -52,7 +52,7 @@ loop-less c = omega (arith, more (c .before .before .before))
 loop-again : tie.Need-loop-again Inv-loop μ-loop
 loop-again c =
     let d = c .before .before in
-    choosing-held _ _ _ _ _ _ _ _ _ _ _ (d .before .before .loop .inv) (more (d .before)) (d .load-row .ensures) (sym (c .before .contains-marked .ensures) ∙ c .if1 .taken)
+    choosing-held _ _ _ _ _ _ _ _ _ _ _ (d .before .before .loop .inv) (more (d .before)) (d .load-row .ensures) (sym (c .before .contains-hashed .ensures) ∙ c .if1 .taken)
 
 mul-s : tie.Need-mul-s Inv-loop μ-loop
 mul-s c = omega (arith, space (c .before .before .before))
@@ -103,7 +103,7 @@ loop-again-2 : tie.Need-loop-again-2 Inv-loop μ-loop
 unfolding slotPushed
 loop-again-2 c =
     let d = c .before .before in
-    choosing-unheld _ _ _ _ _ _ _ _ _ _ _ (d .before .before .loop .inv) (more (d .before)) (d .load-row .ensures) _ refl (sym (c .before .contains-marked .ensures) ∙ c .if1 .left) (space (d .before) .0)
+    choosing-unheld _ _ _ _ _ _ _ _ _ _ _ (d .before .before .loop .inv) (more (d .before)) (d .load-row .ensures) _ refl (sym (c .before .contains-hashed .ensures) ∙ c .if1 .left) (space (d .before) .0)
 
 returns : tie.Need-returns Inv-loop μ-loop
 returns c =
@@ -120,7 +120,7 @@ old-pieces-spec =
     μ-loop
     loop-holds
     load-row-requires
-    contains-marked-requires
+    contains-hashed-requires
     add-start
     add-i
     loop-less

@@ -1,16 +1,16 @@
--- `merge_case` is safe: each held offset has its mark. Assumes nothing.
+-- `merge_case` is safe: each held offset has its hash. Assumes nothing.
 use Prim.Native.Nat.{ℕ}
-use Rattle.area.proofs.removal.Laws.{marked-by}
+use Rattle.area.proofs.removal.Laws.{hashed-by}
 use lib.ListN.{length-replicate}
 use borrow.Author.Needs.{needs}
 use Rattle.reckoned.proofs.rows.merge_case.Statement.{statement}
 use Rattle.reckoned.proofs.rows.merge_case.Tie as tie
 
-slice-aggregate-mark : tie.Need-slice-aggregate-mark
-slice-aggregate-mark c = search needs
+slice-aggregate-hash : tie.Need-slice-aggregate-hash
+slice-aggregate-hash c = search needs
 
-mark-requires : tie.Need-mark-requires
-mark-requires c κs = search needs
+hash-requires : tie.Need-hash-requires
+hash-requires c κs = search needs
 
 store-row-requires : tie.Need-store-row-requires
 store-row-requires c κs = search needs
@@ -27,7 +27,7 @@ slice-aggregate-merge-table c = search needs
 merge-table-requires : tie.Need-merge-table-requires
 merge-table-requires c κs =
     let d = c .before .before .before .before .before .before .before .before .before .before .before .before .before .before in
-    let m = marked-by _ _ _ (d .before .mark .ensures) (length-replicate {A = ℕ} 2048 0) in
+    let m = hashed-by _ _ _ (d .before .hash .ensures) (length-replicate {A = ℕ} 2048 0) in
     (search needs, search needs, m)
 
 say-rows-requires : tie.Need-say-rows-requires
@@ -43,8 +43,8 @@ pub merge-case-spec : {M : Type 1} → statement M
 merge-case-spec =
     tie.close
     (tie.spec
-    slice-aggregate-mark
-    mark-requires
+    slice-aggregate-hash
+    hash-requires
     store-row-requires
     store-row-requires-2
     store-row-requires-3
