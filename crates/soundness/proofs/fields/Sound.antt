@@ -9,6 +9,7 @@ use borrow.Author.Tests.{leb-true, le-leb, eq-eqb}
 use lib.ListN.{length, take, drop, length-take, length-drop, take-append-drop}
 use lib.Seq.{length-take-le}
 use lib.Ieee.{le, lt, eq, neg, ofInt, ofBits}
+use Rattle.ieee.specs.Range.{inside}
 use Rattle.laws.specs.Bytes.{part}
 use Rattle.laws.specs.Lists.{listed}
 use Rattle.laws.specs.Tests.{all}
@@ -284,11 +285,11 @@ profile-sizes p r o =
 -- ---- a fresh record
 
 fresh-gear : gearOk freshGear ≡ true
-unfolding all from upto every keptOk keptIfOk reportsOk rememberedOk gearOk le lt eq neg ofInt ofBits
+unfolding all from upto every inside keptOk keptIfOk reportsOk rememberedOk gearOk le lt eq neg ofInt ofBits
 fresh-gear = refl
 
 fresh-link : linkOk freshLink ≡ true
-unfolding all linkOk le lt eq neg ofInt ofBits
+unfolding all inside linkOk le lt eq neg ofInt ofBits
 fresh-link = refl
 
 pub fresh-is-sound : (p : Profile) (a : List ℕ) → areaBytes ≤ length a → SoundRecord p fresh a

@@ -50,11 +50,14 @@ cast-result-3 c = search needs
 cast-result-4 : tie.Need-cast-result-4
 cast-result-4 c = search needs
 
+cast-result-5 : tie.Need-cast-result-5
+cast-result-5 c = search needs
+
 add-result-3 : tie.Need-add-result-3
 add-result-3 c = search needs
 
-cast-result-5 : tie.Need-cast-result-5
-cast-result-5 c = search needs
+cast-result-6 : tie.Need-cast-result-6
+cast-result-6 c = search needs
 
 returns-2 : tie.Need-returns-2
 unfolding countsOk all
@@ -79,6 +82,7 @@ counts-ok-spec =
     add-result-2
     cast-result-3
     cast-result-4
-    add-result-3
     cast-result-5
+    add-result-3
+    cast-result-6
     returns-2)
