@@ -11,7 +11,7 @@ use Rattle.laws.specs.Bytes.{overwrite}
 use Rattle.calendar.specs.Calendar.{lastSecond}
 use Rattle.adif.specs.declared.Logged.{Logged}
 use Rattle.adif.specs.Adif.{signOk, refusalOf, recordOf, logOf}
-use Rattle.adif.specs.Put.{Put}
+use Rattle.adif.specs.AdifCode.{Put}
 use Rattle.adif.proofs.Steps.{sign-length}
 
 no : (b : Bool) (x y : ℕ) → cond b (suc x) y ≡ 0 → (b ≡ false) × (y ≡ 0)

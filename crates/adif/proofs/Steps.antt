@@ -21,7 +21,7 @@ use Rattle.calendar.specs.Calendar.{dateOf, timeOf}
 use lib.Seq.{take-at}
 use Rattle.adif.specs.Adif.{«CALL», «QSO_DATE», «TIME_ON», «QSO_DATE_OFF», «TIME_OFF», «APP_STATION_ACKED»}
 use Rattle.adif.specs.Adif.{digits, places, decimal, dateText, timeText, written, writtenAll, recordOf, signChar, signOk}
-use Rattle.adif.specs.Put.{Put, moment}
+use Rattle.adif.specs.AdifCode.{Put, moment}
 
 -- ---- the loop that counts digits
 

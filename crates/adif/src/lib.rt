@@ -9,7 +9,7 @@ ghost use lib.ListN.{length};
 ghost use Rattle.laws.specs.Bytes.{overwrite};
 ghost use Rattle.adif.specs.Adif.{digits, places, decimal, dateText, timeText, written, recordOf};
 ghost use Rattle.adif.specs.Adif.{signChar, signOk, refusalOf, logOf};
-ghost use Rattle.adif.specs.Put.{Put, moment};
+ghost use Rattle.adif.specs.AdifCode.{Put, moment};
 
 // 31 December 2099, 23:59:59.
 const LAST_SECOND: u64 = 4102444799;

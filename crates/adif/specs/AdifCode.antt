@@ -1,4 +1,4 @@
--- What the writer's steps leave, one after the other; no claim rests on it. Definitions only.
+-- The link log: what the writer's steps leave. What follows the code or serves proofs; nothing here has to be believed.
 use Prim.Native.Nat.{ℕ, _+_}
 use mathlib.Core.Path.{_≡_}
 use mathlib.Core.List.{List, _++_}
