@@ -3,7 +3,6 @@ use mathlib.Core.List.{List, [], _∷_}
 use mathlib.Core.Bool.{true, false, cond}
 use Prim.Native.Nat.{ℕ, _+_}
 use lib.Dec.{eqb}
-use Rattle.laws.specs.Bytes.{part}
 use Rattle.area.specs.declared.table.Row.{Row}
 use Rattle.area.specs.declared.lookup.Found.{Found}
 
@@ -11,7 +10,3 @@ use Rattle.area.specs.declared.lookup.Found.{Found}
 unfoldable pub findFrom : ℕ → ℕ → List Row → Found
 findFrom off start [] = record { here = false; start = 0; len = 0 }
 findFrom off start (r ∷ rs) = cond (eqb off (r .off)) (record { here = true; start = start; len = r .len }) (findFrom off (start + r .len) rs)
-
--- the bytes that were found; none where there is no piece
-abbrev pub bytesAt : List ℕ → Found → List ℕ
-bytesAt a f = part a (f .start) (f .len)

@@ -1,12 +1,13 @@
--- Pieces re-cut to a frame's payload in `data_burst`, and neighbours merged by `merge_inflight` (sender.rs), on the table's rows. Definitions only.
+-- Pieces re-cut to a frame's payload in `data_burst`, and neighbours merged by `merge_inflight` (sender.rs), on the table's rows. Follows the code or serves proofs: nothing here has to be believed.
 use mathlib.Core.List.{List, [], _∷_, _++_}
 use mathlib.Core.Bool.{Bool, cond, not, _&&_}
 use Prim.Native.Nat.{ℕ, zero, suc, _+_, _-_}
 use lib.ListN.{length}
 use lib.Dec.{leb, eqb}
 use Rattle.laws.specs.Lists.{listed}
-use Rattle.area.specs.Table.{rowsFrom, withRows}
+use Rattle.area.specs.Table.{rowsFrom}
 use Rattle.area.specs.declared.table.Row.{Row}
+use Rattle.area.specs.TableCode.{withRows}
 
 abbrev pub row : ℕ → ℕ → Row
 row o n = record { off = o; len = n }

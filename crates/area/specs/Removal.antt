@@ -1,4 +1,4 @@
--- Offsets that are looked for by hashes, and pieces that leave the table and the stream in one pass. Definitions only.
+-- Offsets that are looked for by hashes, and pieces that leave the table and the stream in one pass. Follows the code or serves proofs: nothing here has to be believed.
 use mathlib.Core.List.{List, [], _∷_, _++_}
 use mathlib.Core.Path.{_≡_}
 use mathlib.Core.Bool.{cond}
@@ -6,9 +6,10 @@ use Prim.Native.Nat.{ℕ, _*_, _/_, _%_, _<_}
 use lib.ListN.{length, take, drop, getD, set}
 use Rattle.laws.specs.Lists.{listed}
 use Rattle.laws.specs.Bytes.{overwrite, part}
-use Rattle.area.specs.Table.{rowsFrom, withRows, total}
+use Rattle.area.specs.Table.{rowsFrom, total}
 use Rattle.area.specs.declared.table.Row.{Row}
 use Rattle.area.specs.declared.removal.Kept.{Kept}
+use Rattle.area.specs.TableCode.{withRows}
 
 -- ---- hashes
 

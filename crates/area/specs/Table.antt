@@ -1,7 +1,6 @@
 -- The table of the pieces in flight (`inflight` of sender.rs): rows of eight bytes, an offset and a length, low byte first. Definitions only.
 use mathlib.Core.List.{List, [], _∷_, _++_}
-use Prim.Native.Nat.{ℕ, zero, suc, _+_, _^_, _<_}
-use Rattle.laws.specs.Bytes.{overwrite}
+use Prim.Native.Nat.{ℕ, zero, suc, _+_}
 use Rattle.laws.specs.Little.{le, load}
 use Rattle.area.specs.Layout.{place}
 use Rattle.area.specs.declared.table.Row.{Row}
@@ -18,15 +17,6 @@ rowsFrom a i (suc n) = rowAt a i ∷ rowsFrom a (i + 1) n
 abbrev pub tableBytes : List Row → List ℕ
 tableBytes [] = []
 tableBytes (r ∷ rs) = le 4 (r .off) ++ (le 4 (r .len) ++ tableBytes rs)
-
--- the work area with these rows from row i on
-abbrev pub withRows : List ℕ → ℕ → List Row → List ℕ
-withRows a i rs = overwrite a (place i) (tableBytes rs)
-
--- every field is a u32
-abbrev pub Small : List Row → Type 0
-Small [] = Unit {0}
-Small (r ∷ rs) = (r .off < 2 ^ 32) × (r .len < 2 ^ 32) × Small rs
 
 -- the bytes of the pieces, all together
 unfoldable pub total : List Row → ℕ

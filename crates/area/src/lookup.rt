@@ -5,8 +5,9 @@ ghost use Prim.Native.Nat.{_≤_};
 ghost use lib.ListN.{length};
 ghost use Rattle.area.specs.Layout.{areaBytes, streamBytes};
 ghost use Rattle.area.specs.Table.{rowsFrom, total};
-ghost use Rattle.area.specs.Find.{findFrom, bytesAt};
+ghost use Rattle.area.specs.Find.{findFrom};
 ghost use Rattle.limits.specs.Limits.{maxPieces};
+ghost use Rattle.area.specs.FindCode.{bytesAt};
 
 // Whether there is a piece, and where its bytes lie in the stream.
 pub struct Found {

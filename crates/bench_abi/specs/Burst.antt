@@ -1,4 +1,4 @@
--- Frames of one payload, one after the other. Definitions only.
+-- Frames of one payload, one after the other. Follows the code or serves proofs: nothing here has to be believed.
 use mathlib.Core.List.{List}
 use Prim.Native.Nat.{ℕ, _*_}
 use lib.ListN.{length}

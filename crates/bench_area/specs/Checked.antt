@@ -1,4 +1,4 @@
--- The sound record's tests of the table and of the lists, one after the other. Definitions only.
+-- The sound record's tests of the table and of the lists, one after the other. Follows the code or serves proofs: nothing here has to be believed.
 use mathlib.Core.List.{List}
 use mathlib.Core.Bool.{Bool, _&&_}
 use Prim.Native.Nat.{ℕ}

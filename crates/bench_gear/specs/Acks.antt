@@ -1,4 +1,4 @@
--- Acks one after the other. Definitions only.
+-- Acks one after the other. Follows the code or serves proofs: nothing here has to be believed.
 use Prim.Native.Nat.{ℕ}
 use mathlib.Core.Bool.{true, false}
 use lib.ListN.{replicate}
@@ -6,7 +6,7 @@ use lib.Ieee.{Float, binary32, binary64, ofBits}
 use Rattle.laws.specs.Steps.{steps}
 use Rattle.defaults.specs.Default.{newProfile}
 use Rattle.config.specs.declared.MaybeDb.{MaybeDb}
-use Rattle.gear.specs.declared.goodput.Gear.{Gear}
+use Rattle.gear.specs.declared.Gear.{Gear}
 use Rattle.gear.specs.declared.Outcome.{Outcome}
 use Rattle.gear.specs.Judging.{onAck}
 

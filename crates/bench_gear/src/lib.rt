@@ -1,9 +1,8 @@
 // What bench/ measures of the gear, as a function for C.
 use config::MaybeDb;
 use defaults::new_profile;
+use gear::Gear;
 use gear::Outcome;
-use gear::goodput::Gear;
-use gear::on_ack;
 use levels::memory::Reports;
 use levels::memory::Tries;
 use levels::usable::Holds;
@@ -69,7 +68,7 @@ pub extern "C" fn vanitycrow_acks(n: u64, snr_db: f32, now: f64) -> usize
     let mut g = tried();
     let mut i = 0;
     while i < n {
-        g = on_ack(g, cfg, burst, snr_db, now);
+        g = g.on_ack(cfg, burst, snr_db, now);
         i += 1;
     }
     g.level

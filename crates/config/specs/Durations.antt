@@ -2,8 +2,8 @@
 use mathlib.Core.Bool.{Bool, cond}
 use Prim.Native.Nat.{ℕ, _*_}
 use lib.ListN.{getD}
-use lib.Ieee.{Float, nan, binary64, add, ofBits}
-use Rattle.float.specs.Gear.{duration}
+use lib.Ieee.{Float, nan}
+use Rattle.float.specs.Gear.{duration, cueS, dataS}
 use Rattle.level.specs.Ladder.{longFrame}
 use Rattle.config.specs.declared.Air.{Air}
 use Rattle.config.specs.declared.Profile.{Profile}
@@ -28,9 +28,9 @@ durationAt a l bits = duration (getD (a .«pre_s») l nan) (getD (a .rate) l nan
 unfoldable pub ackAt : Air → ℕ → Float
 ackAt a w = getD (a .«ack_s») w nan
 
--- data_s of gear.rs: behind a cue or not
-unfoldable pub dataS : Air → ℕ → ℕ → Bool → Float
-dataS a l bits cue = add binary64 (durationAt a l bits) (cond cue (a .«cue_s») (ofBits binary64 0))
+-- `data_s` of a burst of so many bits at level l, behind a cue or not
+unfoldable pub dataAt : Air → ℕ → ℕ → Bool → Float
+dataAt a l bits cue = dataS (getD (a .«pre_s») l nan) (getD (a .rate) l nan) bits (cueS cue (a .«cue_s»))
 
 -- Level::frame_bytes of level l
 unfoldable pub frameBytes : Profile → ℕ → ℕ

@@ -1,4 +1,4 @@
--- What refusal 1 leaves, as facts: proofs/ranges/Ranged.antt proves that `inRange` is true exactly where `Ranged` holds. Definitions only.
+-- What refusal 1 leaves, as facts: proofs/ranges/Ranged.antt proves that `inRange` is true exactly where `Ranged` holds. Follows the code or serves proofs: nothing here has to be believed.
 use mathlib.Core.Path.{_≡_}
 use mathlib.Core.Bool.{true}
 use Prim.Native.Nat.{ℕ, _<_, _≤_}

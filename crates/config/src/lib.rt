@@ -2,7 +2,7 @@
 use harq::Harq;
 ghost use mathlib.Core.Path.{_≡_};
 ghost use Prim.Native.Nat.{_*_, _<_};
-ghost use Rattle.config.specs.Durations.{slotAt, frameBits, maxBitsAt, durationAt, ackAt, dataS, frameBytes};
+ghost use Rattle.config.specs.Durations.{slotAt, frameBits, maxBitsAt, durationAt, ackAt, dataAt, frameBytes};
 ghost use Rattle.config.specs.Entries.{entryAt};
 
 pub mod ranges;
@@ -144,13 +144,10 @@ impl Air {
     // data_s of gear.rs: behind a cue or not.
     pub fn data_s(self, l: usize, bits: u64, cue: bool) -> f64
         requires { ⌜ l < 17 ⌝ }
-        ensures { λ r. ⌜ r ≡ dataS self l bits cue ⌝ }
+        ensures { λ r. ⌜ r ≡ dataAt self l bits cue ⌝ }
     {
-        let s = self.duration(l, bits);
-        if cue {
-            return s + self.cue_s;
-        }
-        s + 0.0
+        let lead = float::gear::cue_s(cue, self.cue_s);
+        float::gear::data_s(self.pre_s[l], self.rate[l], bits, lead)
     }
 }
 

@@ -1,4 +1,4 @@
--- `data_burst` (sender.rs) on the record's lists and the work area's rows, step by step. Definitions only.
+-- `data_burst` (sender.rs) on the record's lists and the work area's rows, step by step. Follows the code or serves proofs: nothing here has to be believed.
 use mathlib.Core.List.{List}
 use mathlib.Core.Path.{_≡_}
 use mathlib.Core.Bool.{Bool, true, false, cond}
@@ -17,7 +17,6 @@ use Rattle.frames.specs.declared.slots.Added.{Added}
 use Rattle.frames.specs.declared.slots.Slot.{Slot}
 use Rattle.frames.specs.declared.slots.Slots.{Slots}
 use Rattle.frames.specs.Frames.{framesWritten, Fit}
-use Rattle.plan.specs.Planning.{CodesRange, planned}
 use Rattle.plan.specs.declared.Choice.{Choice}
 use Rattle.plan.specs.declared.Planned.{Planned}
 use Rattle.record.specs.Setters.{withLink, withCounts, withAtPeer, withLastBurst, withAwaiting, withNumber, withNext, withWaiting, withFlying, withPieces}
@@ -28,6 +27,7 @@ use Rattle.record.specs.declared.Link.{Link}
 use Rattle.record.specs.declared.Sender.{Sender}
 use Rattle.data_burst.specs.declared.sending.Sending.{Sending}
 use Rattle.limits.specs.Limits.{maxSlots, maxPieces, maxTaken, maxHeld}
+use Rattle.plan.specs.PlanningCode.{CodesRange, planned}
 
 -- ---- the held list
 

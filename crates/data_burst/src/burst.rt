@@ -8,9 +8,9 @@ ghost use Prim.Native.Nat.{_*_, _≤_};
 ghost use lib.ListN.{length};
 ghost use Rattle.config.specs.Ranged.{Ranged};
 ghost use Rattle.config.specs.Ranges.{inOrder};
-ghost use Rattle.soundness.specs.Soundness.{SoundRecord};
 ghost use Rattle.outgoing.specs.Outgoing.{burstOf};
 ghost use Rattle.limits.specs.Limits.{maxSlots};
+ghost use Rattle.soundness.specs.SoundnessCode.{SoundRecord};
 
 // The answer of a burst and the next record.
 pub struct Burst {

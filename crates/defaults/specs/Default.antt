@@ -1,4 +1,4 @@
--- The default profile: the values of `Config::new` (config.rs) and document 01's reckoned harq numbers. What the files lack, the
+-- The default profile: the values of `Config::new` (config.rs) and document 01's reckoned harq numbers. What the files lack, the. Follows the code or serves proofs: nothing here has to be believed.
 -- air, is chosen (docs/DECISIONS.md). Floats are given by their bits. Definitions only.
 use mathlib.Core.Bool.{true, false}
 use mathlib.Core.List.{List, [], _∷_}

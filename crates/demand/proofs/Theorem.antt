@@ -16,7 +16,7 @@ use Rattle.config.specs.Ranged.{Ranged}
 use Rattle.config.specs.Ranges.{inRange, inOrder}
 use Rattle.config.proofs.ranges.Ranged.{ranged}
 use Rattle.ledger.specs.Ledger as L
-use Rattle.ledger.specs.Calls.{Along, run, history, tally, idle}
+use Rattle.ledger.specs.Calls.{Along, run, history, tally}
 use Rattle.ledger.specs.Claim.{Demand3}
 use Rattle.ledger.specs.Tally as T
 use Rattle.ledger.specs.Tally.{silent}
@@ -43,7 +43,9 @@ use Rattle.demand.specs.Claim.{reached, Demand}
 use Rattle.demand.proofs.Answers.{queue-no, queue-told, hear-no, hear-told, burst-no, burst-silent, burst-is}
 use Rattle.demand.proofs.Steps.{sizes, Ok, call, does, does-burst}
 use Rattle.limits.specs.Limits.{minPayload}
-use Rattle.ledger.specs.Sizes.{Sizes, SizeRange}
+use Rattle.ledger.specs.Sizes.{Sizes}
+use Rattle.ledger.specs.CallsCode.{idle}
+use Rattle.ledger.specs.SizesCode.{SizeRange}
 
 zeros-bytes : (n : ℕ) → Bytes (replicate n 0)
 zeros-bytes zero i = omega arith

@@ -1,5 +1,6 @@
 -- The gear's own numbers (gear.rs). Definitions only.
 use Prim.Native.Nat.{ℕ}
+use mathlib.Core.Bool.{Bool, cond}
 use lib.Ieee.{Float, binary32, binary64, ofBits, add, sub, mul, div}
 use Rattle.ieee.specs.Range.{w32, w64}
 
@@ -7,7 +8,15 @@ use Rattle.ieee.specs.Range.{w32, w64}
 abbrev pub duration : Float → Float → ℕ → Float
 duration pre rate bits = add binary64 pre (div binary64 (w64 bits) rate)
 
--- 0.3f32: `SUCCESS_WEIGHT`, and the loss above which `on_ack` steps down
+-- the seconds of a cue, if one goes
+abbrev pub cueS : Bool → Float → Float
+cueS cue s = cond cue s (ofBits binary64 0)
+
+-- `data_s`: seconds of a burst behind its cue, whose seconds are 0 where none goes, each operation rounded once
+abbrev pub dataS : Float → Float → ℕ → Float → Float
+dataS pre rate bits cue = add binary64 (duration pre rate bits) cue
+
+-- 0.3f32: `SUCCESS_WEIGHT`
 abbrev pub successWeight : Float
 successWeight = ofBits binary32 0x3e99_999a
 
@@ -22,3 +31,7 @@ lossOf got sent = sub binary32 (w32 1) (div binary32 (w32 got) (w32 sent))
 -- 0.99f32: the loss above which `on_ack` takes the whole burst for lost
 abbrev pub wholeLoss : Float
 wholeLoss = ofBits binary32 0x3f7d_70a4
+
+-- 0.3f32: the loss above which `on_ack` steps down
+abbrev pub lossToStepDown : Float
+lossToStepDown = ofBits binary32 0x3e99_999a

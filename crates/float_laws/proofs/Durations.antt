@@ -9,7 +9,7 @@ use Rattle.ieee.specs.Range.{In, w64}
 use Rattle.ieee.proofs.Value.{le-refl, finite-no-nan}
 use Rattle.ieee.proofs.Mono.{whole-mono, add-mono, add-mono-right, div-mono}
 use Rattle.ieee.proofs.Bounds.{add-in, div-in, in-finite}
-use Rattle.float.specs.Gear.{duration}
+use Rattle.float.specs.Gear.{duration, dataS}
 
 -- a whole number of at most 64 bits
 pub whole-in : (n m : ℕ) → n ≤ m → In (w64 0) (w64 m) (w64 n)
@@ -36,7 +36,7 @@ module _ (pre rate : Float) (i : In (w64 0) (w64 60) pre) (j : In (w64 1) (w64 1
   duration-finite bits h = in-finite {lo = w64 0} {hi = w64 4294967356} {x = duration pre rate bits} (unfold ofInt in tt) (unfold ofInt in tt) (duration-in bits h)
 
   -- with a cue of at most 10 s
-  pub with-cue-mono : (cue : Float) → In (w64 0) (w64 10) cue → (a b : ℕ) → a ≤ b → b ≤ 2 ^ 32 → T (le (add binary64 (duration pre rate a) cue) (add binary64 (duration pre rate b) cue))
+  pub with-cue-mono : (cue : Float) → In (w64 0) (w64 10) cue → (a b : ℕ) → a ≤ b → b ≤ 2 ^ 32 → T (le (dataS pre rate a cue) (dataS pre rate b cue))
   unfolding ofInt
   with-cue-mono cue k a b h l =
       let p = in-finite {lo = w64 0} {hi = w64 60} {x = pre} tt tt i in

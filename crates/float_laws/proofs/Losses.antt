@@ -12,7 +12,7 @@ use lib.Ieee.Exact.{HasValue}
 use lib.Ieee.Scale.{finite}
 use lib.Ieee.Positive.{den, den-pos, positive-of-value}
 use Rattle.ieee.specs.Range.{In, w32}
-use Rattle.float.specs.Gear.{successWeight, lossOf, wholeLoss}
+use Rattle.float.specs.Gear.{lossToStepDown, lossOf, wholeLoss}
 use Rattle.ieee.proofs.Value.{le-antisym, eq→le, P, N, le-trans, le-refl, lt-not-le, lt-le, finite-between}
 use Rattle.ieee.proofs.Rounds.{Rounds, rounds-same, div-rounds, P-pos}
 use Rattle.ieee.proofs.Representable.{rounds-le, rounds-ge}
@@ -106,15 +106,15 @@ module _ (got sent : ℕ) (h : got ≤ sent) (B : 0 < sent) (k : sent ≤ 64) wh
       (λ t. lt-not-le null (lossOf got sent) (lt-le null (fin false 1 (negsuc 5)) (lossOf got sent) tt (loss-ge (fin false 63 (negsuc 5)) tt (q-le (fin false 63 (negsuc 5)) tt (unfold fits in tt) (omega (arith, g, k))))) (eq→le (lossOf got sent) null t))
 
   -- ---- loss > 0.3: fewer than seven tenths came through
-  pub loss-heavy : 10 * got < 7 * sent → T (lt successWeight (lossOf got sent))
+  pub loss-heavy : 10 * got < 7 * sent → T (lt lossToStepDown (lossOf got sent))
   unfolding ofBits sub lt
   loss-heavy g =
-      lt-le successWeight (fin false 617 (negsuc 10)) (lossOf got sent) tt
+      lt-le lossToStepDown (fin false 617 (negsuc 10)) (lossOf got sent) tt
       (loss-ge (fin false 1431 (negsuc 10)) tt (q-le (fin false 1431 (negsuc 10)) tt (unfold fits in tt) (omega (arith, g, k))))
 
-  pub loss-light : 7 * sent ≤ 10 * got → T (not (lt successWeight (lossOf got sent)))
+  pub loss-light : 7 * sent ≤ 10 * got → T (not (lt lossToStepDown (lossOf got sent)))
   unfolding ofBits sub le
   loss-light g =
-      not-T (lt successWeight (lossOf got sent))
-      (λ t. lt-not-le successWeight (lossOf got sent) t
+      not-T (lt lossToStepDown (lossOf got sent))
+      (λ t. lt-not-le lossToStepDown (lossOf got sent) t
       (loss-le (fin false 11744051 (negsuc 23)) tt (q-ge (fin false 11744051 (negsuc 23)) tt (unfold fits in tt) (omega (arith, g)))))

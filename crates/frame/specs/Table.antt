@@ -1,4 +1,4 @@
--- The tables of the check sum. Definitions only.
+-- The tables of the check sum. Follows the code or serves proofs: nothing here has to be believed.
 use mathlib.Core.List.{List, [], _++_, map}
 use Prim.Native.Nat.{ℕ, zero, suc, _+_, _*_}
 use Rattle.laws.specs.Span.{upto}

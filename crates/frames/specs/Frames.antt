@@ -1,4 +1,4 @@
--- The frames of a burst, back to back (`data_burst` of sender.rs). Definitions only.
+-- The frames of a burst, back to back (`data_burst` of sender.rs). Follows the code or serves proofs: nothing here has to be believed.
 use mathlib.Core.List.{List, [], _∷_, _++_}
 use Prim.Native.Nat.{ℕ, _+_, _≤_}
 use Rattle.laws.specs.Bytes.{part}

@@ -1,4 +1,4 @@
--- The frames of a burst as a list, arrays with a count that hold it, and where each frame's bytes lie (`data_burst` of sender.rs). Definitions only.
+-- The frames of a burst as a list, arrays with a count that hold it, and where each frame's bytes lie (`data_burst` of sender.rs). Follows the code or serves proofs: nothing here has to be believed.
 use mathlib.Core.List.{List, [], _∷_}
 use mathlib.Core.Bool.{cond}
 use Prim.Native.Nat.{ℕ, zero, suc, _+_, _-_, min}
@@ -6,7 +6,7 @@ use lib.ListN.{length, getD, set, replicate}
 use Rattle.laws.specs.Lists.{listed}
 use Rattle.harq.specs.Held.{incrementOf}
 use Rattle.harq.specs.declared.Harq.{Harq}
-use Rattle.area.specs.Table.{withRows, total}
+use Rattle.area.specs.Table.{total}
 use Rattle.area.specs.declared.table.Row.{Row}
 use Rattle.area.specs.Find.{findFrom}
 use Rattle.area.specs.declared.lookup.Found.{Found}
@@ -14,6 +14,7 @@ use Rattle.frames.specs.declared.slots.Slot.{Slot}
 use Rattle.frames.specs.declared.slots.Slots.{Slots}
 use Rattle.frames.specs.declared.slots.Added.{Added}
 use Rattle.limits.specs.Limits.{maxSlots}
+use Rattle.area.specs.TableCode.{withRows}
 
 -- ---- arrays with a count
 

@@ -11,15 +11,15 @@ use Rattle.config.specs.Entries.{entryAt}
 use Rattle.config.specs.declared.Marks.{Marks}
 use Rattle.config.specs.declared.MaybeDb.{MaybeDb}
 use Rattle.config.specs.declared.Profile.{Profile}
-use Rattle.config.specs.Durations.{ackAt, dataS}
-use Rattle.gear.specs.declared.goodput.Gear.{Gear}
+use Rattle.config.specs.Durations.{ackAt, dataAt}
+use Rattle.gear.specs.declared.Gear.{Gear}
 use Rattle.gear.specs.Goodput.{cueFor}
 use Rattle.gear.specs.Setters.{some, withBurst, withReport}
 
 -- `clean_burst_s`
 unfoldable pub cleanBurst : Profile → ℕ → Bool → Float
 cleanBurst p l cue =
-    let pre = dataS (p .air) l 1 cue in
+    let pre = dataAt (p .air) l 1 cue in
     let ack = ackAt (p .air) (waveRank l) in
     let turn = mul binary64 (w64 2) (p .lengths .«turnaround_s») in
     let lo = p .lengths .«max_burst_s» in

@@ -19,7 +19,7 @@ use Rattle.levels.specs.Usable.{airDb, heeded, familyOk, usableBelow}
 use Rattle.levels.specs.Rates.{levelRate}
 use Rattle.gear.specs.declared.goodput.Best.{Best}
 use Rattle.levels.specs.declared.memory.Tries.{Tries}
-use Rattle.gear.specs.declared.goodput.Gear.{Gear}
+use Rattle.gear.specs.declared.Gear.{Gear}
 
 -- `prior`: 1 / (1 + e^(-(room + 0.5) / 0.25))
 unfoldable pub priorOf : Float → Float

@@ -5,14 +5,14 @@ use lib.ListN.{getD}
 use lib.Dec.{ltb, leb, eqb}
 use lib.Ieee.{Float, nan, binary32, binary64, add, sub, mul, le, lt, eq, ofBits}
 use Rattle.ieee.specs.Range.{w32}
-use Rattle.float.specs.Gear.{lossOf, successWeight, wholeLoss}
+use Rattle.float.specs.Gear.{lossOf, lossToStepDown, wholeLoss}
 use Rattle.exp.specs.Hold.{holdOf}
 use Rattle.laws.specs.Span.{upto, every}
 use Rattle.level.specs.Ladder.{waveRank, isStep}
 use Rattle.config.specs.declared.Profile.{Profile}
 use Rattle.report.specs.declared.ChanClass.{ChanClass}
 use Rattle.levels.specs.declared.memory.Tries.{Tries}
-use Rattle.gear.specs.declared.goodput.Gear.{Gear}
+use Rattle.gear.specs.declared.Gear.{Gear}
 use Rattle.gear.specs.declared.Outcome.{Outcome}
 use Rattle.gear.specs.Setters.{some, withLevel, withBurst, withAim, withTries, withHolds}
 use Rattle.levels.specs.Usable.{airDb, heeded, familyOk, levelFor, usableBelow, climbAbove, stepDown}
@@ -78,7 +78,7 @@ unfoldable pub held : Profile → ℕ → Float → Float → Float → Gear →
 held p at loss snr now g =
     let channel = blamed p at snr in
     cond (lt wholeLoss loss) (withTries (withHolds g (heldUntil (g .holds) at (add binary64 now (failHold p g at channel now)) (not channel))) (failed (g .tries) at))
-    (cond (lt successWeight loss) (withHolds g (heldUntil (g .holds) at (add binary64 now (p .«hold_times» .«loss_hold_s»)) true)) (withTries g (cleared (g .tries) at)))
+    (cond (lt lossToStepDown loss) (withHolds g (heldUntil (g .holds) at (add binary64 now (p .«hold_times» .«loss_hold_s»)) true)) (withTries g (cleared (g .tries) at)))
 
 -- (one..=far).all(|k| fails[k] == 0)
 unfoldable pub spotless : Tries → ℕ → ℕ → Bool
@@ -96,7 +96,7 @@ climbed p g at now =
 unfoldable pub nextLevel : Profile → Gear → ℕ → Float → Float → ℕ
 nextLevel p g at loss now =
     cond (lt wholeLoss loss) (stepDown (heededClass p g) at true)
-    (cond (lt successWeight loss) (stepDown (heededClass p g) at false)
+    (cond (lt lossToStepDown loss) (stepDown (heededClass p g) at false)
     (cond (eq loss (w32 0) && ltb at (g .target)) (climbed p g at now) at))
 
 -- `family_ok`(at) fails: the report rules out the waveform just used, so straight to the target
@@ -107,7 +107,7 @@ nextAllowed p g at loss now = cond (familyOk (heededClass p g) at) (nextLevel p 
 unfoldable pub byLadder : Profile → ℕ → Float → Float → Float → Gear → Gear
 byLadder p at loss snr now g =
     let h = held p at loss snr now g in
-    cond (lt successWeight loss && worthKeeping p g at now) (withLevel g (capped p g at now)) (withLevel h (capped p h (nextAllowed p h at loss now) now))
+    cond (lt lossToStepDown loss && worthKeeping p g at now) (withLevel g (capped p g at now)) (withLevel h (capped p h (nextAllowed p h at loss now) now))
 
 -- a burst whose loss is judged: its share first, then the level, then `adapt_burst`
 unfoldable pub judged : Profile → ℕ → Float → Float → Float → Gear → Gear

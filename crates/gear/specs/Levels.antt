@@ -1,5 +1,5 @@
--- What is looked at of one level, and what Goodput.antt says of it, on the numbers of that level. Definitions only.
-use Prim.Native.Nat.{ℕ}
+-- What is looked at of one level, and what Goodput.antt says of it, on the numbers of that level. Follows the code or serves proofs: nothing here has to be believed.
+use Prim.Native.Nat.{ℕ, _+_}
 use mathlib.Core.Bool.{Bool, false, cond, not, _&&_, _||_}
 use lib.ListN.{getD}
 use lib.Dec.{leb, eqb}
@@ -7,17 +7,18 @@ use lib.Ieee.{Float, nan, binary32, binary64, add, sub, mul, div, le, lt}
 use Rattle.ieee.specs.Range.{w32}
 use Rattle.config.specs.declared.Marks.{Marks}
 use Rattle.config.specs.declared.Profile.{Profile}
+use Rattle.laws.specs.Span.{upto, fold}
 use Rattle.level.specs.Ladder.{waveRank}
 use Rattle.levels.specs.Usable.{airDb, heeded, familyOk}
 use Rattle.levels.specs.declared.memory.Tries.{Tries}
 use Rattle.levels.specs.declared.rates.Pace.{Pace}
-use Rattle.levels.specs.Paces.{paceRate}
+use Rattle.levels.specs.Rates.{paceAt, paceRate}
 use Rattle.gear.specs.declared.goodput.Best.{Best}
-use Rattle.gear.specs.declared.goodput.Gear.{Gear}
+use Rattle.gear.specs.declared.Gear.{Gear}
 use Rattle.gear.specs.declared.goodput.Seen.{Seen}
 use Rattle.gear.specs.declared.goodput.Sight.{Sight}
 use Rattle.gear.specs.declared.goodput.View.{View}
-use Rattle.gear.specs.Goodput.{priorOf, remembered, barOf, over}
+use Rattle.gear.specs.Goodput.{priorOf, remembered, marksOf, barOf, over, noBest}
 
 -- what is remembered of level l
 abbrev pub seenAt : Tries → ℕ → Seen
@@ -56,3 +57,7 @@ viewCandidate v l s = eqb l (v .level) || (familyOk (v .class) l && sightReach s
 -- `weighed`
 unfoldable pub viewWeighed : View → Best → ℕ → Sight → Seen → Pace → Best
 viewWeighed v b l s t q = cond (viewCandidate v l s) (over b l (viewWorth v l s t q)) b
+
+-- `bestOf`, by what every level is held against and what is remembered of each
+abbrev pub viewBest : Profile → View → Tries → Float → Best
+viewBest p v t aim = fold (λ b l. viewWeighed v b l (sightAt (marksOf p) (p .power) l aim) (seenAt t l) (paceAt p l)) noBest (upto 0 (p .«max_level» + 1))

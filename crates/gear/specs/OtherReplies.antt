@@ -6,7 +6,7 @@ use Rattle.level.specs.Ladder.{topLevelIn}
 use Rattle.config.specs.declared.MaybeDb.{MaybeDb}
 use Rattle.config.specs.declared.Profile.{Profile}
 use Rattle.report.specs.declared.ChanClass.{ChanClass}
-use Rattle.gear.specs.declared.goodput.Gear.{Gear}
+use Rattle.gear.specs.declared.Gear.{Gear}
 use Rattle.gear.specs.Goodput.{marksOf}
 use Rattle.gear.specs.Setters.{some, withLevel, withBurst, withPeer}
 use Rattle.levels.specs.Usable.{airDb, heeded, levelFor}

@@ -1,43 +1,23 @@
-// Gear::Goodput of gear.rs: the gear record, what a level is worth, and the level expected to move the most.
+// Gear::Goodput of gear.rs: what a level is worth, and the level expected to move the most.
 use config::Marks;
-use config::MaybeDb;
 use config::Profile;
 use level::FLOOR;
-use levels::memory::Reports;
 use levels::memory::Tries;
 use levels::rates::Pace;
-use levels::usable::Holds;
 use levels::usable::air_db;
 use levels::usable::family_ok;
-use levels::usable::heeded;
 use report::ChanClass;
 ghost use mathlib.Core.Path.{_≡_};
 ghost use mathlib.Core.Bool.{false};
 ghost use Prim.Native.Nat.{_<_};
 ghost use lib.Ieee.{inf};
 ghost use Rattle.config.specs.Ranged.{Ranged};
-ghost use Rattle.levels.specs.Paces.{Paced};
-ghost use Rattle.gear.specs.Goodput.{priorOf, memoryS, remembered, marksOf, cueFor, barOf, over, noBest, bestOf, pickByGoodput};
-ghost use Rattle.gear.specs.Levels.{seenChance, sightRoom, sightReach, viewOf, viewCandidate, viewWorth, viewWeighed};
-
-// The gear record.
-#[repr(C)]
-pub struct Gear {
-    pub level: usize,
-    pub target: usize,
-    pub burst_s: f64,
-    pub aim_db: MaybeDb,
-    pub last_report_db: MaybeDb,
-    pub snr_reports: Reports,
-    pub peer_class: ChanClass,
-    // Both ends agreed to cues.
-    pub cue: bool,
-    pub tries: Tries,
-    pub holds: Holds,
-}
+ghost use Rattle.gear.specs.Goodput.{priorOf, memoryS, remembered, marksOf, barOf, over, noBest};
+ghost use Rattle.gear.specs.Levels.{seenChance, sightRoom, sightReach, viewCandidate, viewWorth, viewWeighed, viewBest};
+ghost use Rattle.levels.specs.RatesCode.{Paced};
 
 // f64::INFINITY
-fn infinity() -> f64
+pub(crate) fn infinity() -> f64
     ensures { λ r. ⌜ r ≡ inf false ⌝ }
 {
     1.0 / 0.0
@@ -175,12 +155,12 @@ impl Best {
 
 // What every level is held against: the present level, the class that the gear goes by, whether both ends agreed to cues, whether
 // the SNR aimed by is not known or calls for them, and the time.
-struct View {
-    level: usize,
-    class: ChanClass,
-    cue: bool,
-    low: bool,
-    now: f64,
+pub struct View {
+    pub level: usize,
+    pub class: ChanClass,
+    pub cue: bool,
+    pub low: bool,
+    pub now: f64,
 }
 
 impl View {
@@ -212,40 +192,15 @@ impl View {
         }
         best
     }
-}
 
-impl Gear {
-    // Whether a data burst at level l goes behind a cue.
-    pub fn cue_for(self, cfg: Profile, l: usize) -> bool
-        requires { ⌜ l < 17 ⌝ }
-        ensures { λ r. ⌜ r ≡ cueFor cfg self l ⌝ }
-    {
-        let w = level::wave_rank(l);
-        self.cue & (w >= 4) & (!self.aim_db.set | (self.aim_db.db < cfg.cue_below_db))
-    }
-
-    fn view(self, cfg: Profile, now: f64) -> View
-        ensures { λ r. ⌜ r ≡ viewOf cfg self now ⌝ }
-    {
-        let class = heeded(self.peer_class, cfg.pick_family);
-        View {
-            level: self.level,
-            class: class,
-            cue: self.cue,
-            low: !self.aim_db.set | (self.aim_db.db < cfg.cue_below_db),
-            now: now,
-        }
-    }
-
-    // The best of the levels. What the turns share, and the arrays that they read, are taken out before the loop.
-    fn best(self, cfg: Profile, aim: f32, now: f64) -> Best
+    // The best of the levels, by the thresholds, what is remembered of each, and the SNR aimed by. What the turns share, and the
+    // arrays that they read, are taken out before the loop.
+    pub(crate) fn best(self, cfg: Profile, tries: Tries, aim: f32) -> Best
         requires { ⌜ self .level < 17 ⌝ ∗ ⌜ Ranged cfg ⌝ }
-        ensures { λ r. ⌜ r ≡ bestOf cfg self aim now ⌝ }
+        ensures { λ r. ⌜ r ≡ viewBest cfg self tries aim ⌝ }
     {
-        let view = self.view(cfg, now);
         let marks = marks(cfg);
         let air = cfg.air;
-        let tries = self.tries;
         let mut best = no_best();
         for l in 0..cfg.max_level + 1 {
             let sight = Sight {
@@ -268,25 +223,8 @@ impl Gear {
                 short_bytes: cfg.short_bytes,
                 long_bytes: cfg.long_bytes,
             };
-            best = view.weigh(best, l, sight, seen, pace);
+            best = self.weigh(best, l, sight, seen, pace);
         }
         best
-    }
-
-    // The level expected to move the most.
-    pub fn pick_by_goodput(self, cfg: Profile, aim: f32, now: f64) -> usize
-        requires { ⌜ self .level < 17 ⌝ ∗ ⌜ Ranged cfg ⌝ }
-        ensures { λ r. ⌜ r ≡ pickByGoodput cfg self aim now ⌝ }
-    {
-        let best = self.best(cfg, aim, now);
-        if best.found {
-            return self.holds.usable_below(
-                heeded(self.peer_class, cfg.pick_family),
-                cfg.pin_level,
-                best.level,
-                infinity(),
-            );
-        }
-        FLOOR
     }
 }

@@ -7,11 +7,8 @@ mod same;
 use byte_copy::load32;
 use config::MaybeDb;
 use config::Profile;
+use gear::Gear;
 use gear::Outcome;
-use gear::goodput::Gear;
-use gear::on_ack;
-use gear::other_replies::connect;
-use gear::other_replies::on_turn;
 use io::print_decimal;
 use io::write_all;
 use levels::memory::Reports;
@@ -139,9 +136,9 @@ fn judge(cfg: Profile, g: Gear, ack: bool, burst: Outcome, snr_db: f32, wave: u8
         return g;
     }
     if ack {
-        return on_ack(g, cfg, burst, snr_db, now);
+        return g.on_ack(cfg, burst, snr_db, now);
     }
-    on_turn(g, cfg, burst, snr_db, wave, now)
+    g.on_turn(cfg, burst, snr_db, wave, now)
 }
 
 // What the gear makes of a reply. The class is the sender's to keep.
@@ -159,7 +156,7 @@ fn step(cfg: Profile, mut g: Gear, a: &[u8; 60]) -> Gear
     let snr_db = f32_at(a, 16);
     let now = f64_at(a, 20);
     if a[0] == 1 {
-        return connect(g, cfg, class, a[3] == 1, snr_db, now);
+        return g.connect(cfg, class, a[3] == 1, snr_db, now);
     }
     g.peer_class = class;
     judge(cfg, g, a[0] == 2, burst, snr_db, a[9], now)

@@ -2,7 +2,7 @@
 use config::MaybeDb;
 use float_bits::to_bits32;
 use float_bits::to_bits64;
-use gear::goodput::Gear;
+use gear::Gear;
 use levels::memory::Reports;
 use levels::memory::Tries;
 use levels::usable::Holds;

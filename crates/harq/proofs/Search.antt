@@ -10,7 +10,8 @@ use lib.Dec.{ltb, eqb}
 use lib.ListN.{length, getD, drop}
 use lib.Seq.{drop-cons}
 use Rattle.laws.proofs.Picks.{test, and-first}
-use Rattle.harq.specs.Held.{above, smallest, upTo, nearer}
+use Rattle.harq.specs.Held.{above, smallest, upTo}
+use Rattle.harq.specs.HeldCode.{nearer}
 
 -- the increment where `best` was found so far, 0 for none, and `es` are left to look at
 unfoldable pub ahead : ℕ → ℕ → ℕ → List ℕ → ℕ

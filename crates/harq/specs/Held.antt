@@ -1,5 +1,5 @@
 -- Held numbers (document 01, module 2; harq.rs is not among the files). Definitions only.
-use mathlib.Core.Bool.{cond, _&&_, _||_}
+use mathlib.Core.Bool.{cond}
 use mathlib.Core.List.{List, [], _∷_}
 use Prim.Native.Nat.{ℕ, _+_, _-_, _*_, _%_, min}
 use lib.Dec.{ltb, eqb}
@@ -20,10 +20,6 @@ smallest e (x ∷ es) = smallest (min e x) es
 unfoldable pub upTo : List ℕ → ℕ → ℕ → ℕ
 upTo [] h slot = slot
 upTo (e ∷ es) h slot = smallest e es - h
-
--- a search for the smallest end above h: the nearer of what was found so far, 0 for none, and e
-unfoldable pub nearer : ℕ → ℕ → ℕ → ℕ
-nearer best h e = cond (ltb h e && (eqb best 0 || ltb e best)) e best
 
 -- the increment for h held bits: the smallest rate end above h, less h; with none above, the slot
 unfoldable pub incrementOf : Harq → ℕ → ℕ → ℕ

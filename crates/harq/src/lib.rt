@@ -3,7 +3,8 @@ use limits::PARTIAL_MAX;
 ghost use mathlib.Core.Path.{_≡_};
 ghost use Prim.Native.Nat.{_≤_, _<_};
 ghost use Rattle.limits.specs.Limits.{maxSlots, maxBits};
-ghost use Rattle.harq.specs.Held.{nearer as nearerOf, incrementOf, startOf, hMax, partialField, checkBits, burstCheckBits};
+ghost use Rattle.harq.specs.Held.{incrementOf, startOf, hMax, partialField, checkBits, burstCheckBits};
+ghost use Rattle.harq.specs.HeldCode.{nearer as nearerOf};
 
 // The mother code's length, and where the six code rates end.
 #[repr(C)]

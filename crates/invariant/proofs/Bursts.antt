@@ -13,7 +13,6 @@ use Rattle.config.specs.Ranges.{inOrder}
 use Rattle.ledger.specs.Ledger as L
 use Rattle.ledger.specs.Ledger.{Piece, Plan, bytesOf, dataBurst}
 use Rattle.ledger.specs.Sound.{Fits}
-use Rattle.ledger.specs.Calls.{bursts}
 use Rattle.ledger.specs.Plan.{planOf, KeepsAir}
 use Rattle.ledger.proofs.Kept.{step-sound}
 use Rattle.ledger.proofs.Planned.{planned-fits, keeps-air}
@@ -24,11 +23,13 @@ use Rattle.record.specs.declared.Sender.{Sender}
 use Rattle.outgoing.specs.Choosing.{choice}
 use Rattle.outgoing.specs.Outgoing.{after, countedAir}
 use Rattle.outgoing.proofs.Choices.{choice-ranged, choice-long}
-use Rattle.replies.specs.Replies.{ReplyReady}
 use Rattle.soundness.proofs.fields.Sound.{profile-sizes, sound-level, sound-settling}
 use Rattle.invariant.proofs.Ledgers.{Kept, PieceBytes, bytes-append, bytes-of}
 use Rattle.invariant.proofs.Well.{Well, well-gear, well-kept, stored-well}
-use Rattle.ledger.specs.Sizes.{Sizes, SizeRange}
+use Rattle.ledger.specs.Sizes.{Sizes}
+use Rattle.ledger.specs.CallsCode.{bursts}
+use Rattle.ledger.specs.SizesCode.{SizeRange}
+use Rattle.replies.specs.RepliesCode.{ReplyReady}
 
 -- ---- bytes: a burst moves none
 

@@ -6,7 +6,7 @@ use lib.Dec.{T, eqb}
 use lib.ListN.{getD}
 use lib.Ieee.{Float, nan, sub, binary32, le, lt, eq}
 use Rattle.ieee.specs.Range.{In, w32, w64}
-use Rattle.float.specs.Gear.{lossOf, successWeight, wholeLoss}
+use Rattle.float.specs.Gear.{lossOf, lossToStepDown, wholeLoss}
 use Rattle.laws.proofs.Picks.{either}
 use Rattle.laws.proofs.Span.{fold-keep}
 use Rattle.config.specs.declared.Profile.{Profile}
@@ -14,7 +14,7 @@ use Rattle.config.specs.Ranged.{Ranged}
 use Rattle.report.specs.declared.ChanClass.{ChanClass}
 use Rattle.levels.specs.declared.memory.Tries.{Tries}
 use Rattle.levels.specs.Memory.{pushed, noted, failed, cleared, hits, marked, channelFailed}
-use Rattle.gear.specs.declared.goodput.Gear.{Gear}
+use Rattle.gear.specs.declared.Gear.{Gear}
 use Rattle.gear.specs.Setters.{withTries, withBurst, withClass}
 use Rattle.gear.specs.BurstLength.{adapted}
 use Rattle.gear.specs.declared.Outcome.{Outcome}
@@ -23,8 +23,8 @@ use Rattle.gear.specs.OtherReplies.{connected, atTurn, unmatchedOutcome, onTurn
 use Rattle.gear_laws.specs.Sound as G
 use Rattle.gear_laws.specs.Sound.{OutcomeInRange, DbInRange, TimeInRange}
 use Rattle.gear_laws.proofs.SoundLaws.{kept-by-set, on-ack-sound, connected-sound, on-turn-sound}
-use Rattle.soundness.specs.Soundness.{SoundGear}
 use Rattle.invariant.specs.Invariant.{TypedGear}
+use Rattle.soundness.specs.SoundnessCode.{SoundGear}
 
 -- ---- success times
 
@@ -82,11 +82,11 @@ module _ (p : Profile) (now : Float) (n : Past now) where
   held-dated : (at : ℕ) (loss snr : Float) (g : Gear) → Dated g → Dated (held p at loss snr now g)
   unfolding held
   held-dated at loss snr g d =
-      either Dated (lt wholeLoss loss) _ _ (d .0, failed-times at now n (g .tries) (d .1)) (either Dated (lt successWeight loss) _ _ d (d .0, cleared-times at now n (g .tries) (d .1)))
+      either Dated (lt wholeLoss loss) _ _ (d .0, failed-times at now n (g .tries) (d .1)) (either Dated (lt lossToStepDown loss) _ _ d (d .0, cleared-times at now n (g .tries) (d .1)))
 
   ladder-dated : (at : ℕ) (loss snr : Float) (g : Gear) → Dated g → Dated (byLadder p at loss snr now g)
   unfolding byLadder
-  ladder-dated at loss snr g d = either Dated (lt successWeight loss && worthKeeping p g at now) _ _ d (held-dated at loss snr g d)
+  ladder-dated at loss snr g d = either Dated (lt lossToStepDown loss && worthKeeping p g at now) _ _ d (held-dated at loss snr g d)
 
   judged-dated : (at : ℕ) (loss snr : Float) (g : Gear) → Dated g → Dated (judged p at loss snr now g)
   unfolding judged adapted

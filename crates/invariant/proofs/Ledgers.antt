@@ -16,7 +16,6 @@ use Rattle.ledger.specs.Reply.{Reply}
 use Rattle.ledger.specs.Ledger as L
 use Rattle.ledger.specs.Ledger.{Piece, Sent, bytesOf, remove, remaining, settles, settleBurst, clearBurst, queue, hearAck}
 use Rattle.ledger.specs.Sound.{Sound}
-use Rattle.ledger.specs.Calls.{Allowed, queues, hears, turns}
 use Rattle.ledger.proofs.Kept.{step-sound}
 use Rattle.ledger.proofs.ShortFrames.{pieces-shortFrames}
 use Rattle.area.specs.Layout.{areaBytes, place}
@@ -28,7 +27,9 @@ use Rattle.pieces.proofs.Room.{ascend-small}
 use Rattle.record.specs.View.{view, rowsOf, storeArea, storeHeld, storeSent, store}
 use Rattle.record.specs.declared.Sender.{Sender}
 use Rattle.record.proofs.View.{Fits, Holds, Arrays}
-use Rattle.ledger.specs.Sizes.{Sizes, SizeRange}
+use Rattle.ledger.specs.Sizes.{Sizes}
+use Rattle.ledger.specs.CallsCode.{Allowed, queues, hears, turns}
+use Rattle.ledger.specs.SizesCode.{SizeRange}
 
 -- ---- room
 

@@ -27,7 +27,6 @@ use Rattle.gear.specs.Setters.{withBurst}
 use Rattle.gear_laws.specs.Sound.{OutcomeInRange, DbInRange, TimeInRange}
 use Rattle.ledger.specs.Reply.{Reply, shortAck, longAck}
 use Rattle.ledger.specs.Ledger.{settles, queue}
-use Rattle.ledger.specs.Calls.{Allowed, queues}
 use Rattle.record.specs.Profiles.{sizesOf}
 use Rattle.record.specs.View.{view, store, storeArea}
 use Rattle.record.specs.declared.Link.{Link}
@@ -40,7 +39,6 @@ use Rattle.replies.specs.declared.Ack.{Ack}
 use Rattle.replies.specs.declared.LongAck.{LongAck}
 use Rattle.replies.specs.declared.Turn.{Turn}
 use Rattle.replies.specs.Replies.{ackNoted, longDb, shortAcked, longAcked, turnDb, nothingHeard, turned, connectedTo}
-use Rattle.soundness.specs.Soundness.{SoundLink}
 use Rattle.soundness.proofs.fields.Sound.{profile-sizes}
 use Rattle.invariant.specs.Invariant.{AckIn, LongAckIn, TurnIn, ConnAckIn}
 use Rattle.invariant.proofs.Gears.{class-well, burst-well, ack-gear-well, connected-gear-well, turn-gear-well}
@@ -48,7 +46,9 @@ use Rattle.invariant.proofs.Outcomes.{outcome-counts}
 use Rattle.invariant.proofs.Ledgers.{on-ack-kept, clear-kept, queue-kept}
 use Rattle.invariant.proofs.Well.{Well, well-gear, well-kept, given-well, stored-well}
 use Rattle.limits.specs.Limits.{maxNumber}
-use Rattle.ledger.specs.Sizes.{SizeRange}
+use Rattle.ledger.specs.CallsCode.{Allowed, queues}
+use Rattle.ledger.specs.SizesCode.{SizeRange}
+use Rattle.soundness.specs.SoundnessCode.{SoundLink}
 
 -- the record and the work area that a reply leaves
 abbrev pub WellBoth : Profile → Sender × List ℕ → Type 0

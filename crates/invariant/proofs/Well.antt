@@ -13,7 +13,7 @@ use Rattle.laws.proofs.Span.{every-all}
 use Rattle.laws.proofs.Bytes.{length-over}
 use Rattle.laws.specs.Bytes.{Bytes}
 use Rattle.config.specs.declared.Profile.{Profile}
-use Rattle.gear.specs.declared.goodput.Gear.{Gear}
+use Rattle.gear.specs.declared.Gear.{Gear}
 use Rattle.ledger.specs.Ledger as L
 use Rattle.ledger.specs.Ledger.{size}
 use Rattle.ledger.specs.Sound.{Sound}
@@ -27,13 +27,13 @@ use Rattle.record.specs.View.{view, storeArea, storeCounts, storeHeld, storeSen
 use Rattle.record.specs.declared.Link.{Link}
 use Rattle.record.specs.declared.Sender.{Sender}
 use Rattle.record.proofs.View.{Fits, Arrays, bytes-pieces, pieces-stored, view-store}
-use Rattle.soundness.specs.Soundness.{SoundLink, SoundRecord}
 use Rattle.soundness.proofs.fields.Sound.{fresh-is-sound, fresh-arrays}
 use Rattle.invariant.specs.Invariant.{TypedGear}
 use Rattle.invariant.proofs.Gears.{WellGear}
 use Rattle.invariant.proofs.Ledgers.{Kept, sound-fits, sound-holds, store-arrays, store-bytes, view-kept}
 use Rattle.record.specs.Setters.{withGear, withLink}
-use Rattle.ledger.specs.Sizes.{SizeRange}
+use Rattle.ledger.specs.SizesCode.{SizeRange}
+use Rattle.soundness.specs.SoundnessCode.{SoundLink, SoundRecord}
 
 -- a sound record and work area, whose types hold
 pub record Well (p : Profile) (s : Sender) (a : List ℕ) : Type 0 where

@@ -1,4 +1,4 @@
--- What a reply that is not refused has in range, and what the types of a gear record say. Definitions only.
+-- What a reply that is not refused has in range, and what the types of a gear record say. Follows the code or serves proofs: nothing here has to be believed.
 use mathlib.Core.Path.{_≡_}
 use mathlib.Core.Bool.{false}
 use Prim.Native.Nat.{ℕ, _<_, _≤_}
@@ -7,7 +7,7 @@ use lib.ListN.{getD}
 use lib.Ieee.{nan, binary32, fits, lt, ofBits}
 use Rattle.ieee.specs.Range.{w32}
 use Rattle.config.specs.declared.Profile.{Profile}
-use Rattle.gear.specs.declared.goodput.Gear.{Gear}
+use Rattle.gear.specs.declared.Gear.{Gear}
 use Rattle.gear_laws.specs.Sound.{DbInRange, TimeInRange}
 use Rattle.report.specs.declared.ack.AckInfo.{AckInfo}
 use Rattle.replies.specs.declared.Heard.{Heard}

@@ -3,9 +3,10 @@
 use mathlib.Core.Path.{_≡_, refl}
 use mathlib.Core.Bool.{cond}
 use mathlib.Core.List.{map}
-use Rattle.ledger.specs.Ledger.{Sender, frames, takenOf, freshLedger}
+use Rattle.ledger.specs.Ledger.{Sender}
 use Rattle.ledger.specs.Tally.{Outstanding, outstanding, nothing, Tally, start}
-use Rattle.ledger.specs.Cover.{flyingByte, byOffset}
+use Rattle.ledger.specs.CoverCode.{flyingByte, byOffset}
+use Rattle.ledger.specs.LedgerCode.{frames, takenOf, freshLedger}
 
 -- the outstanding burst as the tally has it
 abbrev pub outOf : Sender → Outstanding

@@ -14,9 +14,9 @@ use borrow.Author.Tests.{eqb-false, ltb-true, ltb-false}
 use Rattle.laws.specs.Lists.{occurs}
 use Rattle.laws.proofs.Picks.{test, by}
 use Rattle.laws.proofs.Lists.{map-map, occurs-append, occurs-take, map-append}
-use Rattle.ledger.specs.Ledger.{size, Piece, find, increments, Plan, Held, Sent, wholes, Sender, heldOffs, recut, split, kept, offs, oldOffs, unheld, newPieces, slots, sentOffs, dataBurst, frames}
+use Rattle.ledger.specs.Ledger.{size, Piece, find, increments, Plan, Held, Sent, wholes, Sender, heldOffs, recut, split, kept, offs, oldOffs, unheld, newPieces, slots, sentOffs, dataBurst}
 use Rattle.ledger.specs.Tally.{unacked, furthest, Tally, sentOut}
-use Rattle.ledger.specs.Cover.{flyingByte, Ascend, ceil, shortFrames, byOffset}
+use Rattle.ledger.specs.Cover.{ceil}
 use Rattle.ledger.specs.Sound.{HeldBits, SentBits, Sound, Fits}
 use Rattle.ledger.proofs.Agree.{Agree}
 use Rattle.ledger.proofs.Cover.{ascend-split, ascend-merge, byOffset-split, byOffset-merge, split-fits, chunks-few, ascend-chunks, ascend-append, ascend-longer, chunks-le, byOffset-append, byOffset-chunks}
@@ -26,7 +26,10 @@ use Rattle.ledger.proofs.InFlight.{size-byOffset, flown-length}
 use Rattle.ledger.proofs.Offsets.{Within, flying-within, offs-append, length-offs, within-flying, find-some}
 use Rattle.ledger.proofs.ShortFrames.{size-few, shortFrames-few, shortFrames-split, shortFrames-merge}
 use Rattle.limits.specs.Limits.{maxTop, maxBits, maxSlots, maxFlying, longestPayload, minPayload, maxPieces}
-use Rattle.ledger.specs.Sizes.{Sizes, SizeRange}
+use Rattle.ledger.specs.Sizes.{Sizes}
+use Rattle.ledger.specs.CoverCode.{flyingByte, Ascend, shortFrames, byOffset}
+use Rattle.ledger.specs.LedgerCode.{frames}
+use Rattle.ledger.specs.SizesCode.{SizeRange}
 
 size-append : (ps qs : List Piece) → size (ps ++ qs) ≡ size ps + size qs
 size-append [] qs = omega arith

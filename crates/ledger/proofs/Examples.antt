@@ -6,11 +6,13 @@ use mathlib.Core.Bool.{Bool, true, false}
 use mathlib.Core.List.{List, [], _∷_}
 use lib.ListN.{length, replicate}
 use Rattle.ledger.specs.Reply.{shortAck, longAck}
-use Rattle.ledger.specs.Ledger.{Piece, len, split, mergeInflight, queue, freshLedger, dataBurst, hearAck, settleBurst, clearBurst, Held, Sent, Sender, sentOffs}
+use Rattle.ledger.specs.Ledger.{Piece, len, split, mergeInflight, queue, dataBurst, hearAck, settleBurst, clearBurst, Held, Sent, Sender, sentOffs}
 use Rattle.ledger.specs.Tally.{Tally, inFlight, acknowledged, start, queued, sentOut, heard, noneOutstanding}
 use Rattle.ledger.specs.Plan.{parity, room}
-use Rattle.ledger.specs.Calls.{Move, bursts, queues, hears, turns, run, step, tally, moveTold}
+use Rattle.ledger.specs.Calls.{run, tally}
 use Rattle.ledger.specs.Sizes.{Sizes}
+use Rattle.ledger.specs.CallsCode.{Move, bursts, queues, hears, turns, step, moveTold}
+use Rattle.ledger.specs.LedgerCode.{freshLedger}
 
 -- offset and length of each piece
 abbrev pub spans : List Piece → List ℕ

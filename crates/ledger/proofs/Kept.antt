@@ -12,18 +12,20 @@ use Rattle.laws.specs.Lists.{occurs}
 use Rattle.laws.proofs.Picks.{by, and-second, either, and-yes, and-first}
 use Rattle.laws.proofs.Lists.{occurs-append}
 use Rattle.ledger.specs.Reply.{Reply}
-use Rattle.ledger.specs.Ledger.{Held, missed, Sent, frames, Piece, Sender, sentOffs, heldOffs, offs, remaining, settleBurst, clearBurst, queue, freshLedger, hearAck, settles, Plan, dataBurst, find}
+use Rattle.ledger.specs.Ledger.{Held, missed, Sent, Piece, Sender, sentOffs, heldOffs, offs, remaining, settleBurst, clearBurst, queue, hearAck, settles, Plan, dataBurst, find}
 use Rattle.ledger.specs.Tally.{acknowledgedBy, Flown, outstanding, Tally, heard, acknowledgeAll, nothing, queued, noneOutstanding, feed}
-use Rattle.ledger.specs.Cover.{Ascend}
 use Rattle.ledger.specs.Sound.{HeldBits, SentBits, Sound, Fits}
-use Rattle.ledger.specs.Calls.{Allowed, queues, step, Move, idle, hears, turns, bursts, event, moveTold}
 use Rattle.ledger.proofs.Agree.{Agree}
 use Rattle.ledger.proofs.Burst.{burst-sound, burst-agree, burst-keeps}
 use Rattle.ledger.proofs.HeldPieces.{heldOffs-append}
 use Rattle.ledger.proofs.Offsets.{flying-within, Within, within-flying}
 use Rattle.ledger.proofs.Settle.{ascend-remaining, missed-remaining, ackedBytes-remaining, missed-few, shortFrames-remaining, acknowledgeAll-remaining, find-remaining}
 use Rattle.limits.specs.Limits.{maxSlots}
-use Rattle.ledger.specs.Sizes.{Sizes, SizeRange}
+use Rattle.ledger.specs.Sizes.{Sizes}
+use Rattle.ledger.specs.CallsCode.{Allowed, queues, step, Move, idle, hears, turns, bursts, event, moveTold}
+use Rattle.ledger.specs.CoverCode.{Ascend}
+use Rattle.ledger.specs.LedgerCode.{frames, freshLedger}
+use Rattle.ledger.specs.SizesCode.{SizeRange}
 
 heldBits-append : (top : ℕ) (xs ys : List Held) → HeldBits top xs → HeldBits top ys → HeldBits top (xs ++ ys)
 heldBits-append top [] ys a b = b

@@ -15,10 +15,10 @@ use Rattle.laws.proofs.Picks.{test, either}
 use Rattle.ledger.specs.Reply.{Reply}
 use Rattle.ledger.specs.Ledger.{Piece, end, len, Frame}
 use Rattle.ledger.specs.Tally.{within, Flown, acknowledge, acknowledgeAll, unacked, acknowledgedBy, Outstanding, nothing, outstanding, Event, Tally, feed, queued, sentOut, heard, turn, noneOutstanding, silent, took, reply, went, furthest}
-use Rattle.ledger.specs.Cover.{Ascend, byOffset, flyingByte}
 use Rattle.ledger.specs.Claim.{covering, flyingAt, ackedAt, bitOver, named, settledBy}
 use Rattle.ledger.proofs.Acknowledge.{within-before, within-in, within-after}
 use Rattle.ledger.proofs.InFlight.{filled, filled-flying}
+use Rattle.ledger.specs.CoverCode.{Ascend, byOffset, flyingByte}
 
 -- ---- the pieces cover each offset in flight once and no other
 

@@ -7,11 +7,14 @@ use mathlib.Core.Bool.{false}
 use mathlib.Core.List.{List, [], _∷_}
 use native.Mathlib.Omega.{arith}
 use lib.ListN.{length, replicate, length-replicate}
-use Rattle.ledger.specs.Ledger.{Plan, queue, size, freshLedger, dataBurst, Sender}
+use Rattle.ledger.specs.Ledger.{Plan, queue, size, dataBurst, Sender}
 use Rattle.ledger.specs.Sound.{Fits}
-use Rattle.ledger.specs.Calls.{Move, queues, bursts, run, step, Along, Allowed}
+use Rattle.ledger.specs.Calls.{run, Along}
 use Rattle.limits.specs.Limits.{minPayload, longestPayload, maxTop, maxSlots, maxWaiting, maxFlying, maxPieces, maxNumber}
-use Rattle.ledger.specs.Sizes.{Sizes, SizeRange}
+use Rattle.ledger.specs.Sizes.{Sizes}
+use Rattle.ledger.specs.CallsCode.{Move, queues, bursts, step, Allowed}
+use Rattle.ledger.specs.LedgerCode.{freshLedger}
+use Rattle.ledger.specs.SizesCode.{SizeRange}
 
 abbrev pub widest : Sizes
 widest = record { short = minPayload; long = longestPayload; top = maxTop }

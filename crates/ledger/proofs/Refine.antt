@@ -8,10 +8,10 @@ use native.Mathlib.Omega.{arith}
 use lib.ListN.{length, take, drop}
 use Rattle.laws.specs.Lists.{occurs, listed}
 use Rattle.laws.proofs.Lists.{one-same, listed-occurs}
-use Rattle.ledger.specs.Ledger.{Sender, Sent, sentOffs, offs, frames, find, dataBurst, heldOffs, freshLedger}
+use Rattle.ledger.specs.Ledger.{Sender, Sent, sentOffs, offs, find, dataBurst, heldOffs}
 use Rattle.ledger.specs.Tally.{Tally, byteOf, feed, framesTold, Event, start}
 use Rattle.ledger.specs.Sound.{Sound}
-use Rattle.ledger.specs.Calls.{Move, Allowed, step, moveTold, idle, queues, hears, turns, bursts, Along, run, tally, history}
+use Rattle.ledger.specs.Calls.{Along, run, tally, history}
 use Rattle.ledger.specs.Claim.{Carry, Demand3}
 use Rattle.ledger.proofs.Agree.{Agree, start-agree}
 use Rattle.ledger.proofs.PerOffset.{covers-once, acked-exactly}
@@ -21,7 +21,10 @@ use Rattle.ledger.proofs.Kept.{out-occurs, step-sound, step-agree, step
 use Rattle.ledger.proofs.Offsets.{find-some, flying-within}
 use Rattle.ledger.proofs.Planned.{keeps-air}
 use Rattle.ledger.proofs.ShortFrames.{pieces-shortFrames}
-use Rattle.ledger.specs.Sizes.{Sizes, SizeRange}
+use Rattle.ledger.specs.Sizes.{Sizes}
+use Rattle.ledger.specs.CallsCode.{Move, Allowed, step, moveTold, idle, queues, hears, turns, bursts}
+use Rattle.ledger.specs.LedgerCode.{frames, freshLedger}
+use Rattle.ledger.specs.SizesCode.{SizeRange}
 
 -- what a sound record that agrees with its tally says of the next call
 module _ (z : Sizes) (zr : SizeRange z) (s : Sender) (t : Tally) (so : Sound z s) (ag : Agree s t) where

@@ -2,13 +2,16 @@
 -- Assumes nothing.
 use mathlib.Core.Path.{refl}
 use mathlib.Core.List.{List}
-use Rattle.ledger.specs.Ledger.{Sender, freshLedger}
+use Rattle.ledger.specs.Ledger.{Sender}
 use Rattle.ledger.specs.Tally.{start}
 use Rattle.ledger.specs.Sound.{Sound}
-use Rattle.ledger.specs.Calls.{Move, Allowed, step, moveTold, Along, run, history, tally}
+use Rattle.ledger.specs.Calls.{Along, run, history, tally}
 use Rattle.ledger.specs.Claim.{Demand3}
 use Rattle.ledger.proofs.Refine.{Refines, refined, sound-after}
-use Rattle.ledger.specs.Sizes.{Sizes, SizeRange}
+use Rattle.ledger.specs.Sizes.{Sizes}
+use Rattle.ledger.specs.CallsCode.{Move, Allowed, step, moveTold}
+use Rattle.ledger.specs.LedgerCode.{freshLedger}
+use Rattle.ledger.specs.SizesCode.{SizeRange}
 
 module _ (z : Sizes) (zr : SizeRange z) where
   itself : Refines z zr Sender Move (Allowed z) (λ s. Unit {0}) (step z) (λ s. s) (λ c s. c) (moveTold z)

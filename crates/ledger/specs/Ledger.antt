@@ -37,10 +37,6 @@ pub record Sender : Type 0 where
   pub awaited : Bool
   pub number : ℕ
 
--- `Station::new`
-abbrev pub freshLedger : Sender
-freshLedger = record { waiting = []; next = 0; acked = 0; pieces = []; held = []; rest = []; sent = []; awaited = false; number = 0 }
-
 abbrev pub len : Piece → ℕ
 len p = length (p .bytes)
 
@@ -77,10 +73,6 @@ find o (p ∷ ps) = cond (eqb o (p .off)) (p .bytes) (find o ps)
 abbrev pub remove : ℕ → List Piece → List Piece
 remove o [] = []
 remove o (p ∷ ps) = cond (eqb o (p .off)) ps (p ∷ remove o ps)
-
--- bytes taken in all: "the next offset plus waiting"
-abbrev pub takenOf : Sender → ℕ
-takenOf s = s .next + length (s .waiting)
 
 -- ---- `Station::queue`
 
@@ -212,9 +204,6 @@ module _ (g : Plan) where
 pub record Frame : Type 0 where
   pub off : ℕ
   pub len : ℕ
-
-abbrev pub frames : List Piece → List Sent → List Frame
-frames ps fs = map (λ (f : Sent). record { off = f .off; len = length (find (f .off) ps) }) fs
 
 -- ---- `settle_burst`: its loop from place i on, with the ack's bits b
 

@@ -1,10 +1,14 @@
 pub mod Sizes
+pub mod SizesCode
 pub mod Reply
 pub mod Ledger
+pub mod LedgerCode
 pub mod LeftOut
 pub mod Tally
 pub mod Cover
+pub mod CoverCode
 pub mod Sound
 pub mod Plan
 pub mod Calls
+pub mod CallsCode
 pub mod Claim

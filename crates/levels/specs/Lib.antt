@@ -1,4 +1,4 @@
 pub mod Usable
 pub mod Memory
 pub mod Rates
-pub mod Paces
+pub mod RatesCode

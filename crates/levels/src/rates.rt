@@ -3,8 +3,8 @@ use config::Profile;
 ghost use mathlib.Core.Path.{_≡_};
 ghost use Prim.Native.Nat.{_<_};
 ghost use Rattle.config.specs.Ranged.{Ranged};
-ghost use Rattle.levels.specs.Rates.{framesPerBurst, levelRate};
-ghost use Rattle.levels.specs.Paces.{Paced, paceS, paceBits, paceRate};
+ghost use Rattle.levels.specs.Rates.{framesPerBurst, payloadBits, paceRate, levelRate};
+ghost use Rattle.levels.specs.RatesCode.{Paced};
 
 // What a level's rate goes by: the seconds of a usual burst, pre_s + bits / rate seconds for a burst at the level, those of a
 // cue, the coded bits of a frame, and the bytes of a short and a long one.
@@ -28,21 +28,10 @@ fn frames_of(usual: f64, one: f64, two: f64) -> f64
 }
 
 impl Pace {
-    // data_s: the seconds of a burst, behind a cue or not.
-    fn data_s(self, bits: u64, cue: bool) -> f64
-        ensures { λ r. ⌜ r ≡ paceS self bits cue ⌝ }
-    {
-        let s = float::gear::duration(self.pre_s, self.rate, bits);
-        if cue {
-            return s + self.cue_s;
-        }
-        s + 0.0
-    }
-
     // Level l's payload bits a frame.
     fn payload_bits(self, l: usize) -> u64
         requires { ⌜ l < 17 ⌝ }
-        ensures { λ r. ⌜ r ≡ paceBits self l ⌝ }
+        ensures { λ r. ⌜ r ≡ payloadBits self l ⌝ }
     {
         if level::long_frame(l) {
             (self.long_bytes as u64) * 8
@@ -57,10 +46,12 @@ impl Pace {
         ensures { λ r. ⌜ r ≡ paceRate self l cue ⌝ }
     {
         let slot = self.slot as u64;
-        let one = self.data_s(slot, cue);
-        let two = self.data_s(2 * slot, cue);
+        let lead = float::gear::cue_s(cue, self.cue_s);
+        let one = float::gear::data_s(self.pre_s, self.rate, slot, lead);
+        let two = float::gear::data_s(self.pre_s, self.rate, 2 * slot, lead);
         let frames = frames_of(self.usual, one, two);
-        let burst = self.data_s(float::whole::count_of(frames) * slot, cue);
+        let most = float::whole::count_of(frames) * slot;
+        let burst = float::gear::data_s(self.pre_s, self.rate, most, lead);
         let bits = std::num::nearest_u64_to_f64(self.payload_bits(l));
         float::pick::max64(float::whole::floor64(frames), 1.0) * bits
             / float::pick::max64(burst, 1e-3)

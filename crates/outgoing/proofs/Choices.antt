@@ -6,14 +6,14 @@ use Rattle.header.proofs.Laws.{burst-id-lt}
 use Rattle.config.specs.declared.Profile.{Profile}
 use Rattle.config.specs.Ranged.{Ranged}
 use Rattle.levels.proofs.rates.RateLaws.{cue-in}
-use Rattle.gear.specs.declared.goodput.Gear.{Gear}
+use Rattle.gear.specs.declared.Gear.{Gear}
 use Rattle.ledger.specs.Plan.{ChoiceRange, Longer}
-use Rattle.plan.specs.Planning.{CodesRange}
 use Rattle.plan.proofs.Increments.{codes-range}
 use Rattle.plan.proofs.Choices.{choice-range, choice-longer}
 use Rattle.record.specs.declared.Link.{Link}
 use Rattle.record.specs.declared.Sender.{Sender}
 use Rattle.outgoing.specs.Choosing.{chosen, choice, cue, nextNumber}
+use Rattle.plan.specs.PlanningCode.{CodesRange}
 
 module _ (p : Profile) (r : Ranged p) where
   pub chosen-codes : (g : Gear) (k : Link) → g .level < 17 → length (p .codes .ends) ≤ 6 → CodesRange (p .codes) (chosen p g k)
@@ -30,4 +30,4 @@ module _ (p : Profile) (r : Ranged p) where
     unfolding chosen
     choice-long =
         let k = r .air .level (s .gear .level) l in
-        choice-longer (p .codes) (chosen p (s .gear) (s .link)) (p .«merge_pieces») (nextNumber (s .link)) (k .pre) (k .rate) (cue-in p r (s .gear .level) l (cue p (s .gear)))
+        choice-longer (p .codes) (chosen p (s .gear) (s .link)) (p .«merge_pieces») (nextNumber (s .link)) (k .pre) (k .rate) (cue-in (p .air .«cue_s») (r .air .cue) (cue p (s .gear)))

@@ -1,12 +1,11 @@
 // What the gear, the level and the profile say of the next burst.
 use config::Profile;
-use gear::goodput::Gear;
+use gear::Gear;
 use plan::Choice;
 use record::Link;
 ghost use mathlib.Core.Path.{_≡_};
 ghost use mathlib.Core.Bool.{cond};
 ghost use Prim.Native.Nat.{_<_};
-ghost use lib.Ieee.{binary64, ofBits};
 ghost use Rattle.float.specs.Pick.{maxF};
 ghost use Rattle.outgoing.specs.Choosing.{chosen};
 
@@ -20,16 +19,6 @@ fn parity_len_s(p: Profile, max_s: f64) -> f64
     max_s
 }
 
-// The seconds of a cue, if one goes.
-fn cue_len_s(p: Profile, cue: bool) -> f64
-    ensures { λ r. ⌜ r ≡ cond cue (p .air .«cue_s») (ofBits binary64 0) ⌝ }
-{
-    if cue {
-        return p.air.cue_s;
-    }
-    0.0
-}
-
 // The first lines of data_burst.
 pub fn choose(p: Profile, g: Gear, k: Link) -> Choice
     requires { ⌜ g .level < 17 ⌝ }
@@ -38,7 +27,7 @@ pub fn choose(p: Profile, g: Gear, k: Link) -> Choice
     let l = g.level;
     let air = p.air;
     let cue = g.cue_for(p, l);
-    let max_s = gear::burst_length::burst_len_s(g, p, l);
+    let max_s = g.burst_len_s(p, l);
     Choice {
         long: level::long_frame(l),
         same_wave: level::wave_rank(l) == k.peer_wave,
@@ -46,7 +35,7 @@ pub fn choose(p: Profile, g: Gear, k: Link) -> Choice
         slot: air.slot(l),
         pre_s: air.pre_s[l],
         rate: air.rate[l],
-        cue_s: cue_len_s(p, cue),
+        cue_s: float::gear::cue_s(cue, air.cue_s),
         max_s,
         parity_s: parity_len_s(p, max_s),
         max_bits: air.most_bits(l),

@@ -7,8 +7,8 @@ ghost use mathlib.Core.Path.{_≡_};
 ghost use Prim.Native.Nat.{ℕ, _<_, _≤_};
 ghost use lib.ListN.{getD};
 ghost use Rattle.frames.specs.Slots.{slotsFrom};
-ghost use Rattle.outgoing.specs.Outgoing.{slotFrames};
 ghost use Rattle.limits.specs.Limits.{maxSlots};
+ghost use Rattle.outgoing.specs.OutgoingCode.{slotFrames};
 
 // The frames of a burst's slots; a span starts where the bits of before end, in the mother code.
 pub fn frames_out(q: Harq, s: Slots) -> Frames

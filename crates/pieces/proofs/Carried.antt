@@ -23,15 +23,14 @@ use Rattle.area_check.specs.Rows.{rowOffs}
 use Rattle.frames.specs.Slots.{unheldSlots, incrementSlots}
 use Rattle.frames.specs.declared.slots.Slot.{Slot}
 use Rattle.frames.proofs.slots.Laws.{chunk-total}
-use Rattle.ledger.specs.Ledger.{Piece, Plan, Sender, Sent, Held, end, size, offs, heldOffs, find, frames, kept, recut, oldOffs, newPieces, dataBurst}
-use Rattle.ledger.specs.Cover.{Ascend}
+use Rattle.ledger.specs.Ledger.{Piece, Plan, Sender, Sent, Held, end, size, offs, heldOffs, find, kept, recut, oldOffs, newPieces, dataBurst}
 use Rattle.ledger.specs.Sound.{Sound, Fits}
 use Rattle.ledger.proofs.Burst.{burst-sound, burst-ascend}
 use Rattle.ledger.proofs.Cover.{ascend-le, ascend-chunks}
 use Rattle.ledger.proofs.Offsets.{offs-append, occurs-low, occurs-once, flying-within}
 use Rattle.pieces.specs.Pieces.{piecesOf}
-use Rattle.pieces.specs.Lists.{heldOf, sentSlots}
-use Rattle.pieces.specs.Burst.{oldSlots, newRows, newSlots, burstSlots, Placed, framesSent}
+use Rattle.pieces.specs.Lists.{heldOf}
+use Rattle.pieces.specs.Burst.{framesSent}
 use Rattle.pieces.proofs.Sound.{offs-rows, size-rows, total-append}
 use Rattle.pieces.proofs.Lists.{sentSlots-length}
 use Rattle.pieces.proofs.Chunks.{append-pieces}
@@ -39,7 +38,12 @@ use Rattle.pieces.proofs.Room.{payload-some}
 use Rattle.pieces.proofs.Burst.{kept-offs, burst-new, burst-slots}
 use Rattle.pieces.proofs.Placed.{placed-append, placed-take, placed-more, placed-increments, placed-unheld, placed-bytes, placed-carry, placed-frames, placed-fit, rowOffs-append}
 use Rattle.limits.specs.Limits.{maxSlots}
-use Rattle.ledger.specs.Sizes.{Sizes, SizeRange}
+use Rattle.ledger.specs.Sizes.{Sizes}
+use Rattle.ledger.specs.CoverCode.{Ascend}
+use Rattle.ledger.specs.LedgerCode.{frames}
+use Rattle.ledger.specs.SizesCode.{SizeRange}
+use Rattle.pieces.specs.BurstCode.{oldSlots, newRows, newSlots, burstSlots, Placed}
+use Rattle.pieces.specs.ListsCode.{sentSlots}
 
 -- ---- pieces out of a longer stream
 

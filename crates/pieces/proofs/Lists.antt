@@ -9,7 +9,8 @@ use lib.ListN.{length, take, drop, length-map}
 use Rattle.laws.proofs.Lists.{map-append, map-take, map-map}
 use Rattle.ledger.specs.Ledger.{Held, Sent, heldOffs, sentOffs}
 use Rattle.frames.specs.declared.slots.Slot.{Slot}
-use Rattle.pieces.specs.Lists.{heldOf, sentOf, sentSlots}
+use Rattle.pieces.specs.Lists.{heldOf, sentOf}
+use Rattle.pieces.specs.ListsCode.{sentSlots}
 
 -- ---- offsets and held bits
 

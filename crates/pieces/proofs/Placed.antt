@@ -21,18 +21,21 @@ use Rattle.frame.proofs.Laws.{length-frame}
 use Rattle.frames.specs.Frames.{framesWritten, Fit}
 use Rattle.area.specs.declared.table.Row.{Row}
 use Rattle.area.specs.Table.{total}
-use Rattle.area.specs.Find.{findFrom, bytesAt}
+use Rattle.area.specs.Find.{findFrom}
 use Rattle.area.specs.declared.lookup.Found.{Found}
 use Rattle.area.proofs.lookup.Laws.{find-within}
 use Rattle.area_check.specs.Rows.{rowOffs}
 use Rattle.frames.specs.Slots.{unheldSlots, incrementSlots}
 use Rattle.frames.specs.declared.slots.Slot.{Slot}
-use Rattle.ledger.specs.Ledger.{Piece, Sent, Frame, end, find, frames}
-use Rattle.ledger.specs.Cover.{Ascend}
+use Rattle.ledger.specs.Ledger.{Piece, Sent, Frame, end, find}
 use Rattle.pieces.specs.Pieces.{piecesOf}
-use Rattle.pieces.specs.Lists.{sentSlots}
-use Rattle.pieces.specs.Burst.{Placed, framesSent}
+use Rattle.pieces.specs.Burst.{framesSent}
 use Rattle.pieces.proofs.Sound.{head-length, total-append}
+use Rattle.ledger.specs.CoverCode.{Ascend}
+use Rattle.ledger.specs.LedgerCode.{frames}
+use Rattle.area.specs.FindCode.{bytesAt}
+use Rattle.pieces.specs.BurstCode.{Placed}
+use Rattle.pieces.specs.ListsCode.{sentSlots}
 
 -- ---- what is found
 

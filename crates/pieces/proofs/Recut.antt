@@ -16,8 +16,8 @@ use Rattle.area.specs.Table.{total}
 use Rattle.area.specs.Recut.{row, cutRows, splitRows, joinsRow, mergeRowsFrom, mergeRows}
 use Rattle.ledger.specs.Ledger.{Piece, Plan, Sender, heldOffs, cut, split, joins, mergeFrom, mergeInflight, kept, recut}
 use Rattle.pieces.specs.Pieces.{piecesOf}
-use Rattle.pieces.specs.Burst.{recutRows}
 use Rattle.pieces.proofs.Sound.{head-length, total-append}
+use Rattle.pieces.specs.BurstCode.{recutRows}
 
 -- ---- cut
 

@@ -11,8 +11,9 @@ use Rattle.area.specs.declared.table.Row.{Row}
 use Rattle.area.specs.Table.{total}
 use Rattle.area.specs.Removal.{keptRows, keptBytes}
 use Rattle.ledger.specs.Ledger.{Piece}
-use Rattle.pieces.specs.Pieces.{piecesOf, unlistedPieces}
+use Rattle.pieces.specs.Pieces.{piecesOf}
 use Rattle.pieces.proofs.Sound.{head-length}
+use Rattle.pieces.specs.PiecesCode.{unlistedPieces}
 
 kept-turn : (b : Bool) (r : Row) (bs : List ℕ) (rs : List Row) (st : List ℕ) (ps : List Piece) → length bs ≡ r .len → piecesOf rs st ≡ ps
     → piecesOf (cond b rs (r ∷ rs)) (cond b st (bs ++ st)) ≡ cond b ps (record { off = r .off; bytes = bs } ∷ ps)

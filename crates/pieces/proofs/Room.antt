@@ -12,12 +12,11 @@ use borrow.Author.Tests.{ltb-true, ltb-false}
 use Rattle.harq.specs.declared.Harq.{Harq}
 use Rattle.laws.proofs.Picks.{test}
 use Rattle.area.specs.declared.table.Row.{Row}
-use Rattle.area.specs.Table.{rowAt, rowsFrom, total, Small}
+use Rattle.area.specs.Table.{rowAt, rowsFrom, total}
 use Rattle.area.specs.Recut.{splitRows}
 use Rattle.frames.specs.Slots.{incrementSlots}
 use Rattle.frames.proofs.slots.Laws.{increments-length}
 use Rattle.ledger.specs.Ledger.{Piece, Plan, Sender, end, heldOffs, unheld, split, kept, recut, oldOffs, newPieces, dataBurst}
-use Rattle.ledger.specs.Cover.{Ascend, shortFrames}
 use Rattle.ledger.specs.Sound.{Sound, Fits}
 use Rattle.ledger.proofs.Burst.{burst-sound, burst-ascend}
 use Rattle.ledger.proofs.Cover.{ascend-le, ascend-split, split-fits}
@@ -25,13 +24,16 @@ use Rattle.ledger.proofs.HeldPieces.{pieces-few, length-heldOffs}
 use Rattle.ledger.proofs.ShortFrames.{pieces-shortFrames, shortFrames-split}
 use Rattle.pieces.specs.Pieces.{piecesOf}
 use Rattle.pieces.specs.Lists.{heldOf}
-use Rattle.pieces.specs.Burst.{oldSlots}
 use Rattle.pieces.proofs.Sound.{head-length, length-pieces}
 use Rattle.pieces.proofs.Lists.{held-length}
 use Rattle.pieces.proofs.Recut.{split-pieces}
 use Rattle.pieces.proofs.Burst.{burst-old-count}
 use Rattle.limits.specs.Limits.{maxPieces, maxSlots, maxTaken}
-use Rattle.ledger.specs.Sizes.{Sizes, SizeRange}
+use Rattle.ledger.specs.Sizes.{Sizes}
+use Rattle.ledger.specs.CoverCode.{Ascend, shortFrames}
+use Rattle.ledger.specs.SizesCode.{SizeRange}
+use Rattle.area.specs.TableCode.{Small}
+use Rattle.pieces.specs.BurstCode.{oldSlots}
 
 -- ---- u32 fields
 

@@ -12,16 +12,18 @@ use borrow.Author.Tests.{ne-eqb, eq-eqb, eqb-true, eqb-false}
 use Rattle.laws.specs.Lists.{listed}
 use Rattle.laws.proofs.Picks.{by, by₂}
 use Rattle.area.specs.declared.table.Row.{Row}
-use Rattle.area.specs.Table.{total, Small}
+use Rattle.area.specs.Table.{total}
 use Rattle.area.specs.Removal.{keptRows, keptBytes}
 use Rattle.ledger.specs.Ledger.{Piece, Sent, end, size, remove, remaining, ackedBytes}
-use Rattle.ledger.specs.Cover.{Ascend}
 use Rattle.ledger.proofs.Offsets.{ascend-remove}
 use Rattle.ledger.proofs.Settle.{ackedBytes-remaining}
-use Rattle.pieces.specs.Pieces.{piecesOf, unlistedPieces}
-use Rattle.pieces.specs.Lists.{ackedOffs}
+use Rattle.pieces.specs.Pieces.{piecesOf}
 use Rattle.pieces.proofs.Sound.{head-length, size-rows}
 use Rattle.pieces.proofs.Removed.{kept-pieces}
+use Rattle.ledger.specs.CoverCode.{Ascend}
+use Rattle.area.specs.TableCode.{Small}
+use Rattle.pieces.specs.ListsCode.{ackedOffs}
+use Rattle.pieces.specs.PiecesCode.{unlistedPieces}
 
 -- ---- pieces
 

@@ -11,9 +11,10 @@ use Rattle.laws.proofs.Bytes.{over-nil, over-cat, set-over, getD-over-before, p
 use Rattle.frames.specs.declared.slots.Slot.{Slot}
 use Rattle.frames.specs.declared.slots.Slots.{Slots}
 use Rattle.frames.specs.Slots.{slotPushed, pushAll, noSlots, slotsFrom}
-use Rattle.pieces.specs.Lists.{sentOf, sentSlots}
+use Rattle.pieces.specs.Lists.{sentOf}
 use Rattle.pieces.proofs.Lists.{sentSlots-is}
 use Rattle.limits.specs.Limits.{maxSlots}
+use Rattle.pieces.specs.ListsCode.{sentSlots}
 
 -- ---- the arrays
 

@@ -16,12 +16,13 @@ use Rattle.area.specs.declared.table.Row.{Row}
 use Rattle.area.specs.Table.{total}
 use Rattle.area_check.specs.Rows.{ascends, shortFramesOf, rowOffs, tableOk, allFlying, heldBitsOk, sentBitsOk, noneListed}
 use Rattle.ledger.specs.Ledger.{size, offs}
-use Rattle.ledger.specs.Cover.{Ascend, ceil, shortFrames}
+use Rattle.ledger.specs.Cover.{ceil}
 use Rattle.ledger.specs.Sound.{Flying, HeldBits, SentBits}
 use Rattle.ledger.proofs.ShortFrames.{pieces-shortFrames}
 use Rattle.pieces.specs.Pieces.{piecesOf}
 use Rattle.pieces.specs.Lists.{heldOf, sentOf}
 use Rattle.limits.specs.Limits.{maxPieces, maxBits, maxHeld}
+use Rattle.ledger.specs.CoverCode.{Ascend, shortFrames}
 
 pub offs-rows : (rs : List Row) (st : List ℕ) → offs (piecesOf rs st) ≡ rowOffs rs
 offs-rows [] st = refl

@@ -1,9 +1,7 @@
 -- The ledger's pieces that the table's rows and the stream hold. Definitions only.
 use mathlib.Core.List.{List, [], _∷_}
-use mathlib.Core.Bool.{cond}
 use Prim.Native.Nat.{ℕ}
 use lib.ListN.{take, drop}
-use Rattle.laws.specs.Lists.{listed}
 use Rattle.area.specs.declared.table.Row.{Row}
 use Rattle.ledger.specs.Ledger.{Piece}
 
@@ -11,8 +9,3 @@ use Rattle.ledger.specs.Ledger.{Piece}
 abbrev pub piecesOf : List Row → List ℕ → List Piece
 piecesOf [] st = []
 piecesOf (r ∷ rs) st = record { off = r .off; bytes = take (r .len) st } ∷ piecesOf rs (drop (r .len) st)
-
--- the pieces that are left once the listed ones are removed
-abbrev pub unlistedPieces : List ℕ → List Piece → List Piece
-unlistedPieces xs [] = []
-unlistedPieces xs (p ∷ ps) = cond (listed (p .off) xs) (unlistedPieces xs ps) (p ∷ unlistedPieces xs ps)

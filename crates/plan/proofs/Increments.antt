@@ -9,8 +9,8 @@ use Rattle.laws.proofs.Picks.{test}
 use Rattle.harq.specs.Held.{above, smallest, upTo, incrementOf}
 use Rattle.harq.specs.declared.Harq.{Harq}
 use Rattle.plan.specs.declared.Choice.{Choice}
-use Rattle.plan.specs.Planning.{CodesRange}
 use Rattle.limits.specs.Limits.{maxBits}
+use Rattle.plan.specs.PlanningCode.{CodesRange}
 
 module _ (h slot : ℕ) where
   -- the smallest of ends above h is above h, and no more than the first

@@ -15,8 +15,8 @@ use Rattle.harq.specs.Held.{incrementOf}
 use Rattle.harq.specs.declared.Harq.{Harq}
 use Rattle.plan.specs.declared.Choice.{Choice}
 use Rattle.plan.specs.declared.Planned.{Planned}
-use Rattle.plan.specs.Planning.{tooBigFor, parityBitsOf, poppedFrom, parityOf, offeredOf, oneMoreFits, roomCounted, planned}
 use Rattle.limits.specs.Limits.{maxSlots, maxBits, partialMax}
+use Rattle.plan.specs.PlanningCode.{tooBigFor, parityBitsOf, poppedFrom, parityOf, offeredOf, oneMoreFits, roomCounted, planned}
 
 -- bits of whole pieces
 pub wholes-small : (r s : ℕ) → r ≤ maxSlots → s ≤ maxBits → (r + 1) * s ≤ 1064960

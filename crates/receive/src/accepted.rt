@@ -13,8 +13,8 @@ use report::ack::AckRead;
 ghost use mathlib.Core.Path.{_≡_};
 ghost use Rattle.report.specs.Ack.{ackOf};
 ghost use Rattle.config.specs.Ranged.{Ranged};
-ghost use Rattle.replies.specs.Replies.{ReplyReady};
 ghost use Rattle.receive.specs.Accepted.{longRead, acceptedReply};
+ghost use Rattle.replies.specs.RepliesCode.{ReplyReady};
 
 // A long ack, by what AckInfo::from_bytes reads of its payload.
 pub fn hear_payload(

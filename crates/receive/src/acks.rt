@@ -1,19 +1,17 @@
 // Short and long acks (the Ack arm of sender_rx and its frame loop, sender.rs), once accepted.
 use crate::awaited::ack_in;
 use config::Profile;
-use gear::goodput::Gear;
 use record::Link;
 use record::Sender;
 use replies::Ack;
 use replies::Heard;
 use replies::LongAck;
-use report::ChanClass;
 use report::ack::AckInfo;
 use settle::outcome::bits_for;
 ghost use mathlib.Core.Path.{_≡_};
 ghost use Rattle.config.specs.Ranged.{Ranged};
-ghost use Rattle.replies.specs.Replies.{ackNoted, longDb, ReplyReady, shortAcked, longAcked};
-ghost use Rattle.gear.specs.Setters.{withClass};
+ghost use Rattle.replies.specs.Replies.{ackNoted, longDb, shortAcked, longAcked};
+ghost use Rattle.replies.specs.RepliesCode.{ReplyReady};
 
 // The wishes, the number last heard, and the time.
 fn note(k: Link, time: f64, turn: bool, disc: bool, number: u8) -> Link
@@ -25,14 +23,6 @@ fn note(k: Link, time: f64, turn: bool, disc: bool, number: u8) -> Link
     q.peer_heard = number;
     q.peer_wants_turn = turn;
     q.peer_wants_disc = disc;
-    q
-}
-
-fn with_class(g: Gear, class: ChanClass) -> Gear
-    ensures { λ r. ⌜ r ≡ withClass g class ⌝ }
-{
-    let mut q = g;
-    q.peer_class = class;
     q
 }
 
@@ -57,7 +47,7 @@ pub fn hear_short(p: Profile, s: Sender, a: &mut [u8], h: Heard, r: Ack) -> Send
     if !k.awaiting {
         return q;
     }
-    let g = with_class(s.gear, r.class);
+    let g = s.gear.with_class(r.class);
     let n = s.last_burst.n;
     q.gear = g;
     q.link.peer_slot = r.slot;
@@ -85,7 +75,7 @@ pub fn hear_long(p: Profile, s: Sender, a: &mut [u8], h: Heard, r: LongAck, i: A
         return q;
     }
     let c = i.report;
-    let g = with_class(s.gear, c.class);
+    let g = s.gear.with_class(c.class);
     q.gear = g;
     q.link.peer_slot = c.slot;
     q.link.peer_doppler_hz = c.doppler_hz;

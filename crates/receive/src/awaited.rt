@@ -1,6 +1,5 @@
 // An ack that is awaited (`ack_in` of sender.rs).
 use config::Profile;
-use gear::on_ack;
 use record::Sender;
 use settle::outcome::clear_burst;
 use settle::outcome::outcome;
@@ -9,7 +8,7 @@ ghost use mathlib.Core.Path.{_≡_};
 ghost use Prim.Native.Nat.{_<_};
 ghost use Rattle.config.specs.Ranged.{Ranged};
 ghost use Rattle.settle.specs.Settle.{Settling};
-ghost use Rattle.settle.specs.AckIn.{ackedBy};
+ghost use Rattle.settle.specs.AckInCode.{ackedBy};
 
 // ack_in: an ack that is awaited.
 pub fn ack_in(
@@ -31,7 +30,7 @@ pub fn ack_in(
     let level = g.level;
     let n = b.n;
     let matched = burst == k.burst_id;
-    let h = on_ack(g, p, outcome(b, bitmap, matched), snr_db, time);
+    let h = g.on_ack(p, outcome(b, bitmap, matched), snr_db, time);
     let mut q = s;
     q.gear = h;
     if matched & (0 < n) {

@@ -1,7 +1,5 @@
 // Connect answers and turns (the ConnAck and Turn arms of sender_rx, sender.rs), once accepted.
 use config::Profile;
-use gear::other_replies::connect;
-use gear::other_replies::on_turn;
 use record::Sender;
 use replies::ConnAck;
 use replies::Heard;
@@ -11,8 +9,9 @@ use settle::outcome::outcome;
 ghost use mathlib.Core.Path.{_≡_};
 ghost use Prim.Native.Nat.{_≤_, _<_};
 ghost use Rattle.config.specs.Ranged.{Ranged};
-ghost use Rattle.replies.specs.Replies.{turnDb, turnedTo, connectedTo};
+ghost use Rattle.replies.specs.Replies.{turnDb, connectedTo};
 ghost use Rattle.limits.specs.Limits.{maxSlots};
+ghost use Rattle.replies.specs.RepliesCode.{turnedTo};
 
 fn turn_db(h: Heard, r: Turn) -> f32
     ensures { λ q. ⌜ q ≡ turnDb h r ⌝ }
@@ -29,7 +28,7 @@ pub fn hear_turn(p: Profile, s: Sender, h: Heard, r: Turn) -> Sender
     ensures { λ q. ⌜ q ≡ turnedTo p h r s ⌝ }
 {
     let o = outcome(s.last_burst, 0, false);
-    let g = on_turn(s.gear, p, o, turn_db(h, r), h.wave, h.time);
+    let g = s.gear.on_turn(p, o, turn_db(h, r), h.wave, h.time);
     let mut q = s;
     q.gear = g;
     q.link.last_time = h.time;
@@ -43,7 +42,7 @@ pub fn hear_connect(p: Profile, s: Sender, h: Heard, r: ConnAck) -> Sender
 {
     let mut g = s.gear;
     g.burst_s = p.lengths.max_burst_s;
-    let m = connect(g, p, r.class, p.cue & r.cue, r.snr_db, h.time);
+    let m = g.connect(p, r.class, p.cue & r.cue, r.snr_db, h.time);
     let mut q = s;
     q.gear = m;
     q.link.connected = true;

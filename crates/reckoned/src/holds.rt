@@ -4,9 +4,8 @@ use config::Profile;
 use config::ranges::in_range;
 use defaults::new_profile;
 use float::whole::cut64;
+use gear::Gear;
 use gear::Outcome;
-use gear::goodput::Gear;
-use gear::on_ack;
 use io::write_all;
 use levels::memory::Reports;
 use levels::memory::Tries;
@@ -85,7 +84,7 @@ fn hold_case(text: &[u8], most: f64) {
         got: 0,
     };
     if in_range(p) {
-        let g = on_ack(failed_twice(), p, lost, 20.0, 0.0);
+        let g = failed_twice().on_ack(p, lost, 20.0, 0.0);
         let h = g.holds;
         let end = h.blocked_until[LEVEL];
         crate::say(text, cut64(end));

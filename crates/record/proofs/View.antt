@@ -9,10 +9,11 @@ use lib.Seq.{take-at, drop-at, take-add, take-length, take-append-seam, drop-app
 use Rattle.laws.specs.Bytes.{overwrite, part, Bytes}
 use Rattle.laws.proofs.Bytes.{length-over, over-part, part-add, take-over, part-inside, length-part}
 use Rattle.ledger.specs.Ledger as L
+use Rattle.ledger.specs.LedgerCode.{freshLedger}
 use Rattle.ledger.specs.Ledger.{Piece, Held, Sent, size, bytesOf, heldOffs, sentOffs}
 use Rattle.ledger.proofs.Stream.{length-bytesOf}
 use Rattle.area.specs.Layout.{place, areaBytes, streamBytes}
-use Rattle.area.specs.Table.{rowsFrom, tableBytes, total, Small}
+use Rattle.area.specs.Table.{rowsFrom, tableBytes, total}
 use Rattle.area.specs.declared.table.Row.{Row}
 use Rattle.area.proofs.table.Laws.{rows-written, table-kept, length-rows}
 use Rattle.pieces.specs.Pieces.{piecesOf}
@@ -27,6 +28,7 @@ use Rattle.record.specs.declared.Sender.{Sender}
 use Rattle.record.specs.Fresh.{fresh}
 use Rattle.record.specs.View.{heldIn, restIn, sentIn, view, rowsOf, storeArea, storeHeld, storeSent, storeCounts, storeLink, store}
 use Rattle.limits.specs.Limits.{maxPieces, maxSlots}
+use Rattle.area.specs.TableCode.{Small}
 
 -- ---- rows and pieces
 
@@ -269,6 +271,6 @@ module _ (s : Sender) (a : List ℕ) (c : Counted s a) (ar : Arrays s) where
       ∙ ap (withLastBurst s) sent-kept
 
 -- a fresh record shows a fresh sender, whatever the work area has
-pub view-fresh : (a : List ℕ) → view fresh a ≡ L.freshLedger
+pub view-fresh : (a : List ℕ) → view fresh a ≡ freshLedger
 unfolding view
 view-fresh a = refl

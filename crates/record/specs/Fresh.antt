@@ -5,7 +5,7 @@ use lib.Ieee.{Float, nan, inf, binary32, binary64, ofInt}
 use lib.ListN.{replicate}
 use Rattle.ieee.specs.Range.{w32, w64}
 use Rattle.config.specs.declared.MaybeDb.{MaybeDb}
-use Rattle.gear.specs.declared.goodput.Gear.{Gear}
+use Rattle.gear.specs.declared.Gear.{Gear}
 use Rattle.record.specs.declared.Link.{Link}
 use Rattle.record.specs.declared.Counts.{Counts}
 use Rattle.record.specs.declared.AtPeer.{AtPeer}

@@ -1,6 +1,6 @@
 // The sender's record: the sending half of Station (station.rs), nested in small structs.
 use config::MaybeDb;
-use gear::goodput::Gear;
+use gear::Gear;
 use levels::memory::Reports;
 use levels::memory::Tries;
 use levels::usable::Holds;

@@ -10,7 +10,7 @@ use crate::text::whole;
 use crate::text::wide;
 use byte_copy::load32;
 use config::MaybeDb;
-use gear::goodput::Gear;
+use gear::Gear;
 use levels::memory::Reports;
 use record::AtPeer;
 use record::LastBurst;

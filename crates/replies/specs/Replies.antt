@@ -1,25 +1,20 @@
 -- The ConnAck, Ack and Turn arms of `sender_rx` and its frame loop (sender.rs; document 01, module 5), for replies that are not refused. Definitions only.
 use mathlib.Core.List.{List}
-use mathlib.Core.Bool.{Bool, true, false, cond, _&&_}
-use Prim.Native.Nat.{ℕ, _+_, _%_, _<_}
+use mathlib.Core.Bool.{Bool, false, cond, _&&_}
+use Prim.Native.Nat.{ℕ, _+_, _%_}
 use lib.Ieee.{Float}
-use Rattle.report.specs.declared.ChanClass.{ChanClass}
 use Rattle.report.specs.declared.ack.AckInfo.{AckInfo}
 use Rattle.config.specs.declared.Profile.{Profile}
-use Rattle.gear.specs.declared.goodput.Gear.{Gear}
 use Rattle.gear.specs.Setters.{withBurst, withClass}
 use Rattle.gear.specs.OtherReplies.{connected, onTurn}
 use Rattle.ledger.specs.Reply.{Reply, shortAck, longAck}
 use Rattle.ledger.specs.Ledger as L
 use Rattle.ledger.specs.Ledger.{clearBurst}
-use Rattle.ledger.specs.Sound.{Sound}
-use Rattle.record.specs.Profiles.{sizesOf}
 use Rattle.record.specs.View.{view, store, storeArea}
 use Rattle.record.specs.declared.Link.{Link}
 use Rattle.record.specs.declared.Sender.{Sender}
-use Rattle.settle.specs.Settle.{Settling}
-use Rattle.settle.specs.Outcomes.{outcomeOf, outcomeIn}
-use Rattle.settle.specs.AckIn.{ackIn, withoutBurst}
+use Rattle.settle.specs.Outcomes.{outcomeOf}
+use Rattle.settle.specs.AckIn.{ackIn}
 use Rattle.replies.specs.declared.Heard.{Heard}
 use Rattle.replies.specs.declared.ConnAck.{ConnAck}
 use Rattle.replies.specs.declared.Ack.{Ack}
@@ -82,13 +77,3 @@ unfoldable pub connectedTo : Profile → Heard → ConnAck → Sender → Sender
 connectedTo p h r s =
     withLink (withGear s (connected p (withBurst (s .gear) (p .lengths .«max_burst_s»)) (r .class) (p .cue && r .cue) (r .«snr_db») (h .time)))
     (connectNoted (s .link) (h .time) (r .session) (r .slot))
-
--- as the code goes
-unfoldable pub turnedTo : Profile → Heard → Turn → Sender → Sender
-turnedTo p h r s = withoutBurst (withLink (withGear s (onTurn p (s .gear) (outcomeIn 0 false (s .«last_burst»)) (turnDb h r) (h .wave) (h .time))) (withTime (s .link) (h .time)))
-
--- what an accepted reply finds: a sound record, as far as it matters here
-pub record ReplyReady (p : Profile) (s : Sender) (a : List ℕ) : Type 0 where
-  pub level : s .gear .level < 17
-  pub settling : Settling s a
-  pub sound : Sound (sizesOf p) (view s a)

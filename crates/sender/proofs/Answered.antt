@@ -12,13 +12,11 @@ use Rattle.config.specs.Ranged.{Ranged}
 use Rattle.config.proofs.ranges.Ranged.{ranged}
 use Rattle.ledger.specs.Ledger as L
 use Rattle.area.specs.Table.{rowsFrom}
-use Rattle.area.specs.Find.{bytesAt}
 use Rattle.pieces.proofs.Placed.{found-bytes}
 use Rattle.record.specs.View.{view, storeArea}
 use Rattle.record.specs.declared.Sender.{Sender}
 use Rattle.record.proofs.View.{Arrays}
 use Rattle.soundness.proofs.fields.Sound.{test-sound, sound-counted, sound-level, sound-settling}
-use Rattle.replies.specs.Replies.{ReplyReady}
 use Rattle.replies.specs.declared.Heard.{Heard}
 use Rattle.refusals.specs.declared.Verdict.{Verdict}
 use Rattle.refusals.specs.declared.Reply.{Reply}
@@ -29,6 +27,8 @@ use Rattle.receive.specs.Accepted.{acceptedReply}
 use Rattle.sender.specs.Calls.{queueOf, receiveOf, findOf, pieceOf}
 use Rattle.verdicts.proofs.Passed.{queue-passed, queue-room, receive-passed}
 use Rattle.sender.proofs.Queuing.{queuedTo, queue-area, queue-record}
+use Rattle.area.specs.FindCode.{bytesAt}
+use Rattle.replies.specs.RepliesCode.{ReplyReady}
 
 abbrev answer : Verdict → Sender → List ℕ → Answer × List ℕ
 answer v q b = (record { verdict = v; next = q }, b)

@@ -15,13 +15,12 @@ use Rattle.ledger.specs.Reply.{Reply, bitAt}
 use Rattle.ledger.specs.Ledger as L
 use Rattle.ledger.specs.Ledger.{Piece, Held, Sent, size, bytesOf, heldOffs, sentOffs, remaining, ackedBytes, missed, settleBurst}
 use Rattle.ledger.specs.Sound.{Sound}
-use Rattle.ledger.specs.Cover.{Ascend}
 use Rattle.area.specs.Layout.{place, streamBytes}
 use Rattle.area.specs.Table.{rowsFrom, tableBytes, total}
 use Rattle.area.specs.declared.table.Row.{Row}
 use Rattle.area.specs.Removal.{keptRows, keptBytes, removedPieces}
 use Rattle.pieces.specs.Pieces.{piecesOf}
-use Rattle.pieces.specs.Lists.{heldOf, sentOf, ackedOffs}
+use Rattle.pieces.specs.Lists.{heldOf, sentOf}
 use Rattle.pieces.proofs.Settle.{kept-total, kept-waiting, kept-length, settled-pieces, settled-size, settled-bytes}
 use Rattle.pieces.proofs.Sound.{length-pieces}
 use Rattle.pieces.proofs.Lists.{sent-length}
@@ -36,6 +35,8 @@ use Rattle.record.proofs.View.{Counted, Arrays, rows-pieces, bytes-pieces}
 use Rattle.settle.specs.Settle.{ackedIn, missedIn, heldMore, heldNone, newHeld, settled, withFlight}
 use Rattle.settle.proofs.Laws.{held-more}
 use Rattle.ledger.specs.Sizes.{Sizes}
+use Rattle.ledger.specs.CoverCode.{Ascend}
+use Rattle.pieces.specs.ListsCode.{ackedOffs}
 
 -- ---- bits
 

@@ -1,23 +1,20 @@
 -- An ack that is awaited (`ack_in` of sender.rs, `on_ack` of gear.rs; document 01, module 5). Definitions only.
 use mathlib.Core.List.{List}
 use mathlib.Core.Bool.{Bool, cond, _&&_}
-use Prim.Native.Nat.{ℕ, _-_, _^_}
-use lib.Dec.{eqb, ltb}
+use Prim.Native.Nat.{ℕ}
 use lib.Ieee.{Float}
 use Rattle.level.specs.Ladder.{waveRank, longFrame}
 use Rattle.harq.specs.Held.{hMax}
 use Rattle.config.specs.declared.Profile.{Profile}
-use Rattle.gear.specs.declared.goodput.Gear.{Gear}
+use Rattle.gear.specs.declared.Gear.{Gear}
 use Rattle.gear.specs.Judging.{onAck}
 use Rattle.ledger.specs.Reply.{Reply}
 use Rattle.ledger.specs.Ledger as L
 use Rattle.ledger.specs.Ledger.{settles}
-use Rattle.record.specs.Setters.{withGear, withLink, withLastBurst, withWave, withoutFrames}
+use Rattle.record.specs.Setters.{withGear, withLink, withWave}
 use Rattle.record.specs.View.{view, store, storeArea}
 use Rattle.record.specs.declared.Sender.{Sender}
-use Rattle.settle.specs.Settle.{unawaited, settled}
-use Rattle.settle.specs.Outcomes.{outcomeOf, outcomeIn}
-use Rattle.limits.specs.Limits.{tinyAckFrames, tinyAll}
+use Rattle.settle.specs.Outcomes.{outcomeOf}
 
 -- ---- acks
 
@@ -32,20 +29,3 @@ ackIn p r stored snr now s a =
     let after = L.hearAck (hMax (p .codes)) r (keeps p (s .gear) stored) before in
     let wave = cond (settles r before) (waveRank (s .gear .level)) (s .link .«peer_wave») in
     (store after (withLink (withGear s (onAck p (s .gear) (outcomeOf r before) snr now)) (withWave (s .link) wave)), storeArea after a)
-
--- ---- as the code goes, with the bits in a number
-
-abbrev pub withoutBurst : Sender → Sender
-withoutBurst s = withLastBurst (withLink s (unawaited (s .link))) (withoutFrames (s .«last_burst»))
-
-unfoldable pub ackedBy : Profile → ℕ → ℕ → Bool → Float → Float → Sender → List ℕ → Sender × List ℕ
-ackedBy p burst m stored snr now s a =
-    let matched = eqb burst (s .link .«burst_id») in
-    let q = withGear s (onAck p (s .gear) (outcomeIn m matched (s .«last_burst»)) snr now) in
-    cond (matched && ltb 0 (s .«last_burst» .n))
-    (settled m (hMax (p .codes)) (keeps p (s .gear) stored) (withLink q (withWave (s .link) (waveRank (s .gear .level)))) a)
-    (withoutBurst q, a)
-
--- the bits of a short ack for a burst of n frames: 63 says all of more than six
-unfoldable pub bitsFor : ℕ → ℕ → ℕ
-bitsFor n bitmap = cond (ltb tinyAckFrames n && eqb bitmap tinyAll) (2 ^ 64 - 1) bitmap

@@ -1,4 +1,4 @@
--- `settle_burst` (sender.rs) on the record's lists and the work area's rows. The bitmap's lowest bit is the first frame's. Definitions only.
+-- `settle_burst` (sender.rs) on the record's lists and the work area's rows. The bitmap's lowest bit is the first frame's. Follows the code or serves proofs: nothing here has to be believed.
 use mathlib.Core.List.{List, [], _∷_, map}
 use mathlib.Core.Path.{_≡_}
 use mathlib.Core.Bool.{Bool, true, false, cond, not, _&&_}

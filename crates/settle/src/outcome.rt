@@ -6,9 +6,9 @@ ghost use mathlib.Core.Path.{_≡_};
 ghost use Prim.Native.Nat.{_+_, _≤_, _<_};
 ghost use lib.ListN.{length};
 ghost use Rattle.laws.specs.Lists.{one};
-ghost use Rattle.settle.specs.Outcomes.{tallied, outcomeIn};
-ghost use Rattle.settle.specs.AckIn.{bitsFor, withoutBurst};
 ghost use Rattle.limits.specs.Limits.{maxSlots};
+ghost use Rattle.settle.specs.AckInCode.{bitsFor, withoutBurst};
+ghost use Rattle.settle.specs.OutcomesCode.{tallied, outcomeIn};
 
 // Counts over a burst's frames: those sent fresh, those of them that came through, and all that came through.
 pub struct Came {

@@ -1,26 +1,23 @@
 -- Document 01's sound record, as tests and as facts. Definitions only.
 use mathlib.Core.List.{List, [], _∷_}
-use mathlib.Core.Path.{_≡_}
-use mathlib.Core.Bool.{Bool, true, false, not, _&&_, _||_}
-use Prim.Native.Nat.{ℕ, _+_, _-_, _<_, _≤_}
-use lib.Dec.{T, leb, eqb}
+use mathlib.Core.Bool.{Bool, not, _||_}
+use Prim.Native.Nat.{ℕ, _+_, _-_}
+use lib.Dec.{leb, eqb}
 use lib.ListN.{length, take, drop, getD}
 use lib.Ieee.{Float, nan, binary32, le, lt, neg, ofBits}
 use Rattle.laws.specs.Tests.{all}
 use Rattle.laws.specs.Span.{every, upto}
-use Rattle.ieee.specs.Range.{In, inside, w32, w64}
+use Rattle.ieee.specs.Range.{inside, w32, w64}
 use Rattle.config.specs.declared.MaybeDb.{MaybeDb}
 use Rattle.config.specs.declared.Profile.{Profile}
 use Rattle.levels.specs.declared.memory.Reports.{Reports}
 use Rattle.levels.specs.declared.memory.Tries.{Tries}
 use Rattle.levels.specs.declared.usable.Holds.{Holds}
-use Rattle.gear.specs.declared.goodput.Gear.{Gear}
-use Rattle.ledger.specs.Sound.{Sound}
+use Rattle.gear.specs.declared.Gear.{Gear}
 use Rattle.area.specs.Layout.{areaBytes}
-use Rattle.area.specs.Table.{rowsFrom, total}
+use Rattle.area.specs.Table.{rowsFrom}
 use Rattle.area_check.specs.Rows.{rowOffs, tableOk, allFlying, heldBitsOk, sentBitsOk, noneListed}
 use Rattle.record.specs.Profiles.{sizesOf}
-use Rattle.record.specs.View.{view}
 use Rattle.record.specs.declared.Link.{Link}
 use Rattle.record.specs.declared.AtPeer.{AtPeer}
 use Rattle.record.specs.declared.LastBurst.{LastBurst}
@@ -52,7 +49,7 @@ gearOk g =
 -- ---- the link: "burst numbers 0 to 3, times at most 10^9, Doppler 0 to 63.5", or not a number. A slot above 2 and a wave above 5 stand for nothing
 
 -- 63.5
-abbrev maxDoppler : Float
+abbrev pub maxDoppler : Float
 maxDoppler = ofBits binary32 0x427e_0000
 
 unfoldable pub linkOk : Link → Bool
@@ -81,41 +78,3 @@ soundOk p s a =
     let rows = rowsFrom a 0 (s .counts .pieces) in
     all (leb areaBytes (length a) ∷ countsOk s ∷ tableOk (z .short) (z .long) (s .counts .«next_offset») (s .counts .flying) rows
     ∷ listsOk (z .top) (s .«at_peer») (s .«last_burst») (rowOffs rows) ∷ gearOk (s .gear) ∷ linkOk (s .link) ∷ [])
-
--- ---- as facts
-
-pub record SoundGear (g : Gear) : Type 0 where
-  pub level : g .level < 17
-  pub target : g .target < 17
-  pub burst : In (w64 1) (w64 1000) (g .«burst_s»)
-  pub aim : g .«aim_db» .set ≡ true → In (neg (w32 100)) (w32 308) (g .«aim_db» .db)
-  pub last : g .«last_report_db» .set ≡ true → In (neg (w32 100)) (w32 308) (g .«last_report_db» .db)
-  pub count : g .«snr_reports» .count ≤ 3
-  pub a : In (neg (w32 100)) (w32 308) (g .«snr_reports» .a)
-  pub b : In (neg (w32 100)) (w32 308) (g .«snr_reports» .b)
-  pub c : In (neg (w32 100)) (w32 308) (g .«snr_reports» .c)
-  pub shares : (k : ℕ) → k < 17 → In (w32 0) (w32 1) (getD (g .tries .success) k nan)
-  pub times : (k : ℕ) → k < 17 → T (le (getD (g .tries .«success_at») k nan) (w64 1000000000))
-  pub ends : (k : ℕ) → k < 17 → T (le (getD (g .holds .«blocked_until») k nan) (w64 1001000000))
-
-pub record SoundLink (k : Link) : Type 0 where
-  pub time : In (w64 0) (w64 1000000000) (k .«last_time»)
-  pub number : k .«burst_id» ≤ maxNumber
-  pub heard : k .«peer_heard» ≤ maxNumber
-  pub slot : k .«peer_slot» ≤ 2
-  pub wave : k .«peer_wave» ≤ 5
-  -- not a number is neither below nor above
-  pub notBelow : lt (k .«peer_doppler_hz») (w32 0) ≡ false
-  pub notAbove : lt maxDoppler (k .«peer_doppler_hz») ≡ false
-
--- the ledger's part is `Sound` of what the record and the work area hold (crates/ledger/specs/Sound.antt); the record's counts go with its lists and rows
-pub record SoundRecord (p : Profile) (s : Sender) (a : List ℕ) : Type 0 where
-  pub area : areaBytes ≤ length a
-  pub held : s .«at_peer» .n ≤ maxSlots
-  pub rest : s .«at_peer» .rest ≤ s .«at_peer» .n
-  pub sent : s .«last_burst» .n ≤ maxSlots
-  pub pieces : s .counts .pieces ≤ maxPieces
-  pub flying : total (rowsFrom a 0 (s .counts .pieces)) ≡ s .counts .flying
-  pub ledger : Sound (sizesOf p) (view s a)
-  pub gear : SoundGear (s .gear)
-  pub link : SoundLink (s .link)

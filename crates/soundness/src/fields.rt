@@ -1,6 +1,6 @@
 // The sound record of document 01: its definition, and the tests of the gear and the link.
 use config::MaybeDb;
-use gear::goodput::Gear;
+use gear::Gear;
 use levels::memory::Reports;
 use levels::memory::Tries;
 use levels::usable::Holds;

@@ -11,11 +11,12 @@ use borrow.Author.Tests.{leb-true}
 use Rattle.laws.specs.Bytes.{overwrite}
 use Rattle.laws.proofs.Bytes.{over-cat}
 use Rattle.area.specs.Layout.{place}
-use Rattle.area.specs.Table.{rowAt, rowsFrom, tableBytes, withRows}
+use Rattle.area.specs.Table.{rowAt, rowsFrom, tableBytes}
 use Rattle.area.specs.declared.table.Row.{Row}
 use Rattle.area.proofs.table.Laws.{rows-turn, rows-after}
 use Rattle.laws.proofs.Picks.{and-first, and-second}
 use Rattle.area.specs.Recut.{row, joinsRow, mergeRowsFrom, mergeRows, mergeTable}
+use Rattle.area.specs.TableCode.{withRows}
 
 -- a turn of the loop that joins, where row i is q: it is joined to the row in hand, or that one is written
 module _ (max : ℕ) (held : List ℕ) (p q : Row) (a : List ℕ) (i n w : ℕ) (h : i < n) (e : q ≡ rowAt a i) where

@@ -8,12 +8,13 @@ use lib.ListN.{length}
 use lib.Dec.{ltb}
 use borrow.Author.Tests.{ltb-true, ltb-false, lt-ltb, le-ltb}
 use Rattle.laws.proofs.Picks.{test}
-use Rattle.ledger.specs.Ledger.{Sender, takenOf}
-use Rattle.ledger.specs.Calls.{Allowed, queues}
+use Rattle.ledger.specs.Ledger.{Sender}
 use Rattle.area.specs.Layout.{streamBytes}
 use Rattle.area.specs.Room.{queueRefusal}
 use Rattle.limits.specs.Limits.{maxFlying, maxWaiting, maxTaken}
 use Rattle.ledger.specs.Sizes.{Sizes}
+use Rattle.ledger.specs.CallsCode.{Allowed, queues}
+use Rattle.ledger.specs.LedgerCode.{takenOf}
 
 -- what flies and what waits fit the stream together
 pub stream-holds : maxFlying + maxWaiting ≤ streamBytes

@@ -13,10 +13,11 @@ use borrow.Author.Tests.{le-leb, lt-leb, leb-true, leb-false}
 use Rattle.laws.specs.Bytes.{overwrite}
 use Rattle.laws.proofs.Bytes.{over-cat, over-front}
 use Rattle.area.specs.Layout.{place}
-use Rattle.area.specs.Table.{rowAt, rowsFrom, tableBytes, withRows}
+use Rattle.area.specs.Table.{rowAt, rowsFrom, tableBytes}
 use Rattle.area.specs.declared.table.Row.{Row}
 use Rattle.area.proofs.table.Laws.{rows-turn, rows-add, length-rows, length-table, table-cat, rows-before}
 use Rattle.area.specs.Recut.{row, cutRows, cutRow, splitRows, splitTable}
+use Rattle.area.specs.TableCode.{withRows}
 
 -- ---- one piece
 

@@ -11,8 +11,9 @@ use Rattle.laws.specs.Little.{num, le, load}
 use Rattle.laws.proofs.Bytes.{length-over, over-cat, part-inside, part-add, over-part}
 use Rattle.laws.proofs.Little.{num-le4, load-before, load-after, le-load, load-small}
 use Rattle.area.specs.Layout.{place}
-use Rattle.area.specs.Table.{rowAt, rowsFrom, tableBytes, Small}
+use Rattle.area.specs.Table.{rowAt, rowsFrom, tableBytes}
 use Rattle.area.specs.declared.table.Row.{Row}
+use Rattle.area.specs.TableCode.{Small}
 
 -- ---- rows apart from a run of stores
 

@@ -11,7 +11,7 @@ use Rattle.defaults.specs.Default.{newProfile}
 use Rattle.config.specs.Ranged.{Ranged}
 use Rattle.config.proofs.ranges.Ranged.{ranged}
 use Rattle.defaults.proofs.Accepted.{default-in-range}
-use Rattle.gear.specs.declared.goodput.Gear.{Gear}
+use Rattle.gear.specs.declared.Gear.{Gear}
 use Rattle.gear.specs.declared.Outcome.{Outcome}
 use Rattle.gear.specs.Judging.{onAck}
 use Rattle.gear_laws.proofs.LevelLaws.{on-ack-low}

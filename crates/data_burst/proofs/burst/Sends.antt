@@ -15,16 +15,14 @@ use Rattle.config.specs.Durations.{frameBytes}
 use Rattle.config.specs.declared.Profile.{Profile}
 use Rattle.config.specs.Ranged.{Ranged}
 use Rattle.config.specs.Ranges.{inOrder}
-use Rattle.ledger.specs.Ledger.{Sent, Plan, Held, sentOffs, find, frames}
+use Rattle.ledger.specs.Ledger.{Sent, Plan, Held, sentOffs, find}
 use Rattle.ledger.specs.Plan.{planOf}
 use Rattle.ledger.proofs.Planned.{planned-fits}
 use Rattle.ledger.proofs.Burst.{burst-sound}
 use Rattle.frames.specs.Slots.{slotsFrom}
 use Rattle.frames.specs.declared.slots.Slot.{Slot}
 use Rattle.frames.specs.declared.slots.Slots.{Slots}
-use Rattle.pieces.specs.Lists.{sentSlots}
 use Rattle.pieces.specs.Burst.{framesSent}
-use Rattle.plan.specs.Planning.{CodesRange}
 use Rattle.plan.specs.declared.Choice.{Choice}
 use Rattle.plan.specs.declared.Planned.{Planned}
 use Rattle.record.specs.Setters.{withCounts, withAirtime}
@@ -32,10 +30,9 @@ use Rattle.record.specs.Profiles.{sizesOf}
 use Rattle.record.specs.View.{view, store, storeArea}
 use Rattle.record.specs.declared.Sender.{Sender}
 use Rattle.record.proofs.View.{Arrays, Counted}
-use Rattle.soundness.specs.Soundness.{SoundRecord}
 use Rattle.soundness.proofs.fields.Sound.{sound-counted, sound-level, profile-sizes}
 use Rattle.outgoing.specs.Choosing.{chosen, choice, nextNumber}
-use Rattle.outgoing.specs.Outgoing.{slotFrames, headed, burstBits, airtimeOf, after, outgoing, airtime, output, burstOf}
+use Rattle.outgoing.specs.Outgoing.{headed, airtimeOf, after, outgoing, airtime, output, burstOf}
 use Rattle.outgoing.specs.declared.Frames.{Frames}
 use Rattle.outgoing.specs.declared.Outgoing.{Outgoing}
 use Rattle.outgoing.proofs.Laws.{slots-length}
@@ -46,7 +43,12 @@ use Rattle.data_burst.specs.declared.sending.Sending.{Sending}
 use Rattle.data_burst.proofs.sending.Bursts as B
 use Rattle.data_burst.proofs.burst.Told.{sent-told, frames-told}
 use Rattle.limits.specs.Limits.{maxSlots, maxBits, maxNumber}
-use Rattle.ledger.specs.Sizes.{SizeRange}
+use Rattle.ledger.specs.LedgerCode.{frames}
+use Rattle.ledger.specs.SizesCode.{SizeRange}
+use Rattle.pieces.specs.ListsCode.{sentSlots}
+use Rattle.plan.specs.PlanningCode.{CodesRange}
+use Rattle.soundness.specs.SoundnessCode.{SoundRecord}
+use Rattle.outgoing.specs.OutgoingCode.{slotFrames, burstBits}
 
 pub frame-least : (p : Profile) → Ranged p → (l : ℕ) → 10 ≤ frameBytes p l
 unfolding frameBytes

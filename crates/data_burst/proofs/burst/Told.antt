@@ -7,16 +7,18 @@ use lib.ListN.{length, take, getD, replicate, length-map, length-replicate}
 use Rattle.laws.specs.Bytes.{overwrite, part}
 use Rattle.laws.proofs.Bytes.{length-over, part-cons, part-same}
 use Rattle.ledger.specs.Ledger as L
-use Rattle.ledger.specs.Ledger.{Sent, Frame, sentOffs, frames, find}
+use Rattle.ledger.specs.Ledger.{Sent, Frame, sentOffs, find}
 use Rattle.frames.specs.Slots.{nthSlot, slotsFrom}
 use Rattle.frames.specs.declared.slots.Slot.{Slot}
 use Rattle.frames.specs.declared.slots.Slots.{Slots}
-use Rattle.pieces.specs.Lists.{sentOf, sentSlots}
+use Rattle.pieces.specs.Lists.{sentOf}
 use Rattle.pieces.proofs.Lists.{sentSlots-is, sentSlots-offs}
 use Rattle.record.specs.View.{storeSent}
 use Rattle.record.specs.declared.LastBurst.{LastBurst}
 use Rattle.record.proofs.View.{sent-stored}
 use Rattle.limits.specs.Limits.{maxSlots}
+use Rattle.ledger.specs.LedgerCode.{frames}
+use Rattle.pieces.specs.ListsCode.{sentSlots}
 
 -- ---- offsets and lengths side by side
 

@@ -16,15 +16,14 @@ use Rattle.harq.specs.Held.{incrementOf}
 use Rattle.harq.specs.declared.Harq.{Harq}
 use Rattle.frame.specs.Frame.{maxPayload}
 use Rattle.ledger.specs.Ledger as L
-use Rattle.ledger.specs.Ledger.{Held, Sent, Plan, size, bytesOf, heldOffs, sentOffs, Frame, find, frames, dataBurst}
+use Rattle.ledger.specs.Ledger.{Held, Sent, Plan, size, bytesOf, heldOffs, sentOffs, Frame, find, dataBurst}
 use Rattle.ledger.specs.Plan as P
-use Rattle.ledger.specs.Cover.{Ascend}
 use Rattle.ledger.specs.Sound.{Sound, Fits}
 use Rattle.ledger.proofs.Planned.{planned-fits}
 use Rattle.ledger.proofs.Stream.{stream-burst}
 use Rattle.ledger.proofs.Burst.{burst-sound, burst-ascend}
 use Rattle.area.specs.Layout.{place, streamBytes}
-use Rattle.area.specs.Table.{rowAt, rowsFrom, tableBytes, withRows, total, Small}
+use Rattle.area.specs.Table.{rowAt, rowsFrom, tableBytes, total}
 use Rattle.area.specs.declared.table.Row.{Row}
 use Rattle.area.proofs.table.Laws.{length-table, table-cat, rows-written}
 use Rattle.area.specs.Recut.{splitRows}
@@ -34,7 +33,7 @@ use Rattle.frames.specs.declared.slots.Slot.{Slot}
 use Rattle.frames.specs.declared.slots.Slots.{Slots}
 use Rattle.frames.proofs.slots.Laws.{push-all-count, push-all-append}
 use Rattle.frames.specs.Frames.{framesWritten, Fit}
-use Rattle.plan.specs.Planning.{CodesRange, choiceOf, planned}
+use Rattle.plan.specs.Planning.{choiceOf}
 use Rattle.plan.specs.declared.Choice.{Choice}
 use Rattle.plan.specs.declared.Planned.{Planned}
 use Rattle.plan.proofs.Plans.{plan-is}
@@ -42,8 +41,8 @@ use Rattle.plan.proofs.Turns.{parity-le}
 use Rattle.plan.proofs.Choices.{choice-range}
 use Rattle.plan.proofs.Increments.{increment-range}
 use Rattle.pieces.specs.Pieces.{piecesOf}
-use Rattle.pieces.specs.Lists.{heldOf, sentSlots}
-use Rattle.pieces.specs.Burst.{recutRows, oldSlots, newRows, newSlots, burstSlots, framesSent}
+use Rattle.pieces.specs.Lists.{heldOf}
+use Rattle.pieces.specs.Burst.{framesSent}
 use Rattle.pieces.proofs.Sound.{size-rows, length-pieces, total-append}
 use Rattle.pieces.proofs.Lists.{held-offs, held-length, sentSlots-offs, sentSlots-length}
 use Rattle.pieces.proofs.Recut.{recut-pieces, recut-total}
@@ -63,7 +62,14 @@ use Rattle.data_burst.specs.Rows as R
 use Rattle.data_burst.proofs.sending.Laws.{kept-off}
 use Rattle.data_burst.proofs.sending.Lists.{split-same, cut-recut, small-front, bits-below, kept-list, kept-bits, kept-count, kept-more, kept-rest, frames-before}
 use Rattle.limits.specs.Limits.{maxSlots, maxPieces, maxTaken, maxHeld, maxNumber}
-use Rattle.ledger.specs.Sizes.{Sizes, SizeRange}
+use Rattle.ledger.specs.Sizes.{Sizes}
+use Rattle.ledger.specs.CoverCode.{Ascend}
+use Rattle.ledger.specs.LedgerCode.{frames}
+use Rattle.ledger.specs.SizesCode.{SizeRange}
+use Rattle.area.specs.TableCode.{withRows, Small}
+use Rattle.pieces.specs.BurstCode.{recutRows, oldSlots, newRows, newSlots, burstSlots}
+use Rattle.pieces.specs.ListsCode.{sentSlots}
+use Rattle.plan.specs.PlanningCode.{CodesRange, planned}
 
 module _ (z : Sizes) (zr : SizeRange z) (q : Harq) (c : Choice) (merging : Bool) (number : ℕ) (codes : CodesRange q c) (numbered : number ≤ maxNumber) (s : Sender) (a : List ℕ)
     (so : Sound z (view s a)) (co : Counted s a) (ar : Arrays s) where

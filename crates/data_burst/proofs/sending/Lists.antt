@@ -14,9 +14,8 @@ use Rattle.laws.proofs.Picks.{by, by₂}
 use Rattle.frame.specs.Frame.{frameOf}
 use Rattle.frame.proofs.Laws.{length-frame}
 use Rattle.ledger.specs.Ledger.{Held}
-use Rattle.ledger.specs.Cover.{Ascend}
 use Rattle.ledger.specs.Sound.{HeldBits}
-use Rattle.area.specs.Table.{total, Small}
+use Rattle.area.specs.Table.{total}
 use Rattle.area.specs.declared.table.Row.{Row}
 use Rattle.area.specs.Recut.{splitRows, mergeRows}
 use Rattle.area.proofs.splitting.Laws.{cut-end}
@@ -28,6 +27,8 @@ use Rattle.pieces.proofs.Sound.{head-length}
 use Rattle.record.specs.View.{heldIn}
 use Rattle.record.specs.declared.AtPeer.{AtPeer}
 use Rattle.data_burst.specs.Rows.{keptHeld, cutAt}
+use Rattle.ledger.specs.CoverCode.{Ascend}
+use Rattle.area.specs.TableCode.{Small}
 
 -- ---- rows
 

@@ -15,7 +15,7 @@ use Rattle.area.specs.Find.{findFrom}
 use Rattle.laws.specs.Bytes.{overwrite}
 use Rattle.laws.proofs.Bytes.{length-over, over-nil, over-cat}
 use Rattle.area.specs.Layout.{place, streamBytes}
-use Rattle.area.specs.Table.{rowAt, rowsFrom, tableBytes, withRows, total}
+use Rattle.area.specs.Table.{rowAt, rowsFrom, tableBytes, total}
 use Rattle.area.specs.declared.table.Row.{Row}
 use Rattle.area.proofs.table.Laws.{rows-turn}
 use Rattle.laws.specs.Lists.{listed}
@@ -24,6 +24,7 @@ use Rattle.frames.specs.declared.slots.Slots.{Slots}
 use Rattle.frames.specs.declared.slots.Added.{Added}
 use Rattle.frames.specs.Slots.{slotPushed, pushAll, wholeSlot, unheldSlots, incrementSlot, incrementSlots, chunkRows, addedPieces}
 use Rattle.limits.specs.Limits.{maxSlots, maxPieces}
+use Rattle.area.specs.TableCode.{withRows}
 
 take-more : {A : Type 0} (n : ℕ) (x : A) (xs : List A) → 0 < n → take n (x ∷ xs) ≡ x ∷ take (n - 1) xs
 take-more zero x xs h = absurd (not-suc-le-zero h)

@@ -1,14 +1,15 @@
 -- A burst's seconds lie between the usual ones and the longer of the usual and the long ones. Assumes nothing.
 use mathlib.Core.List.{[], _∷_}
-use mathlib.Core.Bool.{Bool, cond, not, _&&_}
+use mathlib.Core.Bool.{Bool, not, _&&_}
 use Prim.Native.Nat.{ℕ, _<_}
 use native.Mathlib.Omega.{arith}
 use lib.Dec.{T, eqb}
 use lib.ListN.{getD}
-use lib.Ieee.{Float, nan, binary64, le, lt, eq, neg, add, mul, div, ofInt, ofBits, isNan}
+use lib.Ieee.{Float, nan, binary64, le, lt, eq, neg, add, mul, div, ofInt, isNan}
 use Rattle.ieee.specs.Range.{In, w32, w64}
 use Rattle.ieee.proofs.Value.{le-refl, le-trans, le-no-nan}
 use Rattle.ieee.proofs.Bounds.{in-no-nan}
+use Rattle.float.specs.Gear.{cueS}
 use Rattle.float.specs.Pick.{minF, maxF}
 use Rattle.laws.proofs.Picks.{either}
 use Rattle.float_laws.proofs.Durations.{whole-in}
@@ -18,10 +19,10 @@ use Rattle.float_laws.proofs.GearRanges.{clean-in, doubled-in}
 use Rattle.level.specs.Ladder.{waveRank}
 use Rattle.level.proofs.Laws.{wave-lt}
 use Rattle.config.specs.declared.Profile.{Profile}
-use Rattle.config.specs.Durations.{durationAt, dataS}
+use Rattle.config.specs.Durations.{dataAt}
 use Rattle.config.specs.Ranged.{Ranged}
 use Rattle.levels.proofs.rates.RateLaws.{cue-in}
-use Rattle.gear.specs.declared.goodput.Gear.{Gear}
+use Rattle.gear.specs.declared.Gear.{Gear}
 use Rattle.gear.specs.Goodput.{cueFor}
 use Rattle.gear.specs.BurstLength.{cleanBurst, burstLen, steady, far, adapted}
 
@@ -41,13 +42,13 @@ module _ (p : Profile) (k : Ranged p) where
 
   module _ (l : ℕ) (h : l < 17) where
     -- a burst of one bit
-    one-in : (cue : Bool) → In (w64 0) (w64 71) (dataS (p .air) l 1 cue)
-    unfolding ofInt le lt add div dataS durationAt
+    one-in : (cue : Bool) → In (w64 0) (w64 71) (dataAt (p .air) l 1 cue)
+    unfolding ofInt le lt add div dataAt
     one-in cue =
         within ((w64 0, w64 60) ∷ (w64 0, w64 1) ∷ (w64 1, w64 100000) ∷ (w64 0, w64 10) ∷ [])
-        (getD (p .air .«pre_s») l nan ∷ w64 1 ∷ getD (p .air .rate) l nan ∷ cond cue (p .air .«cue_s») (ofBits binary64 0) ∷ [])
+        (getD (p .air .«pre_s») l nan ∷ w64 1 ∷ getD (p .air .rate) l nan ∷ cueS cue (p .air .«cue_s») ∷ [])
         (plus binary64 (plus binary64 (var 0) (over binary64 (var 1) (var 2))) (var 3)) (w64 0) (w64 71)
-        (more (k .air .level l h .pre) (more (whole-in 1 1 (omega arith)) (more (k .air .level l h .rate) (more (cue-in p k l h cue) none)))) tt
+        (more (k .air .level l h .pre) (more (whole-in 1 1 (omega arith)) (more (k .air .level l h .rate) (more (cue-in (p .air .«cue_s») (k .air .cue) cue) none)))) tt
 
     turn-in : In (w64 0) (w64 120) (mul binary64 (w64 2) (p .lengths .«turnaround_s»))
     unfolding ofInt le lt mul

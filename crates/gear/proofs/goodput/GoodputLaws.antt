@@ -1,4 +1,4 @@
--- The loop of `best` works out `bestOf`, and `max_by` names a level of the ladder. Assumes nothing.
+-- `viewBest` is `bestOf`, and `max_by` names a level of the ladder. Assumes nothing.
 use mathlib.Core.Path.{_≡_, refl}
 use Prim.Native.Nat.{ℕ, _+_, _<_, _≤_}
 use native.Mathlib.Omega.{arith}
@@ -6,35 +6,22 @@ use mathlib.Core.Bool.{not, _&&_, true, false}
 use lib.Ieee.{Float, inf}
 use Rattle.float.specs.Total.{totalLe}
 use Rattle.laws.proofs.Picks.{either}
-use Rattle.laws.specs.Span.{upto, fold}
+use Rattle.laws.specs.Span.{upto}
 use Rattle.laws.proofs.Span.{fold-keep}
 use Rattle.levels.specs.Usable.{heeded}
 use Rattle.levels.proofs.usable.Laws.{usable-below-lt, usable-below-le}
 use Rattle.config.specs.Ranged.{Ranged}
-use Rattle.config.specs.declared.Marks.{Marks}
 use Rattle.config.specs.declared.Profile.{Profile}
-use Rattle.config.specs.Durations.{slotAt, durationAt, dataS}
 use Rattle.config.specs.Entries.{entryAt}
-use Rattle.levels.specs.declared.memory.Tries.{Tries}
-use Rattle.levels.specs.Rates.{payloadBits, levelRate}
-use Rattle.levels.specs.Paces.{paceAt, paceS, paceBits, paceRate}
-use Rattle.gear.specs.declared.goodput.Gear.{Gear}
+use Rattle.gear.specs.declared.Gear.{Gear}
 use Rattle.gear.specs.declared.goodput.Best.{Best}
-use Rattle.gear.specs.declared.goodput.View.{View}
-use Rattle.gear.specs.Goodput.{chanceOf, marksOf, cueFor, roomOf, inReach, scoreOf, candidate, worthOf, over, noBest, weighed, bestOf, pickByGoodput}
-use Rattle.gear.specs.Levels.{seenAt, sightAt, viewOf, seenChance, sightRoom, sightReach, viewWorth, viewCandidate, viewWeighed}
-
--- a turn of the loop, on what is taken out before it
-abbrev pub turn : Profile → View → Marks → Tries → Float → Best → ℕ → Best
-turn p v m t aim b l = viewWeighed v b l (sightAt m (p .power) l aim) (seenAt t l) (paceAt p l)
+use Rattle.gear.specs.Goodput.{chanceOf, cueFor, roomOf, inReach, scoreOf, candidate, worthOf, over, noBest, weighed, bestOf, pickByGoodput}
+use Rattle.gear.specs.Levels.{viewOf, viewBest, seenChance, sightRoom, sightReach, viewWorth, viewCandidate, viewWeighed}
 
 -- what is said of a level on its numbers is what is said of it on the profile and the gear
-turns : (p : Profile) (g : Gear) (aim now : Float) → fold (turn p (viewOf p g now) (marksOf p) (g .tries) aim) noBest (upto 0 (p .«max_level» + 1)) ≡ bestOf p g aim now
-unfolding viewWeighed weighed viewCandidate candidate viewWorth worthOf scoreOf seenChance chanceOf sightRoom roomOf sightReach inReach entryAt cueFor paceRate levelRate paceS dataS durationAt slotAt paceBits payloadBits
-turns p g aim now = refl
-
-pub turns-best : (p : Profile) (g : Gear) (aim now : Float) (v : View) (m : Marks) (b : Best) → v ≡ viewOf p g now → m ≡ marksOf p → b ≡ noBest → fold (turn p v m (g .tries) aim) b (upto 0 (p .«max_level» + 1)) ≡ bestOf p g aim now
-turns-best p g aim now v m b e f h = rw (e, f, h) (turns p g aim now)
+pub view-best : (p : Profile) (g : Gear) (aim now : Float) → viewBest p (viewOf p g now) (g .tries) aim ≡ bestOf p g aim now
+unfolding viewWeighed weighed viewCandidate candidate viewWorth worthOf scoreOf seenChance chanceOf sightRoom roomOf sightReach inReach entryAt cueFor
+view-best p g aim now = refl
 
 weighed-lt : (n : ℕ) (p : Profile) (g : Gear) (aim now : Float) (b : Best) (l : ℕ) → b .level < n → l < n → weighed p g aim now b l .level < n
 unfolding weighed over

@@ -1,14 +1,15 @@
--- In a profile whose numbers are in range no count of frames passes 34,001,000, so the bits of a burst fit; and `level_rate` on numbers is `levelRate`. Assumes nothing.
+-- In a profile whose numbers are in range no count of frames passes 34,001,000, so the bits of a burst fit. Assumes nothing.
 use mathlib.Core.Path.{_≡_, refl, sym, subst}
 use mathlib.Core.List.{[], _∷_}
 use Prim.Native.Nat.{ℕ, _+_, _*_, _/_, _≤_, _<_, _^_}
 use native.Mathlib.Nat.{div-le-of-le-mul, le-trans, mul-le-mul-right, mul-le-mul-left}
 use native.Mathlib.Omega.{arith}
-use mathlib.Core.Bool.{Bool, true, false, cond, not}
+use mathlib.Core.Bool.{Bool, true, false, not}
 use lib.Dec.{T}
 use lib.Ieee.{Float, nan, inf, fin, binary64, up, down, le, lt, add, div, neg, ofInt, ofBits, toUnsigned, fits}
 use lib.Ieee.Fits.{div-fits}
 use Rattle.ieee.specs.Range.{In, w64}
+use Rattle.float.specs.Gear.{cueS}
 use Rattle.float.specs.Floor.{countOf}
 use Rattle.ieee.proofs.Value
 use Rattle.ieee.proofs.Value.{le→Le}
@@ -17,11 +18,11 @@ use Rattle.float_laws.proofs.Durations.{whole-in}
 use Rattle.float_laws.proofs.Intervals.{var, plus, over, none, more, within}
 use Rattle.float_laws.proofs.GearRanges.{frames-in}
 use Rattle.config.specs.declared.Profile.{Profile}
-use Rattle.config.specs.Durations.{slotAt, durationAt, dataS}
+use Rattle.config.specs.Durations.{slotAt}
 use Rattle.config.specs.Ranged.{Ranged}
 use Rattle.levels.specs.declared.rates.Pace.{Pace}
-use Rattle.levels.specs.Rates.{framesPerBurst, payloadBits, levelRate}
-use Rattle.levels.specs.Paces.{Paced, paceAt, paceS, paceBits, paceRate}
+use Rattle.levels.specs.Rates.{paceAt, framesPerBurst, paceS}
+use Rattle.levels.specs.RatesCode.{Paced}
 
 abbrev pub largest : ℕ
 largest = 34001000
@@ -46,38 +47,27 @@ count-le x F i = go (le (w64 1) x) (λ t. count-large x F t) (λ t. count-one x 
     go true f g = subst (λ (n : ℕ). n ≤ largest) (f tt) (cut-le x (i .high))
     go false f g = subst (λ (n : ℕ). n ≤ largest) (g refl) (omega arith)
 
-module _ (p : Profile) (k : Ranged p) (l : ℕ) (h : l < 17) where
-  pub cue-in : (cue : Bool) → In (w64 0) (w64 10) (cond cue (p .air .«cue_s») (ofBits binary64 0))
-  unfolding ofInt ofBits le lt
-  cue-in true = k .air .cue
-  cue-in false = record { low = tt; high = tt }
+-- a cue of at most 10 s, or none
+pub cue-in : (s : Float) → In (w64 0) (w64 10) s → (cue : Bool) → In (w64 0) (w64 10) (cueS cue s)
+unfolding ofInt ofBits le lt
+cue-in s k true = k
+cue-in s k false = record { low = tt; high = tt }
 
-  -- level l's numbers are in range
-  pub paced : Paced (paceAt p l)
-  unfolding slotAt
-  paced =
-      let at = k .air .level l h in
-      record { usual = k .lengths .usual; pre = at .pre; rate = at .rate; cue = k .air .cue; slot = at .slot .1 }
-
--- the numbers of a level give its rate
-pub rate-is : (p : Profile) (l : ℕ) (cue : Bool) → paceRate (paceAt p l) l cue ≡ levelRate p l cue
-unfolding levelRate paceRate paceS paceBits payloadBits dataS durationAt slotAt
-rate-is p l cue = refl
+-- level l's numbers are in range
+pub paced : (p : Profile) → Ranged p → (l : ℕ) → l < 17 → Paced (paceAt p l)
+unfolding slotAt
+paced p k l h =
+    let at = k .air .level l h in
+    record { usual = k .lengths .usual; pre = at .pre; rate = at .rate; cue = k .air .cue; slot = at .slot .1 }
 
 -- a burst of at most two slots
 module _ (q : Pace) (k : Paced q) where
-  lead-in : (cue : Bool) → In (w64 0) (w64 10) (cond cue (q .«cue_s») (ofBits binary64 0))
-  unfolding ofInt ofBits le lt
-  lead-in true = k .cue
-  lead-in false = record { low = tt; high = tt }
-
   data-in : (bits : ℕ) (cue : Bool) → bits ≤ 32768 → In (w64 0) (w64 33000) (paceS q bits cue)
-  unfolding ofInt le lt add div paceS
+  unfolding ofInt le lt add div
   data-in bits cue b =
-      let c = cond cue (q .«cue_s») (ofBits binary64 0) in
-      within ((w64 0, w64 60) ∷ (w64 0, w64 32768) ∷ (w64 1, w64 100000) ∷ (w64 0, w64 10) ∷ []) (q .«pre_s» ∷ w64 bits ∷ q .rate ∷ c ∷ [])
+      within ((w64 0, w64 60) ∷ (w64 0, w64 32768) ∷ (w64 1, w64 100000) ∷ (w64 0, w64 10) ∷ []) (q .«pre_s» ∷ w64 bits ∷ q .rate ∷ cueS cue (q .«cue_s») ∷ [])
       (plus binary64 (plus binary64 (var 0) (over binary64 (var 1) (var 2))) (var 3)) (w64 0) (w64 33000)
-      (more (k .pre) (more (whole-in bits 32768 b) (more (k .rate) (more (lead-in cue) none)))) tt
+      (more (k .pre) (more (whole-in bits 32768 b) (more (k .rate) (more (cue-in (q .«cue_s») (k .cue) cue) none)))) tt
 
   -- the frames of a burst
   pub frames-le : (cue : Bool) → countOf (framesPerBurst (q .usual) (paceS q (q .slot) cue) (paceS q (2 * q .slot) cue)) ≤ largest

@@ -1,4 +1,3 @@
-use Rattle.plan.specs.Planning.{oneMoreFits}
 use Rattle.plan.proofs.Turns.{wholes-small}
 use mathlib.Core.Path.{refl}
 use native.Mathlib.Omega.{arith}
@@ -6,6 +5,7 @@ use native.Mathlib.Numerals.{add-one}
 use borrow.Author.Needs.{needs}
 use Rattle.plan.proofs.one_more.Statement.{statement}
 use Rattle.plan.proofs.one_more.Tie as tie
+use Rattle.plan.specs.PlanningCode.{oneMoreFits}
 
 cast-t : tie.Need-cast-t
 cast-t c = search needs

@@ -1,4 +1,3 @@
-use Rattle.plan.specs.Planning.{oneMoreFits, roomCounted}
 use Rattle.plan.proofs.Turns.{room-more, room-stop, room-end}
 use Prim.Native.Nat.{_-_, _≤_}
 use mathlib.Core.Path.{_≡_, refl, sym, _∙_}
@@ -8,6 +7,7 @@ use borrow.Author.Tests.{not-true, not-false}
 use Rattle.plan.proofs.room.Statement.{statement}
 use Rattle.plan.proofs.room.Tie as tie
 use Rattle.limits.specs.Limits.{maxSlots}
+use Rattle.plan.specs.PlanningCode.{oneMoreFits, roomCounted}
 
 abbrev Inv-loop : tie.InvT-loop
 Inv-loop c n stored bits r₀ r = (r ≤ maxSlots) × (roomCounted c n stored bits maxSlots 0 ≡ roomCounted c n stored bits (maxSlots - r) r)

@@ -14,7 +14,7 @@ use Rattle.laws.specs.Bytes.{Bytes}
 use Rattle.laws.proofs.Picks.{cond-yes, cond-no, test}
 use Rattle.report.specs.declared.ack.AckInfo.{AckInfo}
 use Rattle.config.specs.declared.Profile.{Profile}
-use Rattle.gear.specs.declared.goodput.Gear.{Gear}
+use Rattle.gear.specs.declared.Gear.{Gear}
 use Rattle.ledger.specs.Reply.{Reply, bitAt, shortAck, longAck}
 use Rattle.record.specs.Profiles.{sizesOf}
 use Rattle.record.specs.View.{sentIn, view}
@@ -23,16 +23,18 @@ use Rattle.record.specs.declared.Sender.{Sender}
 use Rattle.record.proofs.View.{Counted, Arrays}
 use Rattle.settle.specs.Settle.{Settling}
 use Rattle.settle.proofs.Settles.{Bits, half-bit}
-use Rattle.settle.specs.AckIn.{ackIn, ackedBy, bitsFor}
+use Rattle.settle.specs.AckIn.{ackIn}
 use Rattle.settle.proofs.outcome.Outcomes.{length-sent}
 use Rattle.receive.proofs.awaited.Awaited.{acked-is}
 use Rattle.replies.specs.declared.Heard.{Heard}
 use Rattle.replies.specs.declared.Ack.{Ack}
 use Rattle.replies.specs.declared.LongAck.{LongAck}
-use Rattle.replies.specs.Replies.{ackNoted, withPath, longDb, ReplyReady, shortAcked, longAcked}
+use Rattle.replies.specs.Replies.{ackNoted, withPath, longDb, shortAcked, longAcked}
 use Rattle.record.specs.Setters.{withGear, withLink}
 use Rattle.gear.specs.Setters.{withClass}
 use Rattle.limits.specs.Limits.{maxSlots, tinyAckFrames, tinyAll}
+use Rattle.settle.specs.AckInCode.{ackedBy, bitsFor}
+use Rattle.replies.specs.RepliesCode.{ReplyReady}
 
 -- ---- bits
 

@@ -10,14 +10,15 @@ use Rattle.laws.proofs.Picks.{cond-yes, cond-no}
 use Rattle.level.specs.Ladder.{waveRank, longFrame}
 use Rattle.harq.specs.Held.{hMax}
 use Rattle.config.specs.declared.Profile.{Profile}
-use Rattle.gear.specs.declared.goodput.Gear.{Gear}
+use Rattle.gear.specs.declared.Gear.{Gear}
 use Rattle.gear.specs.Judging.{onAck}
 use Rattle.gear.specs.declared.Outcome.{Outcome}
 use Rattle.record.specs.declared.Sender.{Sender}
 use Rattle.settle.specs.Settle.{settled}
-use Rattle.settle.specs.Outcomes.{outcomeIn}
-use Rattle.settle.specs.AckIn.{keeps, withoutBurst, ackedBy}
+use Rattle.settle.specs.AckIn.{keeps}
 use Rattle.record.specs.Setters.{withGear, withLink, withWave}
+use Rattle.settle.specs.AckInCode.{withoutBurst, ackedBy}
+use Rattle.settle.specs.OutcomesCode.{outcomeIn}
 
 module _ (p : Profile) (burst m : ℕ) (stored : Bool) (snr time : Float) (s : Sender) (a : List ℕ) where
   abbrev matched : Bool

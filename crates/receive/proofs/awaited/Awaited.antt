@@ -12,7 +12,7 @@ use Rattle.laws.proofs.Picks.{test}
 use Rattle.level.specs.Ladder.{waveRank}
 use Rattle.harq.specs.Held.{hMax}
 use Rattle.config.specs.declared.Profile.{Profile}
-use Rattle.gear.specs.declared.goodput.Gear.{Gear}
+use Rattle.gear.specs.declared.Gear.{Gear}
 use Rattle.gear.specs.Judging.{onAck}
 use Rattle.gear.specs.declared.Outcome.{Outcome}
 use Rattle.ledger.specs.Reply.{Reply}
@@ -26,12 +26,14 @@ use Rattle.record.proofs.View.{Counted, Arrays}
 use Rattle.settle.specs.Settle.{settled}
 use Rattle.settle.proofs.Settles as S
 use Rattle.settle.proofs.Settles.{Bits}
-use Rattle.settle.specs.Outcomes.{outcomeOf, outcomeIn}
-use Rattle.settle.specs.AckIn.{keeps, withoutBurst, ackIn, ackedBy}
+use Rattle.settle.specs.Outcomes.{outcomeOf}
+use Rattle.settle.specs.AckIn.{keeps, ackIn}
 use Rattle.settle.proofs.outcome.Cleared.{cleared}
 use Rattle.settle.proofs.outcome.Outcomes.{outcome-is, length-sent}
 use Rattle.record.specs.Setters.{withGear, withLink, withWave}
 use Rattle.ledger.specs.Sizes.{Sizes}
+use Rattle.settle.specs.AckInCode.{withoutBurst, ackedBy}
+use Rattle.settle.specs.OutcomesCode.{outcomeIn}
 
 module _ (z : Sizes) (p : Profile) (r : Reply) (m : ℕ) (stored : Bool) (snr time : Float) (s : Sender) (a : List ℕ)
     (so : Sound z (view s a)) (c : Counted s a) (ar : Arrays s) (by : Bytes a) (aw : s .link .awaiting ≡ true)

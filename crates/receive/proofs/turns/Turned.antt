@@ -11,7 +11,7 @@ use lib.Ieee.{Float}
 use borrow.Author.Tests.{ne-eqb}
 use Rattle.laws.specs.Bytes.{Bytes}
 use Rattle.config.specs.declared.Profile.{Profile}
-use Rattle.gear.specs.declared.goodput.Gear.{Gear}
+use Rattle.gear.specs.declared.Gear.{Gear}
 use Rattle.gear.specs.declared.Outcome.{Outcome}
 use Rattle.gear.specs.Setters.{withBurst}
 use Rattle.gear.specs.OtherReplies.{connected, onTurn}
@@ -20,16 +20,18 @@ use Rattle.record.specs.View.{view, store, storeArea}
 use Rattle.record.specs.declared.Sender.{Sender}
 use Rattle.record.proofs.View.{Counted, Arrays}
 use Rattle.settle.proofs.Settles.{Bits}
-use Rattle.settle.specs.Outcomes.{outcomeOf, outcomeIn}
-use Rattle.settle.specs.AckIn.{withoutBurst}
+use Rattle.settle.specs.Outcomes.{outcomeOf}
 use Rattle.settle.proofs.outcome.Outcomes.{outcome-is}
 use Rattle.settle.proofs.outcome.Cleared.{cleared}
 use Rattle.replies.specs.declared.ConnAck.{ConnAck}
 use Rattle.replies.specs.declared.Heard.{Heard}
 use Rattle.replies.specs.declared.Turn.{Turn}
-use Rattle.replies.specs.Replies.{connectNoted, turnDb, nothingHeard, ReplyReady, turned, turnedTo, connectedTo}
+use Rattle.replies.specs.Replies.{connectNoted, turnDb, nothingHeard, turned, connectedTo}
 use Rattle.record.specs.Setters.{withGear, withLink, withTime}
 use Rattle.limits.specs.Limits.{maxSlots}
+use Rattle.settle.specs.AckInCode.{withoutBurst}
+use Rattle.settle.specs.OutcomesCode.{outcomeIn}
+use Rattle.replies.specs.RepliesCode.{ReplyReady, turnedTo}
 
 no-bits : (n : ℕ) → Bits (λ (i : ℕ). false) 0 0 n
 no-bits n j h = sym (ap (λ (x : ℕ). eqb (x % 2) 1) (zero-div (2 ^ j)))

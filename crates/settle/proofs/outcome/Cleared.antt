@@ -6,7 +6,7 @@ use mathlib.Core.Bool.{false}
 use Prim.Native.Nat.{ℕ}
 use Rattle.laws.specs.Bytes.{overwrite, Bytes}
 use Rattle.laws.proofs.Bytes.{over-nil}
-use Rattle.gear.specs.declared.goodput.Gear.{Gear}
+use Rattle.gear.specs.declared.Gear.{Gear}
 use Rattle.ledger.specs.Ledger as L
 use Rattle.ledger.specs.Ledger.{clearBurst}
 use Rattle.record.specs.View.{view, store, storeArea, storeCounts, storeHeld, storeSent, storeLink}
@@ -17,8 +17,8 @@ use Rattle.record.specs.declared.Link.{Link}
 use Rattle.record.specs.declared.Sender.{Sender}
 use Rattle.record.proofs.View.{Counted, Arrays, area-kept, counts-kept, held-kept}
 use Rattle.settle.specs.Settle.{unawaited}
-use Rattle.settle.specs.AckIn.{withoutBurst}
 use Rattle.record.specs.Setters.{withGear, withLink, withCounts, withAtPeer, withLastBurst, withAwaiting, withNumber}
+use Rattle.settle.specs.AckInCode.{withoutBurst}
 
 module _ (s : Sender) (a : List ℕ) (c : Counted s a) (ar : Arrays s) (by : Bytes a) where
   abbrev gone : L.Sender

@@ -14,7 +14,7 @@ use Rattle.laws.specs.Lists.{one}
 use Rattle.gear.specs.declared.Outcome.{Outcome}
 use Rattle.record.specs.declared.LastBurst.{LastBurst}
 use Rattle.settle.specs.declared.outcome.Came.{Came}
-use Rattle.settle.specs.Outcomes.{oneMoreCame, talliedFrom, tallied, outcomeIn}
+use Rattle.settle.specs.OutcomesCode.{oneMoreCame, talliedFrom, tallied, outcomeIn}
 
 step : (l : List ℕ) (i : ℕ) → i < length l → drop i l ≡ getD l i 0 ∷ drop (i + 1) l
 step l i h = drop-cons l i 0 h ∙ ap (λ (k : ℕ). getD l i 0 ∷ drop k l) (sym (add-one i))

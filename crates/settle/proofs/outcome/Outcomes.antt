@@ -23,8 +23,9 @@ use Rattle.record.proofs.View.{Arrays}
 use Rattle.settle.proofs.Settles.{Bits, bits-first, bits-rest}
 use Rattle.settle.specs.declared.outcome.Came.{Came}
 use Rattle.settle.proofs.outcome.Counts.{one-few}
-use Rattle.settle.specs.Outcomes.{isFresh, freshSent, freshGot, allGot, outcomeOf, oneMoreCame, talliedFrom, tallied, outcomeIn}
+use Rattle.settle.specs.Outcomes.{isFresh, freshSent, freshGot, allGot, outcomeOf}
 use Rattle.limits.specs.Limits.{maxSlots}
+use Rattle.settle.specs.OutcomesCode.{oneMoreCame, talliedFrom, tallied, outcomeIn}
 
 came : Came → (ℕ → Bool) → ℕ → List Sent → Came
 came t b i fs = record { fresh = t .fresh + freshSent fs; «fresh_got» = t .«fresh_got» + freshGot b i fs; got = t .got + allGot b i fs }

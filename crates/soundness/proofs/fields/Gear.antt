@@ -17,9 +17,10 @@ use Rattle.config.specs.declared.MaybeDb.{MaybeDb}
 use Rattle.levels.specs.declared.memory.Reports.{Reports}
 use Rattle.levels.specs.declared.memory.Tries.{Tries}
 use Rattle.levels.specs.declared.usable.Holds.{Holds}
-use Rattle.gear.specs.declared.goodput.Gear.{Gear}
+use Rattle.gear.specs.declared.Gear.{Gear}
 use Rattle.record.specs.declared.Link.{Link}
-use Rattle.soundness.specs.Soundness.{keptOk, keptIfOk, reportsOk, rememberedOk, gearOk, linkOk, SoundGear, SoundLink}
+use Rattle.soundness.specs.Soundness.{keptOk, keptIfOk, reportsOk, rememberedOk, gearOk, linkOk}
+use Rattle.soundness.specs.SoundnessCode.{SoundGear, SoundLink}
 
 -- ---- one number
 

@@ -40,11 +40,12 @@ use Rattle.record.specs.declared.LastBurst.{LastBurst}
 use Rattle.record.specs.declared.Sender.{Sender}
 use Rattle.record.proofs.View.{Arrays, Counted, bytes-pieces, view-fresh}
 use Rattle.settle.specs.Settle.{Settling}
-use Rattle.soundness.specs.Soundness.{keptOk, keptIfOk, reportsOk, rememberedOk, gearOk, linkOk, countsOk, listsOk, soundOk, SoundRecord}
+use Rattle.soundness.specs.Soundness.{keptOk, keptIfOk, reportsOk, rememberedOk, gearOk, linkOk, countsOk, listsOk, soundOk}
 use Rattle.soundness.proofs.fields.Counts.{held-few, rest-few, out-few, sent-few, waiting-few, flying-few, pieces-few, taken-few, acked-is}
 use Rattle.soundness.proofs.fields.Gear.{gear-sound, sound-gear, link-sound, sound-link}
 use Rattle.limits.specs.Limits.{maxSlots, maxFlying, maxWaiting, maxTaken, maxNumber}
-use Rattle.ledger.specs.Sizes.{SizeRange}
+use Rattle.ledger.specs.SizesCode.{SizeRange}
+use Rattle.soundness.specs.SoundnessCode.{SoundRecord}
 
 -- ---- lists
 

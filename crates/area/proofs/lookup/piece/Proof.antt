@@ -3,7 +3,6 @@ use denote.Ref.{now}
 use native.Mathlib.Nat.{add-sub-cancel-left}
 use Rattle.laws.specs.Bytes.{part}
 use Rattle.area.specs.Table.{rowsFrom, total}
-use Rattle.area.specs.Find.{bytesAt}
 use Rattle.area.proofs.lookup.Laws.{find-within}
 use Prim.Native.Nat.{_+_, _-_, _≤_}
 use mathlib.Core.Path.{ap, _∙_}
@@ -11,6 +10,7 @@ use native.Mathlib.Omega.{arith}
 use borrow.Author.Needs.{needs}
 use Rattle.area.proofs.lookup.piece.Statement.{statement}
 use Rattle.area.proofs.lookup.piece.Tie as tie
+use Rattle.area.specs.FindCode.{bytesAt}
 
 ends : (c : tie.After-find) → let s = c .before .before in c .find .result .start + c .find .result .len ≤ 0 + total (rowsFrom (now (s .args .a)) 0 (s .args .n))
 ends c =

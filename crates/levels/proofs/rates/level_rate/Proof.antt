@@ -1,5 +1,4 @@
-use mathlib.Core.Path.{_∙_}
-use Rattle.levels.proofs.rates.RateLaws.{paced, rate-is}
+use Rattle.levels.proofs.rates.RateLaws.{paced}
 use borrow.Author.Needs.{needs}
 use Rattle.levels.proofs.rates.level_rate.Statement.{statement}
 use Rattle.levels.proofs.rates.level_rate.Tie as tie
@@ -29,7 +28,7 @@ payload-rate-requires c κs =
     (s .pre .0, record { usual = k .usual; pre = k .pre; rate = k .rate; cue = k .cue; slot = k .slot })
 
 returns : tie.Need-returns
-returns c = let a = c .before .before .before .before .before .args in c .payload-rate .ensures ∙ rate-is (a .cfg) (a .l) (a .cue)
+returns c = c .payload-rate .ensures
 
 pub level-rate-spec : {M : Type 1} → statement M
 level-rate-spec =

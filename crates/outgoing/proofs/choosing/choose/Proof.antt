@@ -30,8 +30,8 @@ mul-t18 c = search needs
 element-copy-out-t21 : tie.Need-element-copy-out-t21
 element-copy-out-t21 c = search needs
 
-cue-len-s-requires : tie.Need-cue-len-s-requires
-cue-len-s-requires c κs = search needs
+cue-s-requires : tie.Need-cue-s-requires
+cue-s-requires c κs = search needs
 
 parity-len-s-requires : tie.Need-parity-len-s-requires
 parity-len-s-requires c κs = search needs
@@ -48,7 +48,7 @@ returns c =
     let w = o .before .before .before in
     let f = w .before in
     let m = f .before in
-    simp (c .most-bits .ensures, y .parity-len-s .ensures, q .cue-len-s .ensures, o .slot .ensures, w .wave-rank .ensures, f .long-frame .ensures, m .burst-len-s .ensures, m .before .cue-for .ensures)
+    simp (c .most-bits .ensures, y .parity-len-s .ensures, q .cue-s .ensures, o .slot .ensures, w .wave-rank .ensures, f .long-frame .ensures, m .burst-len-s .ensures, m .before .cue-for .ensures)
 
 pub choose-spec : {M : Type 1} → statement M
 choose-spec =
@@ -63,7 +63,7 @@ choose-spec =
     element-copy-out-t17
     mul-t18
     element-copy-out-t21
-    cue-len-s-requires
+    cue-s-requires
     parity-len-s-requires
     most-bits-requires
     returns)

@@ -11,11 +11,11 @@ use Rattle.harq.specs.declared.Harq.{Harq}
 use Rattle.frames.specs.Slots.{slotsFrom}
 use Rattle.frames.specs.declared.slots.Slot.{Slot}
 use Rattle.frames.specs.declared.slots.Slots.{Slots}
-use Rattle.outgoing.specs.Outgoing.{slotFrames}
 use Rattle.outgoing.proofs.Laws.{slots-length}
 use Rattle.outgoing.proofs.spans.Laws.{stored-turn, stored-end}
 use Rattle.outgoing.proofs.spans.frames_out.Statement.{statement}
 use Rattle.outgoing.proofs.spans.frames_out.Tie as tie
+use Rattle.outgoing.specs.OutgoingCode.{slotFrames}
 
 -- what is stored before place i, and from there on
 abbrev Same : (Slot → ℕ) → Slots → List ℕ → ℕ → List ℕ → Type 0

@@ -1,8 +1,8 @@
 -- `settle::outcome::bits_for` meets its contract.
 use Rattle.laws.proofs.Picks.{picks}
-use Rattle.settle.specs.AckIn.{bitsFor}
 use Rattle.settle.proofs.outcome.bits_for.Statement.{statement}
 use Rattle.settle.proofs.outcome.bits_for.Tie as tie
+use Rattle.settle.specs.AckInCode.{bitsFor}
 
 returns : tie.Need-returns
 unfolding bitsFor

@@ -8,10 +8,10 @@ use lib.Dec.{eqb}
 use lib.ListN.{length, drop, getD}
 use borrow.Author.Needs.{needs}
 use Rattle.settle.specs.declared.outcome.Came.{Came}
-use Rattle.settle.specs.Outcomes.{talliedFrom, tallied}
 use Rattle.settle.proofs.outcome.Counts.{tally-turn, tally-end, one-few, counted-is}
 use Rattle.settle.proofs.outcome.tally.Statement.{statement}
 use Rattle.settle.proofs.outcome.tally.Tie as tie
+use Rattle.settle.specs.OutcomesCode.{talliedFrom, tallied}
 
 abbrev Inv-loop : tie.InvT-loop
 Inv-loop bits held bitmap t₀ b₀ i₀ t b i =

@@ -1,4 +1,4 @@
-use Rattle.levels.specs.Paces.{paceBits}
+use Rattle.levels.specs.Rates.{payloadBits}
 use Rattle.laws.proofs.Picks.{calls}
 use borrow.Author.Needs.{needs}
 use Rattle.levels.proofs.rates.Pace.payload_bits.Statement.{statement}
@@ -20,11 +20,11 @@ mul-result-2 : tie.Need-mul-result-2
 mul-result-2 c = search needs
 
 returns : tie.Need-returns
-unfolding paceBits
+unfolding payloadBits
 returns c = search calls
 
 returns-2 : tie.Need-returns-2
-unfolding paceBits
+unfolding payloadBits
 returns-2 c = search calls
 
 pub payload-bits-spec : {M : Type 1} → statement M

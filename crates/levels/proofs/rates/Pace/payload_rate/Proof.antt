@@ -1,4 +1,4 @@
-use Rattle.levels.specs.Paces.{paceRate}
+use Rattle.levels.specs.Rates.{paceRate}
 use lib.Ieee.{ofInt, ofBits}
 use native.Mathlib.Omega.{arith}
 use Rattle.levels.proofs.rates.RateLaws.{frames-le, bits-fit}
@@ -9,11 +9,14 @@ use Rattle.levels.proofs.rates.Pace.payload_rate.Tie as tie
 cast-slot : tie.Need-cast-slot
 cast-slot c = search needs
 
+cue-s-requires : tie.Need-cue-s-requires
+cue-s-requires c κs = search needs
+
 data-s-requires : tie.Need-data-s-requires
 data-s-requires c κs = search needs
 
 mul-data-s : tie.Need-mul-data-s
-mul-data-s c = let s = c .before .before in omega (arith, s .pre .1 .slot)
+mul-data-s c = let s = c .before .before .before in omega (arith, s .pre .1 .slot)
 
 data-s-requires-2 : tie.Need-data-s-requires-2
 data-s-requires-2 c κs = search needs
@@ -24,12 +27,12 @@ frames-of-requires c κs = search needs
 count-of-requires : tie.Need-count-of-requires
 count-of-requires c κs = search needs
 
-mul-data-s-2 : tie.Need-mul-data-s-2
-mul-data-s-2 c =
-    let s = c .before .before .before .before .before in
+mul-most : tie.Need-mul-most
+mul-most c =
+    let s = c .before .before .before .before .before .before in
     record {
       fits =
-          rw (c .count-of .ensures, c .before .frames-of .ensures, c .before .before .data-s2 .ensures, c .before .before .before .data-s .ensures)
+          rw (c .count-of .ensures, c .before .frames-of .ensures, c .before .before .data-s2 .ensures, c .before .before .before .data-s .ensures, c .before .before .before .before .cue-s .ensures)
           (bits-fit _ _ (frames-le (s .args .self) (s .pre .1) (s .args .cue)) (s .pre .1 .slot));
     }
 
@@ -66,6 +69,7 @@ returns c =
       a .before .before .frames-of .ensures,
       a .before .before .before .data-s2 .ensures,
       a .before .before .before .before .data-s .ensures,
+      a .before .before .before .before .before .cue-s .ensures,
     )
 
 pub payload-rate-spec : {M : Type 1} → statement M
@@ -73,12 +77,13 @@ payload-rate-spec =
     tie.close
     (tie.spec
     cast-slot
+    cue-s-requires
     data-s-requires
     mul-data-s
     data-s-requires-2
     frames-of-requires
     count-of-requires
-    mul-data-s-2
+    mul-most
     data-s-requires-3
     payload-bits-requires
     nearest-u64-to-f64-requires
