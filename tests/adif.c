@@ -1,6 +1,6 @@
-/* Links from standard input through vanitycrow_adif, a line each: the call sign in HEX (- for none), first second, last second, bytes acknowledged, bytes of
- * output. Answers, a line each: refusal, characters, the record. What lies past the record, all of it where the call is refused, and the bytes around the output must be
- * kept, and so the call sign: else this says so and ends with 1. */
+/* Links from standard input through vanitycrow_adif, a line each: the call sign in HEX (- for none), first second, last second, bytes
+ * acknowledged, bytes of output. Answers, a line each: refusal, characters, the record. What lies past the record, all of the output where
+ * the call is refused, the bytes around the output and the call sign must be kept: else this says so and ends with 1. */
 #include <inttypes.h>
 #include <stdio.h>
 #include <stdlib.h>

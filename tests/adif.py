@@ -1,9 +1,9 @@
 #!/usr/bin/env python3
 """usage: tests/adif.py make COUNT SEED | judge LINKS ANSWERS
 
-The link log judged in another language, with nothing of the port. `make` writes lines for tests/adif.c: both sides of every limit, then COUNT random links
-that are accepted. `judge` reads LINKS and the ANSWERS to them: the refusal reckoned anew, each record read by ADIF's syntax, dates and times by Python's
-datetime. The last line says how many were alike; the status is 1 where one is not.
+The link log judged in another language, with nothing of the port. `make` writes lines for tests/adif.c: both sides of every limit, then
+COUNT random links that are accepted. `judge` reads LINKS and the ANSWERS to them: the refusal reckoned anew, each record read by ADIF's
+syntax, dates and times by Python's datetime. The last line says how many were alike; the status is 1 where one is not.
 """
 import datetime, random, sys
 
