@@ -10,7 +10,7 @@ use crate::profile::*;
 
 const LEVELS: usize = 17;
 const KINDS: [&str; 6] = ["usual", "ladder", "harq", "extreme", "hostile", "merge"];
-const PROFILE_BYTES: usize = 640;
+const PROFILE_BYTES: usize = 8 * 147 + 4;
 const REPLY_BYTES: usize = 60;
 const LEVEL_BYTES: usize = 24;
 const CALLS: usize = 150;
@@ -178,62 +178,28 @@ fn put_reply(out: &mut Vec<u8>, r: &Reply, before: &Station, s: &Station) {
     }
 }
 
+/// A value as a number of the profile's table: floats by their bits, `none` as the largest number, `goodput` as 1.
+fn number(line: usize, value: Value) -> u64 {
+    match value {
+        Value::Whole(n) => n,
+        Value::F64(x) => x.to_bits(),
+        Value::F32(x) => x.to_bits().into(),
+        Value::None => u64::MAX,
+        Value::Choice(at) if line == GEAR => (at == 0).into(),
+        Value::Choice(at) => at as u64,
+        Value::Flag(b) => b.into(),
+    }
+}
+
 fn put_profile(out: &mut Vec<u8>, p: &Profile, replies: u32) {
     let begin = out.len();
-    let c = p.config();
-    let f64s = |out: &mut Vec<u8>, line: usize, n: usize| {
-        for at in 0..n {
-            out.extend(p.f64(line, at).to_bits().to_le_bytes());
-        }
-    };
-    let f32s = |out: &mut Vec<u8>, xs: &[f32]| {
-        for x in xs {
-            out.extend(x.to_bits().to_le_bytes());
-        }
-    };
-    for l in 0..LEVELS {
-        out.extend((p.whole(l, 0) as u32).to_le_bytes());
-    }
-    for place in [1, 2] {
-        for l in 0..LEVELS {
-            out.extend(p.f64(l, place).to_bits().to_le_bytes());
+    for (line, values) in p.values.iter().enumerate() {
+        for &value in values {
+            out.extend(number(line, value).to_le_bytes());
         }
     }
-    f64s(out, ACK_S, 6);
-    f64s(out, CUE_S, 1);
-    for at in 0..2 {
-        out.extend((p.whole(FRAME_BYTES, at) as u32).to_le_bytes());
-    }
-    f64s(out, BURST, 4);
-    f64s(out, HOLDS, 3);
-    f32s(out, &c.thresholds_db);
-    f32s(out, &[c.margin_db]);
-    f32s(out, &c.eff_thresholds_db);
-    f32s(out, &[c.eff_margin_db, c.cue_below_db, c.burst_steady_db]);
-    f32s(
-        out,
-        &[c.start_margin_db.unwrap_or(0.0), c.burst_climb_db.unwrap_or(0.0)],
-    );
-    out.extend([
-        c.max_level as u8,
-        c.skip_slices_from as u8,
-        c.pin_level.unwrap_or(0) as u8,
-    ]);
-    out.extend([(p.choice(GEAR) == 0) as u8, p.choice(POWER) as u8]);
-    out.extend([c.start_margin_db, c.burst_climb_db].map(|x| x.is_some() as u8));
-    out.push(c.pin_level.is_some() as u8);
-    out.extend(
-        [
-            c.eff_snr,
-            c.pick_family,
-            c.smooth_target,
-            c.hold_by_goodput,
-            c.burst_adapt,
-        ]
-        .map(|b| b as u8),
-    );
     out.extend(replies.to_le_bytes());
-    out.resize(begin + PROFILE_BYTES, 0);
+    assert_eq!(out.len(), begin + PROFILE_BYTES);
 }
 
 /// The replies of one sender so far, as they are written.

@@ -1,6 +1,6 @@
 // Drives the gear alone with decisions of the original that `oracle/run gear SEED COUNT` stored: a profile and a fresh gear, then replies, and after
 // each of them every field of the record against the original's, by its bits. `stdout` holds the counts, and a difference is written as it is found.
-// stdin: profiles of 640 bytes, each followed by as many replies as it says. A reply is 60 bytes, and 24 for each level that it changed.
+// stdin: profiles of 1,180 bytes, 147 numbers and how many replies follow. A reply is 60 bytes, and 24 for each level that it changed.
 mod read;
 mod same;
 
@@ -16,9 +16,10 @@ use levels::memory::Tries;
 use levels::usable::Holds;
 use libc::STDIN_FILENO;
 use libc::STDOUT_FILENO;
+use profile_table::profile_of;
 use read::f32_at;
 use read::f64_at;
-use read::profile_of;
+use read::table_of;
 use report::ChanClass;
 use same::differing;
 ghost use Prim.Native.Nat.{_<_};
@@ -337,10 +338,11 @@ fn print_counts(c: Counts) {
 }
 
 // A profile and its replies.
-fn profile(c: Counts, a: &[u8; 640]) -> Counts {
-    let cfg = profile_of(a);
+fn profile(c: Counts, a: &[u8; 1180]) -> Counts {
+    let v = table_of(a);
+    let cfg = profile_of(&v);
     if config::ranges::in_range(cfg) {
-        return replies(cfg, c, load32(a, 633));
+        return replies(cfg, c, load32(a, 1176));
     }
     write_all(STDOUT_FILENO, b"a profile is out of range\n");
     c
@@ -350,8 +352,8 @@ fn main() {
     let mut c = Counts { of: [0; 11] };
     let mut i: u32 = 0;
     while i < 1000000 {
-        let mut a = [0u8; 640];
-        if io::read_full(STDIN_FILENO, &mut a) < 640 {
+        let mut a = [0u8; 1180];
+        if io::read_full(STDIN_FILENO, &mut a) < 1180 {
             break;
         }
         c = profile(c.more(0), &a);

@@ -4,3 +4,4 @@ pub mod Span
 pub mod Bytes
 pub mod Little
 pub mod Lists
+pub mod Text

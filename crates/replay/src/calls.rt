@@ -1,30 +1,12 @@
-// The calls of a list and their answers (call-list.md, Calls and their answers).
+// The calls of a list and their answers (docs/CALLS.md, Calls).
+use crate::buffer::least;
 use crate::held;
-use crate::profile::single_of;
-use crate::state::state;
-use crate::text::flag as put_flag;
-use crate::text::hex as put_hex;
-use crate::text::least;
-use crate::text::newline;
-use crate::text::puts;
-use crate::text::whole as put_whole;
-use crate::text::wide;
-use crate::words::NONE;
-use crate::words::Read;
-use crate::words::done;
-use crate::words::double;
-use crate::words::flag;
-use crate::words::hex;
-use crate::words::none;
-use crate::words::single;
-use crate::words::whole;
 use config::MaybeDb;
 use config::Profile;
 use float_bits::of_bits64;
 use numbered::Left;
 use numbered::LeftBurst;
-use outgoing::Frames;
-use outgoing::Outgoing;
+use profile_table::single_of;
 use record::Sender;
 use replies::Ack;
 use replies::ConnAck;
@@ -32,6 +14,14 @@ use replies::Heard;
 use replies::LongAck;
 use replies::Turn;
 use report::ChanClass;
+use words::Read;
+use words::done;
+use words::double;
+use words::flag;
+use words::hex;
+use words::none;
+use words::single;
+use words::whole;
 ghost use Prim.Native.Nat.{_≤_, _<_};
 
 // The run so far: the profile and the sender, what is lent of the work area and of the output, and what is used of the text's
@@ -74,17 +64,6 @@ fn u8_of(n: u64) -> u8 {
     if n < 256 { n as u8 } else { 255 }
 }
 
-// `ok`, or `refused` and the number.
-fn answer(t: &mut [u8], n: usize, name: &[u8], refusal: u8) -> usize {
-    let n = puts(t, n, name);
-    if refusal == 0 {
-        return puts(t, n, b" ok\n");
-    }
-    let n = puts(t, n, b" refused");
-    let n = put_whole(t, n, refusal as u64);
-    newline(t, n)
-}
-
 // T, W and HERE.
 fn heard_first(line: &[u8], r: Read) -> Hearing {
     let time = double(line, r);
@@ -102,7 +81,7 @@ fn heard_first(line: &[u8], r: Read) -> Hearing {
 
 // The answer to a queuing or a reply, and the record that it left.
 fn answered(run: Run, q: Left, t: &mut [u8], name: &[u8]) -> Run {
-    let n = answer(t, run.text, name, q.refusal);
+    let n = transcript::answer(t, run.text, name, q.refusal);
     let next = q.next;
     moved(run, next, n)
 }
@@ -271,90 +250,6 @@ pub(crate) fn queue_bytes(
     queue_call(read.value as usize, run, area, t, bytes)
 }
 
-// The numbers of a frame.
-fn frame_numbers(t: &mut [u8], n: usize, f: Frames, i: usize) -> usize
-    requires { ⌜ i < 64 ⌝ }
-{
-    let off = wide(f.off[i]);
-    let len = wide(f.len[i]);
-    let start = wide(f.start[i]);
-    let bits = wide(f.bits[i]);
-    let n = puts(t, n, b"frame");
-    let n = put_whole(t, n, off);
-    let n = put_whole(t, n, len);
-    let n = put_whole(t, n, start);
-    put_whole(t, n, bits)
-}
-
-// The bytes of a frame of `size` bytes.
-fn frame_bytes(t: &mut [u8], n: usize, out: &[u8], from: usize, size: usize) -> usize {
-    let to = after(from, size);
-    if from > to {
-        return n;
-    }
-    if to > out.len() {
-        return n;
-    }
-    let n = put_hex(t, n, &out[from..to]);
-    newline(t, n)
-}
-
-fn frame(
-    t: &mut [u8],
-    n: usize,
-    f: Frames,
-    i: usize,
-    out: &[u8],
-    from: usize,
-    size: usize,
-) -> usize {
-    if i >= 64 {
-        return n;
-    }
-    let n = frame_numbers(t, n, f, i);
-    frame_bytes(t, n, out, from, size)
-}
-
-// Where a frame of `size` bytes ends: no frame is larger than the output.
-fn after(from: usize, size: usize) -> usize {
-    if from > 32768 {
-        return from;
-    }
-    if size > 32768 {
-        return from;
-    }
-    from + size
-}
-
-fn frames(t: &mut [u8], n: usize, f: Frames, out: &[u8], size: usize) -> usize {
-    let mut n = n;
-    let mut from: usize = 0;
-    let mut i: usize = 0;
-    while i < f.n {
-        n = frame(t, n, f, i, out, from, size);
-        from = after(from, size);
-        i += 1;
-    }
-    n
-}
-
-fn burst_words(t: &mut [u8], n: usize, b: Outgoing) -> usize {
-    let n = puts(t, n, b"burst ok");
-    let n = put_whole(t, n, b.wave as u64);
-    let n = put_whole(t, n, b.code as u64);
-    let n = put_whole(t, n, b.user as u64);
-    put_whole(t, n, b.extra as u64)
-}
-
-fn burst_line(t: &mut [u8], n: usize, b: Outgoing) -> usize {
-    let f = b.frames;
-    let n = burst_words(t, n, b);
-    let n = put_flag(t, n, b.cue);
-    let n = put_flag(t, n, b.td_ease);
-    let n = put_whole(t, n, f.n as u64);
-    newline(t, n)
-}
-
 // A frame's size at the level of the record.
 fn frame_size(p: Profile, s: Sender) -> usize {
     let g = s.gear;
@@ -369,12 +264,11 @@ fn burst_answer(run: Run, q: LeftBurst, t: &mut [u8], out: &[u8]) -> Run {
     let b = q.burst;
     let refusal = b.refusal;
     if refusal != 0 {
-        let n = answer(t, run.text, b"burst", refusal);
+        let n = transcript::answer(t, run.text, b"burst", refusal);
         return with_text(run, n);
     }
     let sent = b.outgoing;
-    let n = burst_line(t, run.text, sent);
-    let n = frames(t, n, sent.frames, out, frame_size(run.p, run.s));
+    let n = transcript::burst::burst(t, run.text, sent, frame_size(run.p, run.s), out);
     let next = q.next;
     moved(run, next, n)
 }
@@ -404,9 +298,7 @@ pub(crate) fn burst(
 fn piece_bytes(run: Run, area: &[u8], t: &mut [u8], n: usize, off: u32) -> usize {
     let lent = least(run.area, area);
     let b = held::piece(run.p, run.s, &area[..lent], off);
-    let n = puts(t, n, b"piece");
-    let n = put_hex(t, n, b);
-    newline(t, n)
+    transcript::piece(t, n, b)
 }
 
 pub(crate) fn piece(line: &[u8], r: Read, run: Run, area: &[u8], t: &mut [u8]) -> Run {
@@ -419,14 +311,14 @@ pub(crate) fn piece(line: &[u8], r: Read, run: Run, area: &[u8], t: &mut [u8]) -
     let found = held::find(run.p, run.s, &area[..lent], off);
     let refusal = found.refusal;
     if refusal != 0 {
-        let n = answer(t, run.text, b"piece", refusal);
+        let n = transcript::answer(t, run.text, b"piece", refusal);
         return with_text(run, n);
     }
     if found.here & (q.value < 4294967296) {
         let n = piece_bytes(run, area, t, run.text, off);
         return with_text(run, n);
     }
-    let n = puts(t, run.text, b"piece none\n");
+    let n = transcript::no_piece(t, run.text);
     with_text(run, n)
 }
 
@@ -434,7 +326,7 @@ pub(crate) fn show(line: &[u8], r: Read, run: Run, area: &[u8], t: &mut [u8]) ->
     if !done(line, r) {
         return failed(run);
     }
-    let n = state(t, run.text, run.s, area);
+    let n = transcript::state::state(t, run.text, run.s, area);
     with_text(run, n)
 }
 
@@ -443,7 +335,7 @@ pub(crate) fn lend_area(line: &[u8], r: Read, run: Run, t: &mut [u8]) -> Run {
     if !done(line, q) | (q.value > 65536) {
         return failed(run);
     }
-    let n = puts(t, run.text, b"area ok\n");
+    let n = transcript::answer(t, run.text, b"area", 0);
     let mut after = run;
     after.area = q.value as usize;
     after.text = n;
@@ -455,7 +347,7 @@ pub(crate) fn lend_out(line: &[u8], r: Read, run: Run, t: &mut [u8]) -> Run {
     if !done(line, q) | (q.value > 32768) {
         return failed(run);
     }
-    let n = puts(t, run.text, b"out ok\n");
+    let n = transcript::answer(t, run.text, b"out", 0);
     let mut after = run;
     after.out = q.value as usize;
     after.text = n;

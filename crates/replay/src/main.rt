@@ -1,27 +1,23 @@
 // Reads a call list on standard input, makes its calls and writes the transcript on standard output (docs/CALLS.md).
+mod buffer;
 mod calls;
 mod held;
-mod profile;
-mod state;
-mod text;
-mod words;
+mod input;
 
+use buffer::flush;
+use buffer::least;
+use buffer::room;
 use calls::Run;
 use calls::failed;
-use profile::LINES;
-use profile::profile_line;
-use profile::profile_of;
+use input::next_line;
+use profile_table::LINES;
+use profile_table::listed::profile_line;
+use profile_table::profile_of;
 use sender::fresh;
-use state::tally;
-use text::flush;
-use text::least;
-use text::newline;
-use text::puts;
-use words::END;
 use words::Input;
-use words::WHOLE;
 use words::done;
-use words::next_line;
+use words::taken::END;
+use words::taken::WHOLE;
 use words::word;
 
 // No whole profile was read yet: `stage` is past every stage.
@@ -37,9 +33,7 @@ fn clear(area: &mut [u8]) {
 }
 
 fn end_line(run: Run, t: &mut [u8]) -> Run {
-    let n = puts(t, run.text, b"end");
-    let n = tally(t, n, run.s);
-    let n = newline(t, n);
+    let n = transcript::end(t, run.text, run.s);
     let mut after = run;
     after.text = n;
     after
@@ -85,19 +79,19 @@ fn profile_step(line: &[u8], run: Run, area: &mut [u8], out: &mut [u8], v: &mut 
 }
 
 fn reply(line: &[u8], run: Run, area: &mut [u8], t: &mut [u8], bytes: &mut [u8]) -> Run {
-    let r = word(line, 0, b"short");
+    let r = word(line, b"short");
     if r.ok {
         return calls::short(line, r, run, area, t);
     }
-    let r = word(line, 0, b"long");
+    let r = word(line, b"long");
     if r.ok {
         return calls::long(line, r, run, area, t, bytes);
     }
-    let r = word(line, 0, b"turn");
+    let r = word(line, b"turn");
     if r.ok {
         return calls::turn(line, r, run, area, t);
     }
-    let r = word(line, 0, b"connect");
+    let r = word(line, b"connect");
     if r.ok {
         return calls::connect(line, r, run, area, t);
     }
@@ -105,19 +99,19 @@ fn reply(line: &[u8], run: Run, area: &mut [u8], t: &mut [u8], bytes: &mut [u8])
 }
 
 fn look(line: &[u8], run: Run, area: &mut [u8], t: &mut [u8], bytes: &mut [u8]) -> Run {
-    let r = word(line, 0, b"piece");
+    let r = word(line, b"piece");
     if r.ok {
         return calls::piece(line, r, run, area, t);
     }
-    let r = word(line, 0, b"state");
+    let r = word(line, b"state");
     if r.ok {
         return calls::show(line, r, run, area, t);
     }
-    let r = word(line, 0, b"area");
+    let r = word(line, b"area");
     if r.ok {
         return calls::lend_area(line, r, run, t);
     }
-    let r = word(line, 0, b"out");
+    let r = word(line, b"out");
     if r.ok {
         return calls::lend_out(line, r, run, t);
     }
@@ -132,11 +126,11 @@ fn call(
     t: &mut [u8],
     bytes: &mut [u8],
 ) -> Run {
-    let r = word(line, 0, b"burst");
+    let r = word(line, b"burst");
     if r.ok {
         return calls::burst(line, r, run, area, t, out);
     }
-    let r = word(line, 0, b"queue");
+    let r = word(line, b"queue");
     if r.ok {
         return calls::queue_bytes(line, r, run, area, t, bytes);
     }
@@ -162,7 +156,7 @@ fn step(
     if run.stage < LINES {
         return profile_step(line, run, area, out, v);
     }
-    let r = word(line, 0, b"profile");
+    let r = word(line, b"profile");
     if done(line, r) {
         return begin(run, t);
     }
@@ -187,13 +181,13 @@ fn line_step(
     if i.kind != WHOLE {
         return failed(run);
     }
-    step(&line[..len], run, area, out, t, bytes, v)
+    let mut before = run;
+    before.text = room(t, run.text);
+    step(&line[..len], before, area, out, t, bytes, v)
 }
 
 fn error_line(run: Run, n: u64, t: &mut [u8]) -> Run {
-    let k = puts(t, run.text, b"error");
-    let k = text::whole(t, k, n);
-    let k = newline(t, k);
+    let k = transcript::error(t, run.text, n);
     let mut after = run;
     after.text = k;
     after
@@ -299,7 +293,7 @@ fn main() {
     let mut chunk = io::large_buffer();
     let mut line = io::large_buffer();
     let mut area = io::large_buffer();
-    let mut text = io::large_buffer();
+    let mut text = [0u8; 131072];
     let mut out = [0u8; 32768];
     let mut bytes = [0u8; 32768];
     replay(

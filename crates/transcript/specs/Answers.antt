@@ -1,0 +1,60 @@
+-- The transcript's answers and its last lines (docs/CALLS.md). Definitions only.
+use mathlib.Core.Bool.{cond}
+use mathlib.Core.List.{List, _++_}
+use Prim.Native.Nat.{ℕ, _+_, _*_, min}
+use lib.Dec.{eqb}
+use lib.ListN.{getD}
+use Rattle.laws.specs.Bytes.{part}
+use Rattle.laws.specs.Span.{upto}
+use Rattle.text.specs.Buffer.{each}
+use Rattle.laws.specs.Text.{text}
+use Rattle.text.specs.Words.{numberWord, flagWord, hex}
+use Rattle.limits.specs.Limits.{maxSlots}
+use Rattle.record.specs.declared.Sender.{Sender}
+use Rattle.outgoing.specs.declared.Frames.{Frames}
+use Rattle.outgoing.specs.declared.Outgoing.{Outgoing}
+
+-- `ok`, or "`refused` and document 01's number"
+unfoldable pub outcome : ℕ → List ℕ
+outcome k = cond (eqb k 0) (text " ok") (text " refused" ++ numberWord k)
+
+-- what a call answers, by its name
+abbrev pub answerLine : List ℕ → ℕ → List ℕ
+answerLine name k = name ++ outcome k ++ text "\n"
+
+-- `burst ok WAVE CODE USER EXTRA CUE TD_EASE COUNT`
+abbrev pub burstLine : Outgoing → List ℕ
+burstLine b =
+    text "burst ok" ++ numberWord (b .wave) ++ numberWord (b .code) ++ numberWord (b .user) ++ numberWord (b .extra) ++ flagWord (b .cue) ++ flagWord (b .«td_ease»)
+    ++ numberWord (b .frames .n) ++ text "\n"
+
+-- `frame OFFSET LEN START BITS HEX`
+abbrev pub frameLine : ℕ → ℕ → ℕ → ℕ → List ℕ → List ℕ
+frameLine off len start bits bytes = text "frame" ++ numberWord off ++ numberWord len ++ numberWord start ++ numberWord bits ++ hex bytes ++ text "\n"
+
+-- frame i, of `size` bytes; the frames stand in the output one after the other
+abbrev pub frameEntry : Frames → ℕ → List ℕ → ℕ → List ℕ
+frameEntry f size out i =
+    frameLine (getD (f .off) i 0) (getD (f .len) i 0) (getD (f .start) i 0) (getD (f .bits) i 0) (part out (size * i) size)
+
+-- a burst's line, then COUNT lines, 64 at most
+unfoldable pub burstLines : Outgoing → ℕ → List ℕ → List ℕ
+burstLines b size out = burstLine b ++ each (frameEntry (b .frames) size out) (upto 0 (min (b .frames .n) maxSlots))
+
+-- `piece HEX`
+abbrev pub pieceLine : List ℕ → List ℕ
+pieceLine bytes = text "piece" ++ hex bytes ++ text "\n"
+
+-- TAKEN WAITING FLYING ACKED
+abbrev pub tallyWords : Sender → List ℕ
+tallyWords s =
+    numberWord (s .counts .«next_offset» + s .counts .waiting) ++ numberWord (s .counts .waiting) ++ numberWord (s .counts .flying)
+    ++ numberWord (s .counts .«bytes_acked»)
+
+-- `end TAKEN WAITING FLYING ACKED`
+abbrev pub endLine : Sender → List ℕ
+endLine s = text "end" ++ tallyWords s ++ text "\n"
+
+-- `error LINE`
+abbrev pub errorLine : ℕ → List ℕ
+errorLine k = text "error" ++ numberWord k ++ text "\n"
