@@ -25,7 +25,7 @@ pub arm : (chars : List ℕ) (k : ℕ) (v : List ℕ) (l : Line) (r : Bool) (x :
     → (r ≡ lineOk chars (lineAt k) v) × (x ≡ lineRead chars (lineAt k) v .1)
 arm chars k v l r x e h = (h .0 ∙ ap (λ (y : Line). lineOk chars y v) e, h .1 ∙ ap (λ (y : Line). lineRead chars y v .1) e)
 
-pub level-line : (k : ℕ) → k < 17 → lineOf (text "levelKind") levelKind 4 (4 * k) ≡ lineAt k
+pub level-line : (k : ℕ) → k < 17 → lineOf (text "level") levelKind 4 (4 * k) ≡ lineAt k
 unfolding lineAt
 level-line k h = cond-yes _ _ _ _ (lt-ltb k 17 h) refl
 

@@ -89,13 +89,13 @@ lines =
     ∷ lineOf (text "burst_climb_db") maybeSingle 1 130
     ∷ lineOf (text "levels") wholeKind 2 131
     ∷ lineOf (text "pin_level") maybeLevel 1 133
-    ∷ lineOf (text "gearKind") gearKind 1 134
-    ∷ lineOf (text "powerKind") powerKind 1 135
+    ∷ lineOf (text "gear") gearKind 1 134
+    ∷ lineOf (text "power") powerKind 1 135
     ∷ []
 
 -- the line k after `profile`, from 0 up; `on` is the last
 unfoldable pub lineAt : ℕ → Line
-lineAt k = cond (ltb k 17) (lineOf (text "levelKind") levelKind 4 (4 * k)) (getD lines (k - 17) (lineOf (text "on") flagKind 11 136))
+lineAt k = cond (ltb k 17) (lineOf (text "level") levelKind 4 (4 * k)) (getD lines (k - 17) (lineOf (text "on") flagKind 11 136))
 
 -- ---- a line read
 
