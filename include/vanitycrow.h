@@ -1,4 +1,4 @@
-/* The sender of an HF station: six calls over one record and one work area, and a lookup.
+/* The sender of an HF station: six calls over one record and one work area, a lookup, and the link log.
  *
  * Link with libstation.a (`rt staticlib station`). A sender is a struct vanitycrow_sender and a work area of VANITYCROW_AREA_BYTES
  * bytes, all zero at first; vanitycrow_fresh makes the record. Each call changes both, and nothing else may. One profile serves a sender
@@ -18,9 +18,9 @@ extern "C" {
 #endif
 
 /* The version of this interface (CHANGELOG.md). */
-#define VANITYCROW_VERSION "0.1.0"
+#define VANITYCROW_VERSION "0.2.0"
 #define VANITYCROW_VERSION_MAJOR 0
-#define VANITYCROW_VERSION_MINOR 1
+#define VANITYCROW_VERSION_MINOR 2
 #define VANITYCROW_VERSION_PATCH 0
 
 #define VANITYCROW_AREA_BYTES 49152
@@ -28,6 +28,8 @@ extern "C" {
 #define VANITYCROW_WAVES 6   /* 0 to 5, by rank */
 #define VANITYCROW_MAX_SLOTS 64 /* frames of a burst */
 #define VANITYCROW_MAX_WAITING 16384 /* bytes that may wait */
+#define VANITYCROW_ADIF_BYTES 256 /* least output of a link log */
+#define VANITYCROW_LAST_SECOND 4102444799u /* since 1970: the end of 2099 */
 
 /* What a call answers. */
 enum {
@@ -41,7 +43,10 @@ enum {
     VANITYCROW_SHORT_PAYLOAD = 7,        /* a long ack's payload is under 13 bytes */
     VANITYCROW_QUEUE_FULL = 8,           /* more than VANITYCROW_MAX_WAITING bytes would wait */
     VANITYCROW_ALL_TAKEN = 9,            /* more than 2^32 - 1 bytes would be taken in all */
-    VANITYCROW_SHORT_OUTPUT = 10         /* the output is shorter than VANITYCROW_MAX_SLOTS long frames */
+    VANITYCROW_SHORT_OUTPUT = 10,        /* the output is shorter than VANITYCROW_MAX_SLOTS long frames */
+    VANITYCROW_BAD_CALL_SIGN = 20,       /* not 1 to 12 capitals, digits and slashes */
+    VANITYCROW_BAD_LINK_TIME = 21,       /* past VANITYCROW_LAST_SECOND, or the end before the start */
+    VANITYCROW_SHORT_ADIF = 22           /* the output is shorter than VANITYCROW_ADIF_BYTES */
 };
 
 /* ---- the profile: dB values are -100 to 100; s is seconds */
@@ -255,6 +260,9 @@ struct vanitycrow_burst { uint8_t refusal; struct vanitycrow_outgoing outgoing; 
 /* Where the bytes of a piece lie: area[start] to area[start + len - 1]; nowhere unless here. */
 struct vanitycrow_place { uint8_t refusal; bool here; size_t start; size_t len; };
 
+/* len characters of a record, 0 where it is refused. */
+struct vanitycrow_logged { uint8_t refusal; size_t len; };
+
 /* ---- calls: p the profile, s the record, a the work area of a_len bytes */
 
 /* Makes *s the record of a new sender, whatever it was. */
@@ -287,6 +295,11 @@ struct vanitycrow_burst vanitycrow_data_burst(const struct vanitycrow_profile *p
 /* Where the bytes of the flying piece at this offset lie in the work area. Refusals 1 to 4. */
 struct vanitycrow_place vanitycrow_find(const struct vanitycrow_profile *p, const struct vanitycrow_sender *s, const uint8_t *a, size_t a_len,
                                         uint32_t off);
+
+/* A finished link as one record of ADIF 3 at the start of out, with no line end and no zero behind it; what lies past it keeps its bytes.
+ * call is the far station's call sign, on and off the link's first and last second since 1970 in UTC, acked the bytes acknowledged (counts.bytes_acked).
+ * Needs no sender. Refusals 20 21 22. */
+struct vanitycrow_logged vanitycrow_adif(const uint8_t *call, size_t call_len, uint64_t on, uint64_t off, uint32_t acked, uint8_t *out, size_t n);
 
 #ifdef __cplusplus
 }

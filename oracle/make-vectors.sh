@@ -1,11 +1,11 @@
 #!/bin/sh
-# Writes the generated part of vectors/ anew, and the transcripts of all of it.
+# Writes the generated part of vectors/ anew, and the transcripts of all of it but vectors/changes.
 # Each list is named KIND-CALLS-SEED after the arguments that make it.
 set -eu
 here=$(cd "$(dirname "$0")" && pwd)
 vectors=$here/../vectors
-find "$vectors" -name '*-[0-9]*-[0-9]*.calls' -exec rm {} +
-find "$vectors" -name '*.transcript' -exec rm {} +
+find "$vectors" -maxdepth 1 -name '*-[0-9]*-[0-9]*.calls' -exec rm {} +
+find "$vectors" -maxdepth 1 -name '*.transcript' -exec rm {} +
 
 # vectors KIND CALLS SEED..
 vectors() {

@@ -30,6 +30,7 @@ typedef struct vanitycrow_frames Frames;
 typedef struct vanitycrow_outgoing Outgoing;
 typedef struct vanitycrow_burst Burst;
 typedef struct vanitycrow_place Place;
+typedef struct vanitycrow_logged Logged;
 
 /* The type of a field or of its elements; size_t is uint64_t here. */
 #define KIND(x) \
@@ -112,6 +113,8 @@ static void reply_and_answer_lines(void) {
     F(Burst, refusal); F(Burst, outgoing);
     S(Place);
     F(Place, refusal); F(Place, here); F(Place, start); F(Place, len);
+    S(Logged);
+    F(Logged, refusal); F(Logged, len);
 }
 
 int main(void) {
@@ -120,5 +123,7 @@ int main(void) {
     reply_and_answer_lines();
     printf("AREA_BYTES %d\n", VANITYCROW_AREA_BYTES);
     printf("MAX_SLOTS %d\n", VANITYCROW_MAX_SLOTS);
+    printf("ADIF_BYTES %d\n", VANITYCROW_ADIF_BYTES);
+    printf("LAST_SECOND %u\n", VANITYCROW_LAST_SECOND);
     return 0;
 }

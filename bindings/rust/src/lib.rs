@@ -16,8 +16,12 @@ pub const VERSION: &str = env!("CARGO_PKG_VERSION");
 pub const AREA_BYTES: usize = 49152;
 /// Most frames of a burst.
 pub const MAX_SLOTS: usize = 64;
+/// Least output of a link log.
+pub const ADIF_BYTES: usize = 256;
+/// The end of 2099, in seconds since 1970: a link log knows no later time.
+pub const LAST_SECOND: u64 = 4_102_444_799;
 
-/// Why a call was refused, by document 01's numbers.
+/// Why a call was refused, by the numbers of documents 01 and 02.
 #[derive(Clone, Copy, Debug, PartialEq, Eq)]
 pub enum Refusal {
     ProfileOutOfRange = 1,
@@ -30,10 +34,13 @@ pub enum Refusal {
     QueueFull = 8,
     AllTaken = 9,
     ShortOutput = 10,
+    BadCallSign = 20,
+    BadLinkTime = 21,
+    ShortAdif = 22,
 }
 
 impl Refusal {
-    /// Document 01's number.
+    /// The papers' number.
     pub fn number(self) -> u8 {
         self as u8
     }
@@ -53,8 +60,19 @@ fn told(number: u8) -> Result<(), Refusal> {
         8 => Err(QueueFull),
         9 => Err(AllTaken),
         10 => Err(ShortOutput),
-        _ => unreachable!("the contracts give 0 to 10"),
+        20 => Err(BadCallSign),
+        21 => Err(BadLinkTime),
+        22 => Err(ShortAdif),
+        _ => unreachable!("the contracts give no other number"),
     }
+}
+
+/// A finished link as one record of ADIF 3: the far station's call sign, the link's first and last second since 1970 in UTC, the bytes
+/// acknowledged. The record is the start of `out`; what lies past it is kept, and all of it where the call is refused.
+pub fn adif<'a>(call: &[u8], on: u64, off: u64, acked: u32, out: &'a mut [u8]) -> Result<&'a [u8], Refusal> {
+    // SAFETY: pointers and lengths are those of live borrows that don't overlap.
+    let logged = unsafe { raw::vanitycrow_adif(call.as_ptr(), call.len(), on, off, acked, out.as_mut_ptr(), out.len()) };
+    told(logged.refusal).map(|()| &out[..logged.len])
 }
 
 /// A sender with its profile and its work area.

@@ -15,6 +15,7 @@ use replies::Heard;
 use replies::LongAck;
 use replies::Turn;
 use report::ChanClass;
+use station::vanitycrow_adif;
 use words::Read;
 use words::done;
 use words::double;
@@ -321,6 +322,60 @@ pub(crate) fn piece(line: &[u8], r: Read, run: Run, area: &[u8], t: &mut [u8]) -
     }
     let n = transcript::no_piece(t, run.text);
     with_text(run, n)
+}
+
+// A link's line: how many bytes its call sign has, its seconds and its count, and whether it was right.
+pub struct LinkLine {
+    pub call: usize,
+    pub start: u64,
+    pub end: u64,
+    pub acked: u64,
+    pub ok: bool,
+}
+
+fn link_words(line: &[u8], r: Read, bytes: &mut [u8]) -> LinkLine {
+    let call = hex(line, r, bytes);
+    let start = whole(line, call);
+    let end = whole(line, start);
+    let acked = whole(line, end);
+    LinkLine {
+        call: call.value as usize,
+        start: start.value,
+        end: end.value,
+        acked: acked.value,
+        ok: done(line, acked) & (acked.value < 4294967296),
+    }
+}
+
+// The answer to a link's line; its record stands in the output.
+fn log_call(q: LinkLine, run: Run, t: &mut [u8], out: &mut [u8], bytes: &[u8]) -> Run {
+    let k = least(q.call, bytes);
+    let most = least(run.out, out);
+    let acked = (q.acked % 4294967296) as u32;
+    let logged = vanitycrow_adif(&bytes[..k], q.start, q.end, acked, &mut out[..most]);
+    let refusal = logged.refusal;
+    if refusal != 0 {
+        let n = transcript::answer(t, run.text, b"log", refusal);
+        return with_text(run, n);
+    }
+    let len = least(logged.len, out);
+    let n = transcript::log(t, run.text, &out[..len]);
+    with_text(run, n)
+}
+
+pub(crate) fn log(
+    line: &[u8],
+    r: Read,
+    run: Run,
+    t: &mut [u8],
+    out: &mut [u8],
+    bytes: &mut [u8],
+) -> Run {
+    let q = link_words(line, r, bytes);
+    if !q.ok {
+        return failed(run);
+    }
+    log_call(q, run, t, out, bytes)
 }
 
 pub(crate) fn show(line: &[u8], r: Read, run: Run, area: &[u8], t: &mut [u8]) -> Run {

@@ -138,6 +138,10 @@ fn call(
     if r.ok {
         return calls::queue_bytes(line, r, run, area, t, bytes);
     }
+    let r = word(line, b"log");
+    if r.ok {
+        return calls::log(line, r, run, t, out, bytes);
+    }
     look(line, run, area, t, bytes)
 }
 

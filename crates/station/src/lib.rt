@@ -1,5 +1,6 @@
 // The thin layer: a station program holds one record, and each call of the sender changes it. The calls are exported, for C to link: a slice goes
-// as a pointer and a length. No call requires anything; the profile is read where it lies.
+// as a pointer and a length. No call requires anything; the profile is read where it lies. The link log needs no record.
+use adif::Logged;
 use config::Profile;
 use numbered::Burst;
 use numbered::Place;
@@ -15,6 +16,7 @@ ghost use Rattle.record.specs.Fresh.{fresh};
 ghost use Rattle.sender.specs.Calls.{queueOf, receiveOf, findOf, pieceOf, burstCall};
 ghost use Rattle.refusals.specs.declared.Reply.the-variants as R;
 ghost use Rattle.numbered.specs.Numbered.{answerNumber, burstNumber, findNumber};
+ghost use Rattle.adif.specs.Adif.{logOf};
 ghost use Rattle.station.specs.Exported.{left, leftBurst};
 
 // The record of a new sender.
@@ -129,4 +131,18 @@ pub fn piece<'a>(p: &Profile, s: &Sender, a: &'a [u8], off: u32) -> &'a [u8]
     ensures { λ b. ⌜ now b ≡ pieceOf (now (p .entry)) (now (s .entry)) (now (a .entry)) off ⌝ }
 {
     sender::piece(*p, *s, a, off)
+}
+
+// A finished link with `call`, from the second `on` to the second `off`, as one ADIF record at the start of the output.
+#[no_mangle]
+pub extern "C" fn vanitycrow_adif(
+    call: &[u8],
+    on: u64,
+    off: u64,
+    acked: u32,
+    out: &mut [u8],
+) -> Logged
+    ensures { λ r. ⌜ (r, now (out .exit)) ≡ logOf (now (call .entry)) on off acked (now (out .entry)) ⌝ }
+{
+    adif::log_link(call, on, off, acked, out)
 }

@@ -45,6 +45,10 @@ burstLines b size out = burstLine b ++ each (frameEntry (b .frames) size out) (u
 abbrev pub pieceLine : List ℕ → List ℕ
 pieceLine bytes = text "piece" ++ hex bytes ++ text "\n"
 
+-- `log ok TEXT`: the record's characters as they stand
+abbrev pub logLine : List ℕ → List ℕ
+logLine chars = text "log ok " ++ chars ++ text "\n"
+
 -- TAKEN WAITING FLYING ACKED
 abbrev pub tallyWords : Sender → List ℕ
 tallyWords s =

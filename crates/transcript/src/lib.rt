@@ -7,7 +7,7 @@ ghost use mathlib.Core.Path.{_≡_};
 ghost use mathlib.Core.List.{_++_};
 ghost use Rattle.text.specs.Buffer.{appended};
 ghost use Rattle.laws.specs.Text.{text};
-ghost use Rattle.transcript.specs.Answers.{answerLine, pieceLine, tallyWords, endLine, errorLine};
+ghost use Rattle.transcript.specs.Answers.{answerLine, pieceLine, logLine, tallyWords, endLine, errorLine};
 
 pub mod burst;
 pub mod lists;
@@ -40,6 +40,15 @@ pub fn no_piece(t: &mut [u8], n: usize) -> usize
     ensures { λ r. ⌜ (r, now (t .exit)) ≡ appended (n, now (t .entry)) (text "piece none\n") ⌝ }
 {
     puts(t, n, b"piece none\n")
+}
+
+// A link's record.
+pub fn log(t: &mut [u8], n: usize, chars: &[u8]) -> usize
+    ensures { λ r. ⌜ (r, now (t .exit)) ≡ appended (n, now (t .entry)) (logLine (now (chars .entry))) ⌝ }
+{
+    let n = puts(t, n, b"log ok ");
+    let n = puts(t, n, chars);
+    puts(t, n, b"\n")
 }
 
 // TAKEN WAITING FLYING ACKED.

@@ -1,0 +1,4 @@
+pub mod Adif
+pub mod Reading
+pub mod Claim
+pub mod AdifCode

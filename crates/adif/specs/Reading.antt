@@ -1,0 +1,66 @@
+-- How ADIF reads a record: its syntax, apart from the writer's definitions. Definitions only.
+-- A field is `<NAME:COUNT>` or `<NAME:COUNT:TYPE>`, then COUNT characters of whatever kind; what stands before the next `<` counts for
+-- nothing; `<EOR>` ends the record.
+use Prim.Native.Nat.{ℕ, zero, suc, _+_, _-_, _*_}
+use mathlib.Core.Bool.{Bool, true, false, cond, _&&_}
+use mathlib.Core.List.{List, [], _∷_}
+use lib.Dec.{eqb}
+use lib.ListN.{length, take, drop}
+use Rattle.calendar.specs.declared.Date.{Date}
+use Rattle.calendar.specs.declared.Time.{Time}
+use Rattle.adif.specs.Adif.{Field}
+
+-- what stands before the first c, and behind it
+unfoldable pub before : ℕ → List ℕ → List ℕ
+before c [] = []
+before c (x ∷ xs) = cond (eqb x c) [] (x ∷ before c xs)
+
+unfoldable pub behind : ℕ → List ℕ → List ℕ
+behind c [] = []
+behind c (x ∷ xs) = cond (eqb x c) xs (behind c xs)
+
+-- the number that digits spell, after those that spell v
+unfoldable pub spelled : ℕ → List ℕ → ℕ
+spelled v [] = v
+spelled v (c ∷ cs) = spelled (10 * v + (c - 48)) cs
+
+unfoldable pub same : List ℕ → List ℕ → Bool
+same [] [] = true
+same [] (y ∷ ys) = false
+same (x ∷ xs) [] = false
+same (x ∷ xs) (y ∷ ys) = eqb x y && same xs ys
+
+-- the tag, and what stands behind it
+abbrev pub tagOf : List ℕ → List ℕ
+tagOf bs = before 62 (behind 60 bs)
+
+abbrev pub dataOf : List ℕ → List ℕ
+dataOf bs = behind 62 (behind 60 bs)
+
+abbrev pub countOf : List ℕ → ℕ
+countOf tag = spelled 0 (before 58 (behind 58 tag))
+
+-- the fields up to `<EOR>`, at most k, and what stands behind that
+unfoldable pub readFields : ℕ → List ℕ → List Field × List ℕ
+readFields zero bs = ([], bs)
+readFields (suc k) bs =
+    cond (same (tagOf bs) (69 ∷ 79 ∷ 82 ∷ []))
+    ([], dataOf bs)
+    (let n = countOf (tagOf bs) in
+    let r = readFields k (drop n (dataOf bs)) in (record { name = before 58 (tagOf bs); value = take n (dataOf bs) } ∷ r .0, r .1))
+
+-- a record of any number of fields
+abbrev pub readRecord : List ℕ → List Field × List ℕ
+readRecord bs = readFields (length bs) bs
+
+-- the characters of the field with a name
+unfoldable pub valueOf : List ℕ → List Field → List ℕ
+valueOf name [] = []
+valueOf name (f ∷ fs) = cond (same (f .name) name) (f .value) (valueOf name fs)
+
+-- a date YYYYMMDD and a time HHMMSS
+abbrev pub dateIn : List ℕ → Date
+dateIn cs = record { year = spelled 0 (take 4 cs); month = spelled 0 (take 2 (drop 4 cs)); day = spelled 0 (take 2 (drop 6 cs)) }
+
+abbrev pub timeIn : List ℕ → Time
+timeIn cs = record { hour = spelled 0 (take 2 cs); minute = spelled 0 (take 2 (drop 2 cs)); second = spelled 0 (take 2 (drop 4 cs)) }
