@@ -2,13 +2,11 @@
 -- Assumes nothing.
 use mathlib.Core.Path.{_≡_, refl, sym, ap, _∙_}
 use mathlib.Core.List.{List, []}
-use mathlib.Core.Bool.{false, not}
+use mathlib.Core.Bool.{Bool, true, false, cond, not}
 use Prim.Native.Nat.{ℕ}
-use native.Mathlib.Omega.{arith}
-use lib.Dec.{T, ltb, ltb→lt, nltb→le}
+use lib.Dec.{T, eqb}
 use lib.ListN.{length}
-use borrow.Author.Tests.{ltb-true, lt-ltb, le-ltb, ne-eqb}
-use Rattle.laws.proofs.Picks.{by, cond-yes, cond-no}
+use Rattle.laws.proofs.Picks.{by}
 use Rattle.config.specs.declared.Profile.{Profile}
 use Rattle.record.specs.declared.Sender.{Sender}
 use Rattle.replies.specs.declared.Heard.{Heard}
@@ -32,17 +30,24 @@ use Rattle.station.specs.Exported.{left, leftBurst, kept}
 
 -- ---- `keep`
 
-module _ (s : Sender) (n : ℕ) (next : Sender) where
-  pub keeping1 : T (ltb 0 n) → s ≡ kept s n next
-  keeping1 refused = cond-yes (ltb 0 n) s next s (lt-ltb 0 n (ltb→lt 0 n refused)) refl
+picked : (b : Bool) (x y : Sender) → T b → x ≡ cond b x y
+picked true x y h = refl
+picked false x y h = absurd h
 
-  pub keeping2 : T (not (ltb 0 n)) → next ≡ kept s n next
-  keeping2 accepted = cond-no (ltb 0 n) s next next (le-ltb 0 n (nltb→le 0 n accepted)) refl
+passed-over : (b : Bool) (x y : Sender) → T (not b) → y ≡ cond b x y
+passed-over true x y h = absurd h
+passed-over false x y h = refl
+
+module _ (s : Sender) (n : ℕ) (next : Sender) where
+  pub keeping1 : T (eqb n 0) → next ≡ kept s n next
+  keeping1 = picked (eqb n 0) next s
+
+  pub keeping2 : T (not (eqb n 0)) → s ≡ kept s n next
+  keeping2 = passed-over (eqb n 0) next s
 
   -- THE NEXT RECORD stands there, stored or not, if a refused call answers with the record that it got
   kept-is : (v : Verdict) → n ≡ numberOf v → (passed v ≡ false → next ≡ s) → kept s n next ≡ next
-  kept-is v e same =
-      by (λ (x : Sender). x ≡ next) (ltb 0 n) (λ b. sym (same (ne-eqb (numberOf v) 0 (λ z. omega (arith, e, z, ltb-true 0 n b))))) (λ b. refl)
+  kept-is v e same = by (λ (x : Sender). x ≡ next) (eqb n 0) (λ b. refl) (λ b. sym (same (ap (λ (x : ℕ). eqb x 0) (sym e) ∙ b)))
 
 -- ---- the calls, as tools/walk.py cites them: each after numbered's call, which answers r, and `keep`, which leaves t
 

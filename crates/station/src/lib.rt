@@ -23,11 +23,8 @@ ghost use Rattle.station.specs.Exported.{left, leftBurst, kept};
 fn keep(s: &mut Sender, refusal: u8, next: Sender)
     ensures { λ _. ⌜ now (s .exit) ≡ kept (now (s .entry)) refusal next ⌝ }
 {
-    if 0 < refusal {
-        return;
-    } else {
+    if refusal == 0 {
         *s = next;
-        return;
     }
 }
 
