@@ -124,10 +124,10 @@ struct vanitycrow_profile {
 /* Class of a channel: echoes beyond the guard, fading too fast for OFDM. */
 struct vanitycrow_class { bool echo; bool doppler; };
 
-/* The last reports, at most three: c is the newest. */
+/* The last reports, as many as count says, three at most: c is the newest. */
 struct vanitycrow_reports { uint8_t count; float a; float b; float c; };
 
-/* Per level: tried or not, the share of frames that came through, when (s), and bursts lost whole. */
+/* Per level: tried or not, the share of frames that came through where it was, when (s), and bursts lost whole. */
 struct vanitycrow_tries {
     bool tried[VANITYCROW_LEVELS];
     float success[VANITYCROW_LEVELS];
@@ -141,7 +141,7 @@ struct vanitycrow_holds { double blocked_until[VANITYCROW_LEVELS]; bool hold_all
 struct vanitycrow_gear {
     size_t level;
     size_t target;
-    double burst_s;
+    double burst_s; /* 0, as in a fresh record: the profile's max_burst_s */
     struct vanitycrow_maybe_db aim_db;
     struct vanitycrow_maybe_db last_report_db;
     struct vanitycrow_reports snr_reports;

@@ -35,6 +35,7 @@ use Rattle.demand.specs.Page.{bytes, c, s, t}
 use Rattle.demand.specs.PageCode.{sizesFor, Reached}
 use Rattle.demand.proofs.Answers.{queue-no, queue-told, hear-no, hear-told, burst-no, burst-silent, burst-verdict}
 use Rattle.demand.proofs.Steps.{sizes, Ok, call, does}
+use Rattle.demand.proofs.Connected.{Quiet, quiet-next}
 use Rattle.demand.proofs.Sends.{sends}
 use Rattle.limits.specs.Limits.{minPayload}
 use Rattle.ledger.specs.Sizes.{Sizes}
@@ -49,26 +50,30 @@ zeros-bytes (suc n) (suc i) = zeros-bytes n i
 -- ---- the calls get through
 
 module _ (p : Profile) (rg : Ranged p) (io : inOrder p ≡ true) (six : length (p .codes .ends) ≤ 6) where
-  refines : Refines (sizesOf p) (sizes p rg io six) State Call Given (Ok p rg io six) (next p) shown (call p rg io six) (told p)
+  -- a record that is well, and awaits nothing before it is connected
+  abbrev Fit : State → Type 0
+  Fit c = Ok p rg io six c × Quiet c
+
+  refines : Refines (sizesOf p) (sizes p rg io six) State Call Given Fit (next p) shown (call p rg io six) (told p)
   refines =
       record {
-        allowed = λ i c g so ok. does p rg io six i c g ok .allowed;
-        steps = λ i c g so ok. does p rg io six i c g ok .steps;
-        tells = λ i c g so ok. does p rg io six i c g ok .tells;
-        keeps = λ i c g so ok. does p rg io six i c g ok .keeps;
+        allowed = λ i c g so ok. does p rg io six i c g (ok .0) (ok .1) .allowed;
+        steps = λ i c g so ok. does p rg io six i c g (ok .0) (ok .1) .steps;
+        tells = λ i c g so ok. does p rg io six i c g (ok .0) (ok .1) .tells;
+        keeps = λ i c g so ok. (does p rg io six i c g (ok .0) (ok .1) .keeps, quiet-next p i c (ok .1));
       }
 
   module _ (n : ℕ) (large : areaBytes ≤ n) (is : List Call) (gs : Along (next p) Given is (freshStart n)) where
-    fresh-ok : Well p fresh (replicate n 0)
-    fresh-ok = fresh-well p (replicate n 0) (zeros-bytes n) (omega (arith, length-replicate {A = ℕ} n 0))
+    fresh-ok : Fit (freshStart n)
+    fresh-ok = (fresh-well p (replicate n 0) (zeros-bytes n) (omega (arith, length-replicate {A = ℕ} n 0)), λ e. refl)
 
     through : (i : Call) → Given i (c p n is)
         → LedgerClaim (sizesOf p) (bytes p n is) (s p n is) (t p n is) (told p i (c p n is)) (shown (next p i (c p n is)))
     through i g =
-        refined (sizesOf p) (sizes p rg io six) State Call Given (Ok p rg io six) (next p) shown (call p rg io six) (told p) refines (freshStart n) (view-fresh (replicate n 0)) fresh-ok is gs i g
+        refined (sizesOf p) (sizes p rg io six) State Call Given Fit (next p) shown (call p rg io six) (told p) refines (freshStart n) (view-fresh (replicate n 0)) fresh-ok is gs i g
 
     well : Well p (c p n is .0) (c p n is .1)
-    well = ok-after (sizesOf p) (sizes p rg io six) State Call Given (Ok p rg io six) (next p) shown (call p rg io six) (told p) refines (freshStart n) (view-fresh (replicate n 0)) fresh-ok is gs
+    well = ok-after (sizesOf p) (sizes p rg io six) State Call Given Fit (next p) shown (call p rg io six) (told p) refines (freshStart n) (view-fresh (replicate n 0)) fresh-ok is gs .0
 
 -- ---- every call is refused
 

@@ -103,8 +103,8 @@ module _ (p : Profile) (rg : Ranged p) (io : inOrder p ≡ true) (six : length (
       omega (
         arith,
         count-is,
-        burst-some (sizesOf p) (sizes p rg io six) (choice p (c p n is .0)) 
-        (choice-ranged p rg (c p n is .0) (sound-level p (c p n is .0) (c p n is .1) (w .sound)) six) (s p n is) (w .sound .ledger) (omega (arith, h, q .inPieces, ap length (q .waiting))),
+        burst-some (sizesOf p) (sizes p rg io six) (choice p (c p n is .0))
+            (choice-ranged p rg (c p n is .0) (sound-level p (c p n is .0) (c p n is .1) (w .sound)) six) (s p n is) (w .sound .ledger) (omega (arith, h, q .inPieces, ap length (q .waiting))),
       )
 
   bits-are : sumOf (take (length (s′ .sent)) (padded (map (λ (f : Sent). f .bits) (s′ .sent)))) ≡ burstBitsSent (s′ .sent)

@@ -29,13 +29,13 @@ cleanBurst p l cue =
 abbrev pub burstOk : Float → Bool
 burstOk s = eq s (w64 0) || inside (w64 1) (w64 1000) s
 
--- `burst_s`: a fresh record's 0 stands for the profile's max_burst_s, with which Station::new begins
-unfoldable pub burstSeconds : Profile → Float → Float
-burstSeconds p s = cond (eq s (w64 0)) (p .lengths .«max_burst_s») s
+-- `burst_s`: a fresh record's 0 stands for the usual seconds, the profile's max_burst_s, with which Station::new begins
+unfoldable pub burstSeconds : Float → Float → Float
+burstSeconds usual s = cond (eq s (w64 0)) usual s
 
 -- `burst_len_s`
 unfoldable pub burstLen : Profile → Gear → ℕ → Float
-burstLen p g l = cond (p .lengths .«burst_adapt») (minF (burstSeconds p (g .«burst_s»)) (cleanBurst p l (cueFor p g l))) (p .lengths .«max_burst_s»)
+burstLen p g l = cond (p .lengths .«burst_adapt») (minF (burstSeconds (p .lengths .«max_burst_s») (g .«burst_s»)) (cleanBurst p l (cueFor p g l))) (p .lengths .«max_burst_s»)
 
 -- `next_entry`: the lowest SNR that a faster level wants, by the plain thresholds
 unfoldable pub nextEntry : Marks → ℕ → ℕ → Float
@@ -53,6 +53,6 @@ adapted p at loss snr g =
     withReport
     (withBurst g
     (cond (eq loss (w32 0) && eqb (g .level) at && steady (g .«last_report_db») (p .lengths .«burst_steady_db») snr && far (p .plain) (p .lengths .«burst_climb_db») at (p .«max_level») snr)
-    (minF (mul binary64 (burstSeconds p (g .«burst_s»)) (w64 2)) (maxF (p .lengths .«max_burst_long_s») (p .lengths .«max_burst_s»)))
+    (minF (mul binary64 (burstSeconds (p .lengths .«max_burst_s») (g .«burst_s»)) (w64 2)) (maxF (p .lengths .«max_burst_long_s») (p .lengths .«max_burst_s»)))
     (p .lengths .«max_burst_s»)))
     (some snr)

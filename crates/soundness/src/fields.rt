@@ -38,8 +38,7 @@ fn reports_ok(r: Reports) -> bool
 fn level_ok(tried: bool, share: f32, at: f64, until: f64) -> bool
     ensures { λ r. ⌜ r ≡ all ((not tried || inside (w32 0) (w32 1) share) ∷ le at (w64 1000000000) ∷ le until (w64 1001000000) ∷ []) ⌝ }
 {
-    (!tried | ((0.0 <= share) & (share <= 1.0)))
-        & ((at <= 1000000000.0) & (until <= 1001000000.0))
+    (!tried | ((0.0 <= share) & (share <= 1.0))) & ((at <= 1000000000.0) & (until <= 1001000000.0))
 }
 
 fn levels_ok(t: Tries, h: Holds) -> bool
@@ -47,7 +46,12 @@ fn levels_ok(t: Tries, h: Holds) -> bool
 {
     let mut k: usize = 0;
     while k < 17 {
-        if !level_ok(t.tried[k], t.success[k], t.success_at[k], h.blocked_until[k]) {
+        if !level_ok(
+            t.tried[k],
+            t.success[k],
+            t.success_at[k],
+            h.blocked_until[k],
+        ) {
             return false;
         }
         k += 1;
@@ -73,6 +77,5 @@ pub fn link_ok(k: Link) -> bool
     let t = k.last_time;
     let d = k.peer_doppler_hz;
     (t <= 1000000000.0)
-        & ((k.burst_id <= 3)
-            & ((!k.heard | (k.peer_heard <= 3)) & (!(d < 0.0) & !(63.5 < d))))
+        & ((k.burst_id <= 3) & ((!k.heard | (k.peer_heard <= 3)) & (!(d < 0.0) & !(63.5 < d))))
 }

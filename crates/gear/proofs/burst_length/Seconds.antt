@@ -8,8 +8,6 @@ use Rattle.ieee.specs.Range.{In, inside, w64}
 use Rattle.ieee.proofs.Value.{le-trans, eq→le}
 use Rattle.ieee.proofs.Range.{from-inside, to-inside}
 use Rattle.laws.proofs.Picks.{test, by, or-right}
-use Rattle.config.specs.declared.Profile.{Profile}
-use Rattle.config.specs.Ranged.{Ranged}
 use Rattle.gear.specs.BurstLength.{burstOk, burstSeconds}
 
 -- what is 1 or more is not 0
@@ -21,14 +19,14 @@ pub in-burst : (x : Float) → In (w64 1) (w64 1000) x → T (burstOk x)
 in-burst x i = passes _ (or-right (eq x (w64 0)) _ (to-inside _ _ x i))
 
 -- what is 1 or more is read as it is
-pub seconds-kept : (p : Profile) (x : Float) → T (le (w64 1) x) → burstSeconds p x ≡ x
+pub seconds-kept : (usual x : Float) → T (le (w64 1) x) → burstSeconds usual x ≡ x
 unfolding burstSeconds
-seconds-kept p x h = rw (not-zero x h) refl
+seconds-kept usual x h = rw (not-zero x h) refl
 
 -- a sound record's are read as 1 to 1,000
-pub seconds-in : (p : Profile) (x : Float) → Ranged p → T (burstOk x) → In (w64 1) (w64 1000) (burstSeconds p x)
+pub seconds-in : (usual x : Float) → In (w64 1) (w64 1000) usual → T (burstOk x) → In (w64 1) (w64 1000) (burstSeconds usual x)
 unfolding burstSeconds
-seconds-in p x k h = by (In (w64 1) (w64 1000)) (eq x (w64 0)) (λ e. k .lengths .usual) (λ e. from-inside _ _ _ (go _ _ e (is-true _ h)))
+seconds-in usual x k h = by (In (w64 1) (w64 1000)) (eq x (w64 0)) (λ e. k) (λ e. from-inside _ _ _ (go _ _ e (is-true _ h)))
   where
     go : (a b : Bool) → a ≡ false → (a || b) ≡ true → b ≡ true
     go true b e f = absurd (false≢true (sym e))
