@@ -1,4 +1,5 @@
 -- `frame::crc::crc32_by` meets its contract. The loop's invariant: the bytes that are left, fed into the register, give what all bytes give.
+-- `v42` ties the register to V.42's rule.
 use mathlib.Core.Path.{_≡_, refl, sym, ap, _∙_}
 use Prim.Native.Nat.{ℕ, _+_, _-_, _≤_, _<_}
 use native.Mathlib.Omega.{arith}
@@ -8,6 +9,7 @@ use lib.ListN.{length, drop}
 use borrow.Author.Needs.{needs}
 use Rattle.frame.specs.Crc.{shifts, feedBytes, crc32}
 use Rattle.frame.proofs.crc.Laws.{feed-eight}
+use Rattle.frame.proofs.crc.Rule.{v42}
 use Rattle.frame.proofs.crc.crc32_by.Statement.{statement}
 use Rattle.frame.proofs.crc.crc32_by.Tie as tie
 
@@ -60,7 +62,10 @@ sub-result c = search needs
 
 returns : tie.Need-returns Inv-loop μ-loop
 unfolding crc32
-returns c = ap (λ (x : ℕ). 4294967295 - x) (c .rest .ensures ∙ sym (c .before .before .loop .inv .2))
+returns c =
+    let k = c .before .before .before in
+    ap (λ (x : ℕ). 4294967295 - x) (c .rest .ensures ∙ sym (c .before .before .loop .inv .2))
+    ∙ v42 (now (k .before .args .bytes)) (λ i. k .shared-slice-known .given i .fits)
 
 pub crc32-by-spec : {M : Type 1} → statement M
 crc32-by-spec =
