@@ -1,6 +1,6 @@
 -- The kit's operations on finite numbers, and the conversions that the sender uses, are the exact results rounded by the rule of
 -- specs/Rounding. Assumes nothing.
-use mathlib.Core.Path.{_≡_, sym, subst}
+use mathlib.Core.Path.{sym, subst}
 use Prim.Native.Nat.{ℕ, suc, _+_, _*_, _<_}
 use native.Mathlib.Nat.{mul-pos, zero-lt-suc}
 use native.Mathlib.Omega.{arith}
@@ -27,10 +27,11 @@ module _ (f : Format) (s t : Bool) (m n : ℕ) (e d : ℤ) where
   pub add-rounded : Sum (prec f) (emax f) s left t right (down e * down d) (s && t) (add f (fin s m e) (fin t n d))
   unfolding add
   add-rounded =
-      let p = above s left + above t right in
-      let n = below s left + below t right in
-      subst (λ (x : Float). Sum (prec f) (emax f) s left t right (down e * down d) (s && t) x) (sym (sum-is f s left t right (down e * down d)))
-      (rounded f (sign p n (s && t)) (dist p n) (down e * down d) (mul-pos (down-pos e) (down-pos d)))
+      let plus = above s left + above t right in
+      let minus = below s left + below t right in
+      subst (λ (x : Float). Sum (prec f) (emax f) s left t right (down e * down d) (s && t) x)
+      (sym (sum-is f s left t right (down e * down d)))
+      (rounded f (sign plus minus (s && t)) (dist plus minus) (down e * down d) (mul-pos (down-pos e) (down-pos d)))
 
   pub mul-rounded : Rounded (prec f) (emax f) (unlike s t) (m * up e * (n * up d)) (down e * down d) (mul f (fin s m e) (fin t n d))
   unfolding mul

@@ -1,4 +1,5 @@
--- The claim of specs/Claim: the kit's binary32 and binary64 round by the standard's rule, in every operation and conversion that the sender uses.
+-- The claim of specs/Claim: the kit's binary32 and binary64 round by the standard's rule, in every operation and conversion that the
+-- sender uses.
 -- Assumes nothing.
 use lib.Ieee.{Format, binary32, binary64, prec, emax}
 use Rattle.rounding.specs.Claim.{Arithmetic, Binary32, Binary64, Conversions}

@@ -1,5 +1,6 @@
 -- What is claimed of the kit's arithmetic, lib.Ieee, by the rule of Rounding.antt; proved in proofs/Theorem.antt. Definitions only.
--- The number `fin s m e` is (-1)^s m 2^e. Operations with an infinity, a NaN or a zero divisor are the kit's own cases (6.1, 6.2, 7.2, 7.3).
+-- The number `fin s m e` is (-1)^s m 2^e. Operations with an infinity, a NaN or a zero divisor are the kit's own cases
+-- (6.1, 6.2, 7.2, 7.3).
 use mathlib.Core.Path.{_≡_}
 use Prim.Native.Nat.{ℕ, suc, _*_, _^_, _<_}
 use mathlib.Core.Bool.{Bool, true, false, not, _&&_}

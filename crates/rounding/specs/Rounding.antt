@@ -75,9 +75,9 @@ module _ (p emax : ℕ) where
   -- x is (-1)^s a / d + (-1)^t b / d, rounded. z is the sign of a sum that is exactly zero.
   abbrev pub Sum : Bool → ℕ → Bool → ℕ → ℕ → Bool → Float → Type 0
   Sum s a t b d z x =
-      let p = above s a + above t b in
-      let n = below s a + below t b in
-      Rounded (sign p n z) (dist p n) d x
+      let plus = above s a + above t b in
+      let minus = below s a + below t b in
+      Rounded (sign plus minus z) (dist plus minus) d x
 
 -- 4.3.2, roundTowardZero: "closest to and no greater in magnitude than the infinitely precise result", for a whole number c and the
 -- magnitude a / d

@@ -1,4 +1,5 @@
--- `frame::crc::crc32_by` meets its contract. The loop's invariant: the bytes that are left, fed into the register, give what all bytes give.
+-- `frame::crc::crc32_by` meets its contract. The loop's invariant: the bytes that are left, fed into the register, give what all bytes
+-- give.
 -- `v42` ties the register to V.42's rule.
 use mathlib.Core.Path.{_≡_, refl, sym, ap, _∙_}
 use Prim.Native.Nat.{ℕ, _+_, _-_, _≤_, _<_}
@@ -51,7 +52,8 @@ loop-again c =
       omega arith,
       omega arith,
       p .loop .inv .2 ∙ feed-eight (p .loop .c) l (p .loop .i) (λ i. k .shared-slice-known .given i .fits) h
-          ∙ ap (λ (x : ℕ). feedBytes x (drop (p .loop .i + 8) l)) (ap (λ (x : ℕ). shifts 64 (bitXor (p .loop .c) x)) (sym (g .load64 .ensures)) ∙ sym (c .eight .ensures)),
+          ∙ ap (λ (x : ℕ). feedBytes x (drop (p .loop .i + 8) l))
+          (ap (λ (x : ℕ). shifts 64 (bitXor (p .loop .c) x)) (sym (g .load64 .ensures)) ∙ sym (c .eight .ensures)),
     )
 
 rest-requires : tie.Need-rest-requires Inv-loop μ-loop
