@@ -42,7 +42,7 @@ static void written_bools(void) {
     bools("a piece's place", &here.here, 1);
 }
 
-/* Each call with no work area at all: refused by 3. */
+/* Each call with no work area at all: refused by 3, as with an empty one. */
 static void no_area(struct station *t, const struct arguments *g) {
     same("connect, no area", vanitycrow_connect(&t->p, &t->s, NULL, 0, g->h, g->connect), 3);
     same("queue, no area", vanitycrow_queue(&t->p, &t->s, NULL, 0, NULL, 0), 3);
@@ -54,21 +54,19 @@ static void no_area(struct station *t, const struct arguments *g) {
 }
 
 static void no_memory(void) {
-    struct arguments g = usual_arguments();
     struct station *t = &tried;
     size_t n = VANITYCROW_AREA_BYTES;
+    given = usual_arguments();
+    given.area_len = 0;
+    expect_all("an empty work area", &open_one, &given, 3);
     memcpy(t, &open_one, sizeof *t);
-    no_area(t, &g);
+    no_area(t, &given);
     same("record and buffers, no area", (unsigned)memcmp(t, &open_one, sizeof *t), 0);
     same("queue of nothing", vanitycrow_queue(&t->p, &t->s, t->area, n, NULL, 0), 0);
     same("bytes that wait after it", t->s.counts.waiting, open_one.s.counts.waiting);
-    same("a long ack of nothing", vanitycrow_long_ack(&t->p, &t->s, t->area, n, g.h, g.long_ack, NULL, 0), 7);
+    same("a long ack of nothing", vanitycrow_long_ack(&t->p, &t->s, t->area, n, given.h, given.long_ack, NULL, 0), 7);
     same("a burst into nothing", vanitycrow_data_burst(&t->p, &t->s, t->area, n, NULL, 0).refusal, 10);
-    memcpy(t, &fresh_one, sizeof *t);
-    same("connect", vanitycrow_connect(&t->p, &t->s, t->area, n, g.h, g.connect), 0);
-    struct vanitycrow_burst b = vanitycrow_data_burst(&t->p, &t->s, t->area, n, NULL, 0);
-    same("a burst of no frame into nothing", b.refusal, 0);
-    same("its frames", (unsigned)b.outgoing.frames.n, 0);
+    same("a burst into an empty output", vanitycrow_data_burst(&t->p, &t->s, t->area, n, t->out, 0).refusal, 10);
     same("a link log of no call sign", vanitycrow_adif(NULL, 0, 0, 0, 0, t->out, OUT_BYTES).refusal, 20);
     same("a link log into nothing", vanitycrow_adif((const uint8_t *)"A", 1, 0, 0, 0, NULL, 0).refusal, 22);
 }
