@@ -5,7 +5,7 @@
  * for all its calls. No call asks anything of its values: what it cannot take it refuses, with the number of the first refusal below that
  * holds, and then record, work area and output keep every byte.
  *
- * Pointers point to memory of the given lengths that does not overlap, also where a length is 0; a bool is 0 or 1.
+ * Pointers point to memory of the given lengths that does not overlap; NULL may stand where a length is 0, and only there. A bool is 0 or 1.
  */
 #ifndef VANITYCROW_H
 #define VANITYCROW_H
