@@ -1,16 +1,31 @@
 // Reads a call list on standard input, makes its calls and writes the transcript on standard output (docs/CALLS.md).
 mod buffer;
 mod calls;
-mod held;
 mod input;
+mod names;
 
 use buffer::flush;
 use buffer::least;
 use buffer::room;
+use calls::Asked;
 use calls::Run;
 use calls::failed;
+use calls::with_text;
 use input::next_line;
 use limits::AREA_BYTES;
+use names::AREA;
+use names::BURST;
+use names::CONNECT;
+use names::LOG;
+use names::LONG;
+use names::NO_CALL;
+use names::Named;
+use names::OUT;
+use names::PIECE;
+use names::SHORT;
+use names::STATE;
+use names::TURN;
+use names::call_of;
 use profile_table::LINES;
 use profile_table::listed::profile_line;
 use profile_table::profile_of;
@@ -21,7 +36,7 @@ use words::taken::END;
 use words::taken::WHOLE;
 use words::word;
 
-// Bytes of output that a profile lends.
+// Bytes of output that a profile lends, zeros at each call that writes there.
 pub(crate) const OUT_BYTES: usize = 32768;
 
 // No whole profile was read yet: `stage` is past every stage.
@@ -37,10 +52,8 @@ fn clear(area: &mut [u8]) {
 }
 
 fn end_line(run: Run, t: &mut [u8]) -> Run {
-    let n = transcript::end(t, run.text, run.s);
-    let mut after = run;
-    after.text = n;
-    after
+    let n = state_lines::end(t, run.text, run.s);
+    with_text(run, n)
 }
 
 // `profile`: the profile before it ends.
@@ -53,152 +66,113 @@ fn begin(run: Run, t: &mut [u8]) -> Run {
     after
 }
 
-// The whole profile was read: a fresh sender, zeros in the work area and the output.
-fn start(run: Run, area: &mut [u8], out: &mut [u8], v: &[u64; 147]) -> Run {
+// The whole profile was read: a fresh sender, and zeros in the work area.
+fn start(text: usize, area: &mut [u8], v: &[u64; 147]) -> Run {
     clear(area);
-    clear(out);
-    let p = profile_of(v);
-    let s = fresh();
-    let mut after = run;
-    after.stage = LINES;
-    after.p = p;
-    after.s = s;
-    after.area = AREA_BYTES;
-    after.out = OUT_BYTES;
-    after
+    Run {
+        stage: LINES,
+        ok: true,
+        p: profile_of(v),
+        s: fresh(),
+        area: AREA_BYTES,
+        out: OUT_BYTES,
+        text,
+    }
 }
 
 // The profile's next line.
-fn profile_step(line: &[u8], run: Run, area: &mut [u8], out: &mut [u8], v: &mut [u64; 147]) -> Run {
+fn profile_step(line: &[u8], run: Run, area: &mut [u8], v: &mut [u64; 147]) -> Run {
     let k = run.stage;
     if !profile_line(line, k, v) {
         return failed(run);
     }
     if k >= LINES - 1 {
-        return start(run, area, out, v);
+        return start(run.text, area, v);
     }
     let mut after = run;
     after.stage = k + 1;
     after
 }
 
-fn reply(line: &[u8], run: Run, area: &mut [u8], t: &mut [u8], bytes: &mut [u8]) -> Run {
-    let r = word(line, b"short");
-    if r.ok {
-        return calls::short(line, r, run, area, t);
+// A queuing or a reply.
+fn ask(n: Named, line: &[u8], run: Run, area: &mut [u8]) -> Asked {
+    if n.call == SHORT {
+        return calls::short(line, n.read, run, area);
     }
-    let r = word(line, b"long");
-    if r.ok {
-        return calls::long(line, r, run, area, t, bytes);
+    if n.call == LONG {
+        return calls::long(line, n.read, run, area);
     }
-    let r = word(line, b"turn");
-    if r.ok {
-        return calls::turn(line, r, run, area, t);
+    if n.call == TURN {
+        return calls::turn(line, n.read, run, area);
     }
-    let r = word(line, b"connect");
-    if r.ok {
-        return calls::connect(line, r, run, area, t);
+    if n.call == CONNECT {
+        return calls::connect(line, n.read, run, area);
+    }
+    calls::queue(line, n.read, run, area)
+}
+
+// What changes neither the record nor the work area and the output.
+fn look(n: Named, line: &[u8], run: Run, area: &[u8], t: &mut [u8]) -> Run {
+    if n.call == PIECE {
+        return calls::piece(line, n.read, run, area, t);
+    }
+    if n.call == STATE {
+        return calls::show(line, n.read, run, area, t);
+    }
+    if n.call == AREA {
+        return calls::lend_area(line, n.read, run, t);
+    }
+    if n.call == OUT {
+        return calls::lend_out(line, n.read, run, t);
     }
     failed(run)
 }
 
-fn look(line: &[u8], run: Run, area: &mut [u8], t: &mut [u8], bytes: &mut [u8]) -> Run {
-    let r = word(line, b"piece");
-    if r.ok {
-        return calls::piece(line, r, run, area, t);
+fn call(line: &[u8], run: Run, area: &mut [u8], t: &mut [u8]) -> Run {
+    let n = call_of(line);
+    if n.call == BURST {
+        return calls::burst(line, n.read, run, area, t);
     }
-    let r = word(line, b"state");
-    if r.ok {
-        return calls::show(line, r, run, area, t);
+    if n.call == LOG {
+        return calls::log(line, n.read, run, t);
     }
-    let r = word(line, b"area");
-    if r.ok {
-        return calls::lend_area(line, r, run, t);
+    if (n.call == NO_CALL) | (n.call > TURN) {
+        return look(n, line, run, area, t);
     }
-    let r = word(line, b"out");
-    if r.ok {
-        return calls::lend_out(line, r, run, t);
-    }
-    reply(line, run, area, t, bytes)
+    let lent = least(run.area, area);
+    let q = ask(n, line, run, &mut area[..lent]);
+    calls::answered(line, n.read, run, q, t)
 }
 
-fn call(
-    line: &[u8],
-    run: Run,
-    area: &mut [u8],
-    out: &mut [u8],
-    t: &mut [u8],
-    bytes: &mut [u8],
-) -> Run {
-    let r = word(line, b"burst");
-    if r.ok {
-        return calls::burst(line, r, run, area, t, out);
+// A remark, or an empty line.
+fn passed_over(line: &[u8]) -> bool {
+    if line.len() == 0 {
+        return true;
     }
-    let r = word(line, b"queue");
-    if r.ok {
-        return calls::queue_bytes(line, r, run, area, t, bytes);
-    }
-    let r = word(line, b"log");
-    if r.ok {
-        return calls::log(line, r, run, t, out, bytes);
-    }
-    look(line, run, area, t, bytes)
+    line[0] == 35
 }
 
 // One line.
-fn step(
-    line: &[u8],
-    run: Run,
-    area: &mut [u8],
-    out: &mut [u8],
-    t: &mut [u8],
-    bytes: &mut [u8],
-    v: &mut [u64; 147],
-) -> Run {
-    if line.len() == 0 {
-        return run;
-    }
-    if line[0] == 35 {
+fn step(line: &[u8], run: Run, area: &mut [u8], t: &mut [u8], v: &mut [u64; 147]) -> Run {
+    if passed_over(line) {
         return run;
     }
     if run.stage < LINES {
-        return profile_step(line, run, area, out, v);
+        return profile_step(line, run, area, v);
     }
     let r = word(line, b"profile");
     if done(line, r) {
         return begin(run, t);
     }
     if run.stage == LINES {
-        return call(line, run, area, out, t, bytes);
+        return call(line, run, area, t);
     }
     failed(run)
 }
 
-// The line that was read, if it is one.
-fn line_step(
-    i: Input,
-    line: &[u8],
-    run: Run,
-    area: &mut [u8],
-    out: &mut [u8],
-    t: &mut [u8],
-    bytes: &mut [u8],
-    v: &mut [u64; 147],
-) -> Run {
-    let len = least(i.len, line);
-    if i.kind != WHOLE {
-        return failed(run);
-    }
-    let mut before = run;
-    before.text = room(t, run.text);
-    step(&line[..len], before, area, out, t, bytes, v)
-}
-
 fn error_line(run: Run, n: u64, t: &mut [u8]) -> Run {
     let k = transcript::error(t, run.text, n);
-    let mut after = run;
-    after.text = k;
-    after
+    with_text(run, k)
 }
 
 fn next(n: u64) -> u64 {
@@ -246,18 +220,21 @@ fn turn(
     chunk: &mut [u8],
     line: &mut [u8],
     area: &mut [u8],
-    out: &mut [u8],
     t: &mut [u8],
-    bytes: &mut [u8],
     v: &mut [u64; 147],
 ) -> Reading {
-    let before = q.i;
-    let run = q.run;
-    let i = next_line(chunk, line, before);
+    let mut run = q.run;
+    let i = next_line(chunk, line, q.i);
     if i.kind == END {
         return Reading { i, run };
     }
-    let run = line_step(i, line, run, area, out, t, bytes, v);
+    if i.kind != WHOLE {
+        let run = failed(run);
+        return Reading { i, run };
+    }
+    run.text = room(t, run.text);
+    let len = least(i.len, line);
+    let run = step(&line[..len], run, area, t, v);
     Reading { i, run }
 }
 
@@ -267,14 +244,7 @@ fn stopped(q: Reading) -> bool {
     (i.kind == END) | !run.ok
 }
 
-fn replay(
-    chunk: &mut [u8],
-    line: &mut [u8],
-    area: &mut [u8],
-    out: &mut [u8],
-    t: &mut [u8],
-    bytes: &mut [u8],
-) {
+fn replay(chunk: &mut [u8], line: &mut [u8], area: &mut [u8], t: &mut [u8]) {
     let mut v = [0u64; 147];
     let mut q = Reading {
         i: Input {
@@ -287,7 +257,7 @@ fn replay(
     };
     let mut n: u64 = 0;
     while n < 18446744073709551615 {
-        q = turn(q, chunk, line, area, out, t, bytes, &mut v);
+        q = turn(q, chunk, line, area, t, &mut v);
         if stopped(q) {
             let run = q.run;
             finish(run, n, t);
@@ -302,14 +272,5 @@ fn main() {
     let mut line = io::large_buffer();
     let mut area = io::large_buffer();
     let mut text = [0u8; 131072];
-    let mut out = [0u8; OUT_BYTES];
-    let mut bytes = [0u8; 32768];
-    replay(
-        &mut chunk,
-        &mut line,
-        &mut area,
-        &mut out,
-        &mut text,
-        &mut bytes,
-    );
+    replay(&mut chunk, &mut line, &mut area, &mut text);
 }
