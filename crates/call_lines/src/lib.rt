@@ -22,6 +22,8 @@ ghost use Rattle.words.specs.Words.{hexInto};
 ghost use Rattle.words.specs.Lines.{charsOf, nextWord};
 ghost use Rattle.call_lines.specs.CallLines.{fieldByte, heardFirst, classWords, wishWords, burstWords, connectLine, shortLine, turnLine, longWishes, longLine, logLineRead};
 
+pub mod names;
+
 // A reply's time, wave and dB measured here, and how far its line was read.
 pub struct Hearing {
     pub heard: Heard,

@@ -1,50 +1,47 @@
-// The calls of a list and their answers (docs/CALLS.md, Calls).
+// The calls of a list that change no work area, and a burst, with their answers (docs/CALLS.md, Calls).
 use crate::OUT_BYTES;
 use crate::buffer::least;
 use adif::Logged;
 use call_lines::LinkLine;
-use call_lines::connect_words;
 use call_lines::link_words;
-use call_lines::long_words;
-use call_lines::short_words;
-use call_lines::turn_words;
+use call_lines::names::AREA;
+use call_lines::names::LOG;
+use call_lines::names::Named;
+use call_lines::names::OUT;
 use config::Profile;
+use list_calls::Asked;
 use numbered::Burst;
-use numbered::Left;
 use numbered::LeftBurst;
 use record::Sender;
 use station::vanitycrow_adif;
+use words::Input;
 use words::Number;
 use words::Read;
 use words::done;
-use words::hex;
 use words::whole;
-ghost use Prim.Native.Nat.{_≤_, _<_};
 
-// Bytes that a line can have as HEX: 65,536 characters have no more pairs.
+// Bytes that a line can have as HEX: its 65,536 characters have no more pairs.
 const BYTES: usize = 32768;
 
-// The run so far: the profile and the sender, what is lent of the work area and of the output, and what is used of the text's
-// buffer; `stage` counts the profile's lines read, `ok` is false after a line that breaks the rules.
+// The run so far, but for the sender: the input, what is lent of the work area and of the output, and what is used of the text's buffer;
+// `stage` counts the profile's lines read, `ok` is false after a line that breaks the rules.
 pub struct Run {
+    pub input: Input,
     pub stage: usize,
     pub ok: bool,
-    pub p: Profile,
-    pub s: Sender,
     pub area: usize,
     pub out: usize,
     pub text: usize,
 }
 
-pub(crate) fn failed(mut run: Run) -> Run {
-    run.ok = false;
-    run
+// The run and its sender.
+pub struct Step {
+    pub run: Run,
+    pub s: Sender,
 }
 
-// The next record, and more text.
-fn moved(mut run: Run, s: Sender, n: usize) -> Run {
-    run.s = s;
-    run.text = n;
+pub(crate) fn failed(mut run: Run) -> Run {
+    run.ok = false;
     run
 }
 
@@ -53,84 +50,28 @@ pub(crate) fn with_text(mut run: Run, n: usize) -> Run {
     run
 }
 
-// What a line asked of the sender: whether the line was right, and what the call left.
-pub struct Asked {
-    pub ok: bool,
-    pub left: Left,
-}
-
-fn broken(run: Run) -> Asked {
-    let next = run.s;
-    Asked {
-        ok: false,
-        left: Left { refusal: 0, next },
-    }
-}
-
-fn after_call(left: Left) -> Asked {
-    Asked { ok: true, left }
-}
-
-// The answer to a queuing or a reply, by the first word of its line, and the record that it left.
-pub(crate) fn answered(line: &[u8], r: Read, run: Run, q: Asked, t: &mut [u8]) -> Run {
-    if !q.ok {
+// The answer to a queuing or a reply, by the first word of its line.
+pub(crate) fn answered(line: &[u8], r: Read, run: Run, ok: bool, refusal: u8, t: &mut [u8]) -> Run {
+    if !ok {
         return failed(run);
     }
     let to = least(r.at, line);
+    let n = transcript::answer(t, run.text, &line[..to], refusal);
+    with_text(run, n)
+}
+
+// and the record that it left.
+pub(crate) fn after(line: &[u8], r: Read, run: Run, q: Asked, t: &mut [u8]) -> Step {
     let left = q.left;
-    let n = transcript::answer(t, run.text, &line[..to], left.refusal);
-    moved(run, left.next, n)
-}
-
-pub(crate) fn connect(line: &[u8], r: Read, run: Run, area: &mut [u8]) -> Asked {
-    let q = connect_words(line, r);
-    if !q.ok {
-        return broken(run);
-    }
-    after_call(held::connect(run.p, run.s, area, q.heard, q.reply))
-}
-
-pub(crate) fn short(line: &[u8], r: Read, run: Run, area: &mut [u8]) -> Asked {
-    let q = short_words(line, r);
-    if !q.ok {
-        return broken(run);
-    }
-    after_call(held::short_ack(run.p, run.s, area, q.heard, q.reply))
-}
-
-pub(crate) fn long(line: &[u8], r: Read, run: Run, area: &mut [u8]) -> Asked {
-    let mut bytes = [0u8; BYTES];
-    let q = long_words(line, r, &mut bytes);
-    if !q.ok {
-        return broken(run);
-    }
-    let n = least(q.payload, &bytes);
-    after_call(held::long_ack(run.p, run.s, area, q.heard, q.reply, &bytes[..n]))
-}
-
-pub(crate) fn turn(line: &[u8], r: Read, run: Run, area: &mut [u8]) -> Asked {
-    let q = turn_words(line, r);
-    if !q.ok {
-        return broken(run);
-    }
-    after_call(held::turn(run.p, run.s, area, q.heard, q.reply))
-}
-
-pub(crate) fn queue(line: &[u8], r: Read, run: Run, area: &mut [u8]) -> Asked {
-    let mut bytes = [0u8; BYTES];
-    let q = hex(line, r, &mut bytes);
-    if !done(line, q) {
-        return broken(run);
-    }
-    let n = least(q.value as usize, &bytes);
-    after_call(held::queue(run.p, run.s, area, &bytes[..n]))
+    let s = left.next;
+    let run = answered(line, r, run, q.ok, left.refusal, t);
+    Step { run, s }
 }
 
 // A frame's size at the level of the record.
-fn frame_size(p: Profile, s: Sender) -> usize {
-    let g = s.gear;
-    if g.level < 17 {
-        return p.frame_bytes(g.level) as usize;
+fn frame_size(p: Profile, level: usize) -> usize {
+    if level < 17 {
+        return p.frame_bytes(level) as usize;
     }
     0
 }
@@ -144,47 +85,56 @@ fn burst_text(t: &mut [u8], n: usize, b: Burst, size: usize, out: &[u8]) -> usiz
     transcript::burst::burst(t, n, b.outgoing, size, out)
 }
 
-fn burst_answer(run: Run, q: LeftBurst, t: &mut [u8], out: &[u8]) -> Run {
-    let n = burst_text(t, run.text, q.burst, frame_size(run.p, run.s), out);
-    moved(run, q.next, n)
-}
-
-fn burst_call(run: Run, area: &mut [u8], out: &mut [u8]) -> LeftBurst {
+fn burst_call(run: Run, p: Profile, s: Sender, area: &mut [u8], out: &mut [u8]) -> LeftBurst {
     let lent = least(run.area, area);
     let most = least(run.out, out);
-    held::data_burst(run.p, run.s, &mut area[..lent], &mut out[..most])
+    held::data_burst(p, s, &mut area[..lent], &mut out[..most])
 }
 
-pub(crate) fn burst(line: &[u8], r: Read, run: Run, area: &mut [u8], t: &mut [u8]) -> Run {
-    if !done(line, r) {
-        return failed(run);
-    }
+fn level_of(s: Sender) -> usize {
+    let g = s.gear;
+    g.level
+}
+
+pub(crate) fn burst(run: Run, p: Profile, s: Sender, area: &mut [u8], t: &mut [u8]) -> Step {
     let mut out = [0u8; OUT_BYTES];
-    let b = burst_call(run, area, &mut out);
-    burst_answer(run, b, t, &out)
+    let size = frame_size(p, level_of(s));
+    let b = burst_call(run, p, s, area, &mut out);
+    let s = b.next;
+    let n = burst_text(t, run.text, b.burst, size, &out);
+    let run = with_text(run, n);
+    Step { run, s }
 }
 
 // The answer to the question for a piece.
-fn piece_text(at: u64, run: Run, area: &[u8], t: &mut [u8]) -> usize {
+fn piece_text(at: u64, n: usize, p: Profile, s: Sender, area: &[u8], t: &mut [u8]) -> usize {
     let off = (at % 4294967296) as u32;
-    let found = held::find(run.p, run.s, area, off);
+    let found = held::find(p, s, area, off);
     let refusal = found.refusal;
     if refusal != 0 {
-        return transcript::answer(t, run.text, b"piece", refusal);
+        return transcript::answer(t, n, b"piece", refusal);
     }
     if found.here & (at < 4294967296) {
-        return transcript::piece(t, run.text, held::piece(run.p, run.s, area, off));
+        return transcript::piece(t, n, held::piece(p, s, area, off));
     }
-    transcript::no_piece(t, run.text)
+    transcript::no_piece(t, n)
 }
 
-pub(crate) fn piece(line: &[u8], r: Read, run: Run, area: &[u8], t: &mut [u8]) -> Run {
+pub(crate) fn piece(
+    line: &[u8],
+    r: Read,
+    run: Run,
+    p: Profile,
+    s: Sender,
+    area: &[u8],
+    t: &mut [u8],
+) -> Run {
     let q = whole(line, r);
     if !done(line, q) {
         return failed(run);
     }
     let lent = least(run.area, area);
-    let n = piece_text(q.value, run, &area[..lent], t);
+    let n = piece_text(q.value, run.text, p, s, &area[..lent], t);
     with_text(run, n)
 }
 
@@ -212,7 +162,7 @@ fn log_call(q: LinkLine, run: Run, t: &mut [u8], bytes: &[u8]) -> Run {
     with_text(run, n)
 }
 
-pub(crate) fn log(line: &[u8], r: Read, run: Run, t: &mut [u8]) -> Run {
+fn log(line: &[u8], r: Read, run: Run, t: &mut [u8]) -> Run {
     let mut bytes = [0u8; BYTES];
     let q = link_words(line, r, &mut bytes);
     if !q.ok {
@@ -221,11 +171,11 @@ pub(crate) fn log(line: &[u8], r: Read, run: Run, t: &mut [u8]) -> Run {
     log_call(q, run, t, &bytes)
 }
 
-pub(crate) fn show(line: &[u8], r: Read, run: Run, area: &[u8], t: &mut [u8]) -> Run {
+pub(crate) fn show(line: &[u8], r: Read, run: Run, s: Sender, area: &[u8], t: &mut [u8]) -> Run {
     if !done(line, r) {
         return failed(run);
     }
-    let n = state_lines::state(t, run.text, run.s, area);
+    let n = state_lines::state(t, run.text, s, area);
     with_text(run, n)
 }
 
@@ -238,24 +188,32 @@ fn length(line: &[u8], r: Read, most: u64) -> Number {
     }
 }
 
-pub(crate) fn lend_area(line: &[u8], r: Read, run: Run, t: &mut [u8]) -> Run {
-    let q = length(line, r, 65536);
-    if !q.ok {
-        return failed(run);
-    }
-    let n = transcript::answer(t, run.text, b"area", 0);
-    let mut after = run;
-    after.area = q.value as usize;
-    with_text(after, n)
+// So much of the work area is lent from here on.
+fn lend_area(mut run: Run, n: usize, t: &mut [u8]) -> Run {
+    run.area = n;
+    run.text = transcript::answer(t, run.text, b"area", 0);
+    run
 }
 
-pub(crate) fn lend_out(line: &[u8], r: Read, run: Run, t: &mut [u8]) -> Run {
-    let q = length(line, r, OUT_BYTES as u64);
-    if !q.ok {
-        return failed(run);
+// So much output is lent from here on.
+fn lend_out(mut run: Run, n: usize, t: &mut [u8]) -> Run {
+    run.out = n;
+    run.text = transcript::answer(t, run.text, b"out", 0);
+    run
+}
+
+// A link's line, or one that lends.
+pub(crate) fn aside(n: Named, line: &[u8], run: Run, t: &mut [u8]) -> Run {
+    if n.call == LOG {
+        return log(line, n.read, run, t);
     }
-    let n = transcript::answer(t, run.text, b"out", 0);
-    let mut after = run;
-    after.out = q.value as usize;
-    with_text(after, n)
+    let a = length(line, n.read, 65536);
+    if (n.call == AREA) & a.ok {
+        return lend_area(run, a.value as usize, t);
+    }
+    let o = length(line, n.read, OUT_BYTES as u64);
+    if (n.call == OUT) & o.ok {
+        return lend_out(run, o.value as usize, t);
+    }
+    failed(run)
 }

@@ -2,33 +2,29 @@
 mod buffer;
 mod calls;
 mod input;
-mod names;
 
 use buffer::flush;
 use buffer::least;
 use buffer::room;
-use calls::Asked;
+use call_lines::names::BURST;
+use call_lines::names::NO_CALL;
+use call_lines::names::Named;
+use call_lines::names::PIECE;
+use call_lines::names::STATE;
+use call_lines::names::TURN;
+use call_lines::names::call_of;
 use calls::Run;
+use calls::Step;
 use calls::failed;
 use calls::with_text;
 use input::next_line;
 use limits::AREA_BYTES;
-use names::AREA;
-use names::BURST;
-use names::CONNECT;
-use names::LOG;
-use names::LONG;
-use names::NO_CALL;
-use names::Named;
-use names::OUT;
-use names::PIECE;
-use names::SHORT;
-use names::STATE;
-use names::TURN;
-use names::call_of;
+use list_calls::ask;
 use profile_table::LINES;
 use profile_table::listed::profile_line;
 use profile_table::profile_of;
+use record::Counts;
+use record::Sender;
 use sender::fresh;
 use words::Input;
 use words::done;
@@ -51,33 +47,24 @@ fn clear(area: &mut [u8]) {
     }
 }
 
-fn end_line(run: Run, t: &mut [u8]) -> Run {
-    let n = state_lines::end(t, run.text, run.s);
-    with_text(run, n)
-}
-
 // `profile`: the profile before it ends.
-fn begin(run: Run, t: &mut [u8]) -> Run {
+fn begin(run: Run, c: Counts, t: &mut [u8]) -> Run {
     let mut after = run;
     if run.stage == LINES {
-        after = end_line(run, t);
+        after.text = state_lines::end(t, run.text, c);
     }
     after.stage = 0;
     after
 }
 
-// The whole profile was read: a fresh sender, and zeros in the work area.
-fn start(text: usize, area: &mut [u8], v: &[u64; 147]) -> Run {
+// The whole profile was read: zeros in the work area, and what is lent.
+fn start(run: Run, area: &mut [u8]) -> Run {
     clear(area);
-    Run {
-        stage: LINES,
-        ok: true,
-        p: profile_of(v),
-        s: fresh(),
-        area: AREA_BYTES,
-        out: OUT_BYTES,
-        text,
-    }
+    let mut after = run;
+    after.stage = LINES;
+    after.area = AREA_BYTES;
+    after.out = OUT_BYTES;
+    after
 }
 
 // The profile's next line.
@@ -87,61 +74,57 @@ fn profile_step(line: &[u8], run: Run, area: &mut [u8], v: &mut [u64; 147]) -> R
         return failed(run);
     }
     if k >= LINES - 1 {
-        return start(run.text, area, v);
+        return start(run, area);
     }
     let mut after = run;
     after.stage = k + 1;
     after
 }
 
-// A queuing or a reply.
-fn ask(n: Named, line: &[u8], run: Run, area: &mut [u8]) -> Asked {
-    if n.call == SHORT {
-        return calls::short(line, n.read, run, area);
-    }
-    if n.call == LONG {
-        return calls::long(line, n.read, run, area);
-    }
-    if n.call == TURN {
-        return calls::turn(line, n.read, run, area);
-    }
-    if n.call == CONNECT {
-        return calls::connect(line, n.read, run, area);
-    }
-    calls::queue(line, n.read, run, area)
-}
-
-// What changes neither the record nor the work area and the output.
-fn look(n: Named, line: &[u8], run: Run, area: &[u8], t: &mut [u8]) -> Run {
+// What changes neither the record nor the work area.
+fn look(
+    n: Named,
+    line: &[u8],
+    run: Run,
+    s: Sender,
+    area: &[u8],
+    t: &mut [u8],
+    v: &[u64; 147],
+) -> Run {
     if n.call == PIECE {
-        return calls::piece(line, n.read, run, area, t);
+        return calls::piece(line, n.read, run, profile_of(v), s, area, t);
     }
     if n.call == STATE {
-        return calls::show(line, n.read, run, area, t);
+        return calls::show(line, n.read, run, s, area, t);
     }
-    if n.call == AREA {
-        return calls::lend_area(line, n.read, run, t);
-    }
-    if n.call == OUT {
-        return calls::lend_out(line, n.read, run, t);
-    }
-    failed(run)
+    calls::aside(n, line, run, t)
 }
 
-fn call(line: &[u8], run: Run, area: &mut [u8], t: &mut [u8]) -> Run {
+// A queuing or a reply.
+fn asked(
+    n: Named,
+    line: &[u8],
+    run: Run,
+    s: Sender,
+    area: &mut [u8],
+    t: &mut [u8],
+    v: &[u64; 147],
+) -> Step {
+    let lent = least(run.area, area);
+    let q = ask(n, line, profile_of(v), s, &mut area[..lent]);
+    calls::after(line, n.read, run, q, t)
+}
+
+fn call(line: &[u8], run: Run, s: Sender, area: &mut [u8], t: &mut [u8], v: &[u64; 147]) -> Step {
     let n = call_of(line);
-    if n.call == BURST {
-        return calls::burst(line, n.read, run, area, t);
-    }
-    if n.call == LOG {
-        return calls::log(line, n.read, run, t);
+    if (n.call == BURST) & done(line, n.read) {
+        return calls::burst(run, profile_of(v), s, area, t);
     }
     if (n.call == NO_CALL) | (n.call > TURN) {
-        return look(n, line, run, area, t);
+        let run = look(n, line, run, s, area, t, v);
+        return Step { run, s };
     }
-    let lent = least(run.area, area);
-    let q = ask(n, line, run, &mut area[..lent]);
-    calls::answered(line, n.read, run, q, t)
+    asked(n, line, run, s, area, t, v)
 }
 
 // A remark, or an empty line.
@@ -152,8 +135,21 @@ fn passed_over(line: &[u8]) -> bool {
     line[0] == 35
 }
 
-// One line.
-fn step(line: &[u8], run: Run, area: &mut [u8], t: &mut [u8], v: &mut [u64; 147]) -> Run {
+// Whether a line is a call, which stands after a whole profile.
+fn is_call(line: &[u8], run: Run) -> bool {
+    let r = word(line, b"profile");
+    (run.stage == LINES) & !passed_over(line) & !done(line, r)
+}
+
+// A line that is none.
+fn no_call(
+    line: &[u8],
+    run: Run,
+    c: Counts,
+    area: &mut [u8],
+    t: &mut [u8],
+    v: &mut [u64; 147],
+) -> Run {
     if passed_over(line) {
         return run;
     }
@@ -162,17 +158,28 @@ fn step(line: &[u8], run: Run, area: &mut [u8], t: &mut [u8], v: &mut [u64; 147]
     }
     let r = word(line, b"profile");
     if done(line, r) {
-        return begin(run, t);
-    }
-    if run.stage == LINES {
-        return call(line, run, area, t);
+        return begin(run, c, t);
     }
     failed(run)
 }
 
-fn error_line(run: Run, n: u64, t: &mut [u8]) -> Run {
-    let k = transcript::error(t, run.text, n);
-    with_text(run, k)
+// One line. The sender is fresh from `profile` to the end of the profile.
+fn step(
+    line: &[u8],
+    run: Run,
+    s: Sender,
+    area: &mut [u8],
+    t: &mut [u8],
+    v: &mut [u64; 147],
+) -> Step {
+    if is_call(line, run) {
+        return call(line, run, s, area, t, v);
+    }
+    let run = no_call(line, run, s.counts, area, t, v);
+    if run.stage < LINES {
+        return Step { run, s: fresh() };
+    }
+    Step { run, s }
 }
 
 fn next(n: u64) -> u64 {
@@ -180,87 +187,73 @@ fn next(n: u64) -> u64 {
 }
 
 // The last line of the transcript, after n lines of the list that were right.
-fn last_line(run: Run, n: u64, t: &mut [u8]) -> Run {
-    if !run.ok {
-        return error_line(run, next(n), t);
+fn last_line(run: Run, c: Counts, n: u64, t: &mut [u8]) -> usize {
+    if !run.ok | (run.stage < LINES) {
+        return transcript::error(t, run.text, next(n));
     }
-    if run.stage < LINES {
-        return error_line(run, next(n), t);
-    }
-    end_line(run, t)
+    state_lines::end(t, run.text, c)
 }
 
-fn finish(run: Run, n: u64, t: &mut [u8]) {
-    let after = last_line(run, n, t);
-    flush(t, after.text);
+fn finish(q: Step, n: u64, t: &mut [u8]) {
+    let s = q.s;
+    let k = last_line(q.run, s.counts, n, t);
+    flush(t, k);
 }
 
-fn none_yet() -> Run {
-    let v = [0u64; 147];
-    Run {
-        stage: NO_PROFILE,
-        ok: true,
-        p: profile_of(&v),
+fn none_yet() -> Step {
+    Step {
+        run: Run {
+            input: Input {
+                at: 0,
+                end: 0,
+                len: 0,
+                kind: WHOLE,
+            },
+            stage: NO_PROFILE,
+            ok: true,
+            area: 0,
+            out: 0,
+            text: 0,
+        },
         s: fresh(),
-        area: 0,
-        out: 0,
-        text: 0,
     }
 }
 
-// The input and the run.
-pub struct Reading {
-    pub i: Input,
-    pub run: Run,
+// Nothing of a line that is not whole.
+fn empty(mut i: Input) -> Input {
+    i.len = 0;
+    i
 }
 
-// The next line, if there is one.
-fn turn(
-    q: Reading,
-    chunk: &mut [u8],
-    line: &mut [u8],
-    area: &mut [u8],
-    t: &mut [u8],
-    v: &mut [u64; 147],
-) -> Reading {
-    let mut run = q.run;
-    let i = next_line(chunk, line, q.i);
-    if i.kind == END {
-        return Reading { i, run };
+// The next line of the input, if there is one, and room for its answer.
+fn read(run: Run, chunk: &mut [u8], line: &mut [u8], t: &[u8]) -> Run {
+    let mut after = run;
+    let i = next_line(chunk, line, run.input);
+    if i.kind == WHOLE {
+        after.input = i;
+        after.text = room(t, run.text);
+        return after;
     }
-    if i.kind != WHOLE {
-        let run = failed(run);
-        return Reading { i, run };
-    }
-    run.text = room(t, run.text);
-    let len = least(i.len, line);
-    let run = step(&line[..len], run, area, t, v);
-    Reading { i, run }
+    after.input = empty(i);
+    after.ok = i.kind == END;
+    after
 }
 
-fn stopped(q: Reading) -> bool {
-    let i = q.i;
-    let run = q.run;
+fn stopped(run: Run) -> bool {
+    let i = run.input;
     (i.kind == END) | !run.ok
 }
 
 fn replay(chunk: &mut [u8], line: &mut [u8], area: &mut [u8], t: &mut [u8]) {
     let mut v = [0u64; 147];
-    let mut q = Reading {
-        i: Input {
-            at: 0,
-            end: 0,
-            len: 0,
-            kind: WHOLE,
-        },
-        run: none_yet(),
-    };
+    let mut q = none_yet();
     let mut n: u64 = 0;
     while n < 18446744073709551615 {
-        q = turn(q, chunk, line, area, t, &mut v);
-        if stopped(q) {
-            let run = q.run;
-            finish(run, n, t);
+        let run = read(q.run, chunk, line, t);
+        let len = least(run.input.len, line);
+        q = step(&line[..len], run, q.s, area, t, &mut v);
+        if stopped(q.run) {
+            finish(q, n, t);
             return;
         }
         n += 1;

@@ -16,20 +16,19 @@ use Rattle.area.specs.Layout.{streamBytes, rowBytes}
 use Rattle.area.specs.Table.{rowsFrom}
 use Rattle.area.specs.declared.table.Row.{Row}
 use Rattle.record.specs.View.{heldIn, restIn, sentIn}
+use Rattle.record.specs.declared.Counts.{Counts}
 use Rattle.record.specs.declared.Link.{Link}
 use Rattle.record.specs.declared.AtPeer.{AtPeer}
 use Rattle.record.specs.declared.LastBurst.{LastBurst}
 use Rattle.record.specs.declared.Sender.{Sender}
 
 -- TAKEN WAITING FLYING ACKED
-abbrev pub tallyWords : Sender → List ℕ
-tallyWords s =
-    numberWord (s .counts .«next_offset» + s .counts .waiting) ++ numberWord (s .counts .waiting) ++ numberWord (s .counts .flying)
-    ++ numberWord (s .counts .«bytes_acked»)
+abbrev pub tallyWords : Counts → List ℕ
+tallyWords c = numberWord (c .«next_offset» + c .waiting) ++ numberWord (c .waiting) ++ numberWord (c .flying) ++ numberWord (c .«bytes_acked»)
 
 -- `end TAKEN WAITING FLYING ACKED`
-abbrev pub endLine : Sender → List ℕ
-endLine s = text "end" ++ tallyWords s ++ text "\n"
+abbrev pub endLine : Counts → List ℕ
+endLine c = text "end" ++ tallyWords c ++ text "\n"
 
 -- `state LEVEL TARGET BURST_S CONNECTED AWAITING SESSION BURST_ID HEARD LAST_TIME`
 unfoldable pub stateLine : Gear → Link → List ℕ
@@ -71,8 +70,8 @@ gearOf g l =
     (getD (g .tries .fails) l 0) (getD (g .holds .«blocked_until») l nan) (getD (g .holds .«hold_all») l false)
 
 -- `counts TAKEN WAITING FLYING ACKED AIRTIME_MS`
-unfoldable pub countsLine : Sender → List ℕ
-countsLine s = text "counts" ++ tallyWords s ++ numberWord (s .counts .«airtime_ms») ++ text "\n"
+unfoldable pub countsLine : Counts → List ℕ
+countsLine c = text "counts" ++ tallyWords c ++ numberWord (c .«airtime_ms») ++ text "\n"
 
 -- the rows that the area has room for
 abbrev pub rowsIn : List ℕ → ℕ
@@ -113,5 +112,5 @@ sentLine b = text "sent" ++ numberWord (b .n) ++ each sentWord (sentIn b) ++ tex
 unfoldable pub stateLines : Sender → List ℕ → List ℕ
 stateLines s a =
     stateLine (s .gear) (s .link) ++ linkLine (s .gear) (s .link) ++ aimLine (s .gear) ++ each (gearOf (s .gear)) (upto 0 17)
-    ++ countsLine s ++ piecesLine a (s .counts .pieces) ++ heldLine (s .«at_peer») (s .link .«peer_wave»)
+    ++ countsLine (s .counts) ++ piecesLine a (s .counts .pieces) ++ heldLine (s .«at_peer») (s .link .«peer_wave»)
     ++ restLine (s .«at_peer») ++ sentLine (s .«last_burst»)

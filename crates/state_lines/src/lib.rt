@@ -6,6 +6,7 @@ use lists::held;
 use lists::pieces;
 use lists::rest;
 use lists::sent;
+use record::Counts;
 use record::Link;
 use record::Sender;
 use text::double;
@@ -26,10 +27,9 @@ ghost use Rattle.state_lines.specs.State.{tallyWords, endLine, stateLine
 mod lists;
 
 // TAKEN WAITING FLYING ACKED.
-fn tally(t: &mut [u8], n: usize, s: Sender) -> usize
-    ensures { λ r. ⌜ (r, now (t .exit)) ≡ appended (n, now (t .entry)) (tallyWords s) ⌝ }
+fn tally(t: &mut [u8], n: usize, c: Counts) -> usize
+    ensures { λ r. ⌜ (r, now (t .exit)) ≡ appended (n, now (t .entry)) (tallyWords c) ⌝ }
 {
-    let c = s.counts;
     let n = number(t, n, (c.next_offset as u64) + (c.waiting as u64));
     let n = number(t, n, c.waiting as u64);
     let n = number(t, n, c.flying as u64);
@@ -37,11 +37,11 @@ fn tally(t: &mut [u8], n: usize, s: Sender) -> usize
 }
 
 // What closes a profile's calls.
-pub fn end(t: &mut [u8], n: usize, s: Sender) -> usize
-    ensures { λ r. ⌜ (r, now (t .exit)) ≡ appended (n, now (t .entry)) (endLine s) ⌝ }
+pub fn end(t: &mut [u8], n: usize, c: Counts) -> usize
+    ensures { λ r. ⌜ (r, now (t .exit)) ≡ appended (n, now (t .entry)) (endLine c) ⌝ }
 {
     let n = puts(t, n, b"end");
-    let n = tally(t, n, s);
+    let n = tally(t, n, c);
     puts(t, n, b"\n")
 }
 
@@ -160,12 +160,11 @@ fn levels(t: &mut [u8], n: usize, g: Gear) -> usize
     n
 }
 
-fn counts(t: &mut [u8], n: usize, s: Sender) -> usize
-    ensures { λ r. ⌜ (r, now (t .exit)) ≡ appended (n, now (t .entry)) (countsLine s) ⌝ }
+fn counts(t: &mut [u8], n: usize, c: Counts) -> usize
+    ensures { λ r. ⌜ (r, now (t .exit)) ≡ appended (n, now (t .entry)) (countsLine c) ⌝ }
 {
-    let c = s.counts;
     let n = puts(t, n, b"counts");
-    let n = tally(t, n, s);
+    let n = tally(t, n, c);
     let n = number(t, n, c.airtime_ms);
     puts(t, n, b"\n")
 }
@@ -182,7 +181,7 @@ pub fn state(t: &mut [u8], n: usize, s: Sender, area: &[u8]) -> usize
     let n = link(t, n, g, k);
     let n = aim(t, n, g);
     let n = levels(t, n, g);
-    let n = counts(t, n, s);
+    let n = counts(t, n, c);
     let n = pieces(t, n, area, c.pieces);
     let n = held(t, n, h, k.peer_wave);
     let n = rest(t, n, h);

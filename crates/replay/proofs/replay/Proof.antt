@@ -20,8 +20,20 @@ none-yet-requires c κs = search needs
 loop-holds : tie.Need-loop-holds Inv-loop μ-loop
 loop-holds c = search needs
 
-turn-requires : tie.Need-turn-requires Inv-loop μ-loop
-turn-requires c κs = search needs
+read-requires : tie.Need-read-requires Inv-loop μ-loop
+read-requires c κs = search needs
+
+least-requires : tie.Need-least-requires Inv-loop μ-loop
+least-requires c κs = search needs
+
+slice-reshare-prefix-step : tie.Need-slice-reshare-prefix-step Inv-loop μ-loop
+slice-reshare-prefix-step c = search needs
+
+slice-aggregate-step : tie.Need-slice-aggregate-step Inv-loop μ-loop
+slice-aggregate-step c = search needs
+
+step-requires : tie.Need-step-requires Inv-loop μ-loop
+step-requires c κs = search needs
 
 stopped-requires : tie.Need-stopped-requires Inv-loop μ-loop
 stopped-requires c κs = search needs
@@ -31,42 +43,47 @@ finish-requires c κs = search needs
 
 same-length : tie.Need-same-length Inv-loop μ-loop
 same-length c =
-    let k = c .before .before .before .before .before .before .before .before .before .before .before .before .before .before .before .turn .kept in
-    let i = c .before .before .before .before .before .before .before .before .before .before .before .before .before .before .before .before .before .before .before .before .before .before .loop .inv in
-    k .1 .0 ∙ i .1 .0
+    let p = c .before .before .before .before .before .before .before .before .before .before in
+    let q = p .before .before .before .before .before .before .before .before .before .before .before in
+    let i = q .before .before .before .before .before .loop .inv in
+    q .read .kept .1 .0 ∙ i .1 .0
 
 same-length-2 : tie.Need-same-length-2 Inv-loop μ-loop
 same-length-2 c =
-    let k = c .before .before .before .before .before .before .before .before .before .before .before .before .before .before .before .turn .kept in
-    let i = c .before .before .before .before .before .before .before .before .before .before .before .before .before .before .before .before .before .before .before .before .before .before .loop .inv in
-    k .1 .1 .0 ∙ i .1 .1 .0
+    let p = c .before .before .before .before .before .before .before .before .before .before in
+    let q = p .before .before .before .before .before .before .before .before .before .before .before in
+    let i = q .before .before .before .before .before .loop .inv in
+    q .read .kept .1 .1 .0 ∙ i .1 .1 .0
 
 same-length-3 : tie.Need-same-length-3 Inv-loop μ-loop
 same-length-3 c =
-    let k = c .before .before .before .before .before .before .before .before .before .before .before .before .before .before .before .turn .kept in
-    let i = c .before .before .before .before .before .before .before .before .before .before .before .before .before .before .before .before .before .before .before .before .before .before .loop .inv in
-    k .1 .1 .1 .0 ∙ i .1 .1 .1 .0
+    let p = c .before .before .before .before .before .before .before .before .before .before in
+    let q = p .before .before .before .before .before .before .before .before .before .before .before in
+    let i = q .before .before .before .before .before .loop .inv in
+    p .step .kept .1 .1 .1 .0 ∙ i .1 .1 .1 .0
 
 same-length-4 : tie.Need-same-length-4 Inv-loop μ-loop
 same-length-4 c =
-    let k = c .before .before .before .before .before .before .before .before .before .before .before .before .before .before .before .turn .kept in
-    let i = c .before .before .before .before .before .before .before .before .before .before .before .before .before .before .before .before .before .before .before .before .before .before .loop .inv in
-    c .before .before .finish .kept .1 .1 .0 ∙ k .1 .1 .1 .1 .0 ∙ i .1 .1 .1 .1
+    let p = c .before .before .before .before .before .before .before .before .before .before in
+    let q = p .before .before .before .before .before .before .before .before .before .before .before in
+    let i = q .before .before .before .before .before .loop .inv in
+    c .before .before .finish .kept .1 .1 .0 ∙ p .step .kept .1 .1 .1 .1 .0 ∙ i .1 .1 .1 .1
 
 returns : tie.Need-returns Inv-loop μ-loop
 returns c = search needs
 
 add-n : tie.Need-add-n Inv-loop μ-loop
-add-n c = search needs
+add-n c = omega (arith, c .before .before .before .before .before .before .before .before .before .before .before .before .before .before .before .before .before .before .before .before .before .loop-test .taken)
 
 loop-less : tie.Need-loop-less Inv-loop μ-loop
-loop-less c = search needs
+loop-less c = omega (arith, c .before .before .before .before .before .before .before .before .before .before .before .before .before .before .before .before .before .before .before .before .before .loop-test .taken)
 
 loop-again : tie.Need-loop-again Inv-loop μ-loop
 loop-again c =
-    let k = c .before .before .before .before .before .before .before .before .before .before .turn .kept in
-    let i = c .before .before .before .before .before .before .before .before .before .before .before .before .before .before .before .before .before .loop .inv in
-    (omega (arith, c .before .before .before .before .before .before .before .before .before .before .before .before .before .before .before .before .loop-test .taken), (k .1 .0 ∙ i .1 .0, (k .1 .1 .0 ∙ i .1 .1 .0, (k .1 .1 .1 .0 ∙ i .1 .1 .1 .0, (k .1 .1 .1 .1 .0 ∙ i .1 .1 .1 .1)))))
+    let p = c .before .before .before .before .before .before in
+    let q = p .before .before .before .before .before .before .before .before .before .before .before in
+    let i = q .before .before .before .before .before .loop .inv in
+    (omega (arith, q .before .before .before .before .loop-test .taken), (q .read .kept .1 .0 ∙ i .1 .0, (q .read .kept .1 .1 .0 ∙ i .1 .1 .0, (p .step .kept .1 .1 .1 .0 ∙ i .1 .1 .1 .0, (p .step .kept .1 .1 .1 .1 .0 ∙ i .1 .1 .1 .1)))))
 
 same-length-5 : tie.Need-same-length-5 Inv-loop μ-loop
 same-length-5 c = search needs
@@ -91,7 +108,11 @@ replay-spec =
     μ-loop
     none-yet-requires
     loop-holds
-    turn-requires
+    read-requires
+    least-requires
+    slice-reshare-prefix-step
+    slice-aggregate-step
+    step-requires
     stopped-requires
     finish-requires
     same-length

@@ -1,31 +1,33 @@
 // The first words of calls.
 use words::Read;
 use words::word;
+ghost use mathlib.Core.Path.{_≡_};
+ghost use Rattle.call_lines.specs.Names.{orCall, noName, asking, callOf};
 
 // The calls, those first that a queuing or a reply makes; 0 is none.
-pub(crate) const NO_CALL: u8 = 0;
+pub const NO_CALL: u8 = 0;
 
-pub(crate) const CONNECT: u8 = 1;
+pub const CONNECT: u8 = 1;
 
-pub(crate) const QUEUE: u8 = 2;
+pub const QUEUE: u8 = 2;
 
-pub(crate) const SHORT: u8 = 3;
+pub const SHORT: u8 = 3;
 
-pub(crate) const LONG: u8 = 4;
+pub const LONG: u8 = 4;
 
-pub(crate) const TURN: u8 = 5;
+pub const TURN: u8 = 5;
 
-pub(crate) const BURST: u8 = 6;
+pub const BURST: u8 = 6;
 
-pub(crate) const PIECE: u8 = 7;
+pub const PIECE: u8 = 7;
 
-pub(crate) const LOG: u8 = 8;
+pub const LOG: u8 = 8;
 
-pub(crate) const STATE: u8 = 9;
+pub const STATE: u8 = 9;
 
-pub(crate) const AREA: u8 = 10;
+pub const AREA: u8 = 10;
 
-pub(crate) const OUT: u8 = 11;
+pub const OUT: u8 = 11;
 
 // A line's call, and how far the line was read.
 pub struct Named {
@@ -34,7 +36,9 @@ pub struct Named {
 }
 
 // `call`, where the first word is `name` and was no name before.
-fn or(n: Named, line: &[u8], name: &[u8], call: u8) -> Named {
+fn or(n: Named, line: &[u8], name: &[u8], call: u8) -> Named
+    ensures { λ r. ⌜ r ≡ orCall n (now (line .entry)) (now (name .entry)) call ⌝ }
+{
     if n.call != NO_CALL {
         return n;
     }
@@ -45,7 +49,9 @@ fn or(n: Named, line: &[u8], name: &[u8], call: u8) -> Named {
     n
 }
 
-fn no_name() -> Named {
+fn no_name() -> Named
+    ensures { λ r. ⌜ r ≡ noName ⌝ }
+{
     Named {
         call: NO_CALL,
         read: Read {
@@ -56,7 +62,10 @@ fn no_name() -> Named {
     }
 }
 
-fn asking(line: &[u8]) -> Named {
+// A queuing or a reply.
+fn asking(line: &[u8]) -> Named
+    ensures { λ r. ⌜ r ≡ asking (now (line .entry)) ⌝ }
+{
     let n = no_name();
     let n = or(n, line, b"short", SHORT);
     let n = or(n, line, b"queue", QUEUE);
@@ -66,7 +75,9 @@ fn asking(line: &[u8]) -> Named {
 }
 
 // The call that a line names.
-pub(crate) fn call_of(line: &[u8]) -> Named {
+pub fn call_of(line: &[u8]) -> Named
+    ensures { λ r. ⌜ r ≡ callOf (now (line .entry)) ⌝ }
+{
     let n = asking(line);
     let n = or(n, line, b"burst", BURST);
     let n = or(n, line, b"piece", PIECE);
