@@ -125,6 +125,6 @@ fn main() {
     let queued = queue_step(p, connected, &mut area, &mut text);
     let sent = burst_step(p, queued, &mut area, &mut out, &mut text);
     let acked = ack_step(p, sent, &mut area, &mut text);
-    let n = transcript::end(&mut text, acked.n, acked.s);
+    let n = state_lines::end(&mut text, acked.n, acked.s.counts);
     write_first(&text, n);
 }

@@ -171,11 +171,21 @@ fn log(line: &[u8], r: Read, run: Run, t: &mut [u8]) -> Run {
     log_call(q, run, t, &bytes)
 }
 
-pub(crate) fn show(line: &[u8], r: Read, run: Run, s: Sender, area: &[u8], t: &mut [u8]) -> Run {
+// usual: the profile's max_burst_s.
+pub(crate) fn show(
+    line: &[u8],
+    r: Read,
+    run: Run,
+    usual: f64,
+    s: Sender,
+    area: &[u8],
+    t: &mut [u8],
+) -> Run {
     if !done(line, r) {
         return failed(run);
     }
-    let n = state_lines::state(t, run.text, s, area);
+    let burst_s = s.gear.burst_seconds(usual);
+    let n = state_lines::state(t, run.text, burst_s, s, area);
     with_text(run, n)
 }
 

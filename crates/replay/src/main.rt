@@ -95,7 +95,8 @@ fn look(
         return calls::piece(line, n.read, run, profile_of(v), s, area, t);
     }
     if n.call == STATE {
-        return calls::show(line, n.read, run, s, area, t);
+        let usual = profile_of(v).lengths.max_burst_s;
+        return calls::show(line, n.read, run, usual, s, area, t);
     }
     calls::aside(n, line, run, t)
 }

@@ -31,9 +31,9 @@ abbrev pub endLine : Counts → List ℕ
 endLine c = text "end" ++ tallyWords c ++ text "\n"
 
 -- `state LEVEL TARGET BURST_S CONNECTED AWAITING SESSION BURST_ID HEARD LAST_TIME`
-unfoldable pub stateLine : Gear → Link → List ℕ
-stateLine g k =
-    text "state" ++ numberWord (g .level) ++ numberWord (g .target) ++ maybe (k .connected) (doubleWord (g .«burst_s»)) ++ flagWord (k .connected)
+unfoldable pub stateLine : Float → Gear → Link → List ℕ
+stateLine burst g k =
+    text "state" ++ numberWord (g .level) ++ numberWord (g .target) ++ maybe (k .connected) (doubleWord burst) ++ flagWord (k .connected)
     ++ flagWord (k .awaiting) ++ numberWord (k .session) ++ numberWord (k .«burst_id»)
     ++ maybe (k .heard) (numberWord (k .«peer_heard»)) ++ maybe (k .connected) (doubleWord (k .«last_time»)) ++ text "\n"
 
@@ -109,8 +109,8 @@ sentWord f = entry (f .off) (f .bits) ++ afterColon (f .held)
 unfoldable pub sentLine : LastBurst → List ℕ
 sentLine b = text "sent" ++ numberWord (b .n) ++ each sentWord (sentIn b) ++ text "\n"
 
-unfoldable pub stateLines : Sender → List ℕ → List ℕ
-stateLines s a =
-    stateLine (s .gear) (s .link) ++ linkLine (s .gear) (s .link) ++ aimLine (s .gear) ++ each (gearOf (s .gear)) (upto 0 17)
+unfoldable pub stateLines : Float → Sender → List ℕ → List ℕ
+stateLines burst s a =
+    stateLine burst (s .gear) (s .link) ++ linkLine (s .gear) (s .link) ++ aimLine (s .gear) ++ each (gearOf (s .gear)) (upto 0 17)
     ++ countsLine (s .counts) ++ piecesLine a (s .counts .pieces) ++ heldLine (s .«at_peer») (s .link .«peer_wave»)
     ++ restLine (s .«at_peer») ++ sentLine (s .«last_burst»)

@@ -45,13 +45,13 @@ pub fn end(t: &mut [u8], n: usize, c: Counts) -> usize
     puts(t, n, b"\n")
 }
 
-fn first(t: &mut [u8], n: usize, g: Gear, k: Link) -> usize
-    ensures { λ r. ⌜ (r, now (t .exit)) ≡ appended (n, now (t .entry)) (stateLine g k) ⌝ }
+fn first(t: &mut [u8], n: usize, burst_s: f64, g: Gear, k: Link) -> usize
+    ensures { λ r. ⌜ (r, now (t .exit)) ≡ appended (n, now (t .entry)) (stateLine «burst_s» g k) ⌝ }
 {
     let n = puts(t, n, b"state");
     let n = number(t, n, g.level as u64);
     let n = number(t, n, g.target as u64);
-    let n = maybe_double(t, n, k.connected, g.burst_s);
+    let n = maybe_double(t, n, k.connected, burst_s);
     let n = flag(t, n, k.connected);
     let n = flag(t, n, k.awaiting);
     let n = number(t, n, k.session as u64);
@@ -169,15 +169,15 @@ fn counts(t: &mut [u8], n: usize, c: Counts) -> usize
     puts(t, n, b"\n")
 }
 
-// The whole answer.
-pub fn state(t: &mut [u8], n: usize, s: Sender, area: &[u8]) -> usize
-    ensures { λ r. ⌜ (r, now (t .exit)) ≡ appended (n, now (t .entry)) (stateLines s (now (area .entry))) ⌝ }
+// The whole answer. burst_s: the burst seconds as the gear reads them.
+pub fn state(t: &mut [u8], n: usize, burst_s: f64, s: Sender, area: &[u8]) -> usize
+    ensures { λ r. ⌜ (r, now (t .exit)) ≡ appended (n, now (t .entry)) (stateLines «burst_s» s (now (area .entry))) ⌝ }
 {
     let g = s.gear;
     let k = s.link;
     let c = s.counts;
     let h = s.at_peer;
-    let n = first(t, n, g, k);
+    let n = first(t, n, burst_s, g, k);
     let n = link(t, n, g, k);
     let n = aim(t, n, g);
     let n = levels(t, n, g);
