@@ -34,6 +34,9 @@ pub extern "C" fn vanitycrow_queue(p: &Profile, s: &mut Sender, a: &mut [u8], by
     ensures { λ r. ⌜ (left r (now (s .exit)), now (a .exit)) ≡ answerNumber (queueOf (now (p .entry)) (now (s .entry)) (now (a .entry)) (now (bytes .entry))) ⌝ }
 {
     let q = numbered::queue(*p, *s, a, bytes);
+    if 0 < q.refusal {
+        return q.refusal;
+    }
     *s = q.next;
     q.refusal
 }
@@ -50,6 +53,9 @@ pub extern "C" fn vanitycrow_connect(
     ensures { λ q. ⌜ (left q (now (s .exit)), now (a .exit)) ≡ answerNumber (receiveOf (now (p .entry)) (now (s .entry)) (now (a .entry)) h (R.ConnAck r) []) ⌝ }
 {
     let q = numbered::connect(*p, *s, a, h, r);
+    if 0 < q.refusal {
+        return q.refusal;
+    }
     *s = q.next;
     q.refusal
 }
@@ -66,6 +72,9 @@ pub extern "C" fn vanitycrow_short_ack(
     ensures { λ q. ⌜ (left q (now (s .exit)), now (a .exit)) ≡ answerNumber (receiveOf (now (p .entry)) (now (s .entry)) (now (a .entry)) h (R.Ack r) []) ⌝ }
 {
     let q = numbered::short_ack(*p, *s, a, h, r);
+    if 0 < q.refusal {
+        return q.refusal;
+    }
     *s = q.next;
     q.refusal
 }
@@ -83,6 +92,9 @@ pub extern "C" fn vanitycrow_long_ack(
     ensures { λ q. ⌜ (left q (now (s .exit)), now (a .exit)) ≡ answerNumber (receiveOf (now (p .entry)) (now (s .entry)) (now (a .entry)) h (R.LongAck r) (now (payload .entry))) ⌝ }
 {
     let q = numbered::long_ack(*p, *s, a, h, r, payload);
+    if 0 < q.refusal {
+        return q.refusal;
+    }
     *s = q.next;
     q.refusal
 }
@@ -99,6 +111,9 @@ pub extern "C" fn vanitycrow_turn(
     ensures { λ q. ⌜ (left q (now (s .exit)), now (a .exit)) ≡ answerNumber (receiveOf (now (p .entry)) (now (s .entry)) (now (a .entry)) h (R.Turn r) []) ⌝ }
 {
     let q = numbered::turn(*p, *s, a, h, r);
+    if 0 < q.refusal {
+        return q.refusal;
+    }
     *s = q.next;
     q.refusal
 }
@@ -114,6 +129,9 @@ pub extern "C" fn vanitycrow_data_burst(
     ensures { λ r. ⌜ (leftBurst r (now (s .exit)), (now (a .exit), now (out .exit))) ≡ burstNumber (burstCall (now (p .entry)) (now (s .entry)) (now (a .entry)) (now (out .entry))) ⌝ }
 {
     let q = numbered::data_burst(*p, *s, a, out);
+    if 0 < q.burst.refusal {
+        return q.burst;
+    }
     *s = q.next;
     q.burst
 }
