@@ -143,7 +143,7 @@ fn private() -> u8
     1
 }
 END
-for file in Lists Claim; do
+for file in Lists Page; do
     printf -- '-- Definitions only.\nabbrev pub of%s : Type 0\nof%s = Unit\n' $file $file >"$small/crates/demand/specs/$file.antt"
 done
 printf 'pub demand3 : Unit\ndemand3 = tt\n' >"$small/crates/demand/proofs/Theorem.antt"
