@@ -154,7 +154,7 @@ printf 'pub date-back : Unit\ndate-back = tt\n\npub second-back : Unit\nsecond-b
 printf 'pub read-back : Unit\nread-back = tt\n' >"$small/crates/adif/proofs/Laws.antt"
 "$small/tools/believed" --names >"$work/believed"
 "$small/tools/believed" --rest >"$work/rest"
-for name in Kind cited Parameter inside «IN_QUOTES» helper call ofLists ofClaim Whole Part; do
+for name in Kind cited Parameter inside «IN_QUOTES» helper call ofLists ofPage Whole Part; do
     grep -q "^ *$name (line" "$work/believed" || { cat "$work/believed"; echo "believed: not reached: $name"; exit 1; }
     tried=$((tried + 1))
 done
