@@ -5,7 +5,7 @@
  * for all its calls. No call asks anything of its values: what it cannot take it refuses, with the number of the first refusal below that
  * holds, and then record, work area and output keep every byte.
  *
- * Pointers point to memory of the given lengths that does not overlap, also where a length is 0; a bool is 0 or 1.
+ * Pointers point to memory of the given lengths that does not overlap; NULL may stand where a length is 0, and only there. A bool is 0 or 1.
  */
 #ifndef VANITYCROW_H
 #define VANITYCROW_H
@@ -18,9 +18,9 @@ extern "C" {
 #endif
 
 /* The version of this interface (CHANGELOG.md). */
-#define VANITYCROW_VERSION "0.2.0"
+#define VANITYCROW_VERSION "0.3.0"
 #define VANITYCROW_VERSION_MAJOR 0
-#define VANITYCROW_VERSION_MINOR 2
+#define VANITYCROW_VERSION_MINOR 3
 #define VANITYCROW_VERSION_PATCH 0
 
 #define VANITYCROW_AREA_BYTES 49152
