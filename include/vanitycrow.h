@@ -5,7 +5,7 @@
  * for all its calls. No call asks anything of its values: what it cannot take it refuses, with the number of the first refusal below that
  * holds, and then record, work area and output keep every byte.
  *
- * Pointers point to memory of the given lengths that does not overlap, also where a length is 0; a bool is 0 or 1.
+ * Pointers point to memory of the given lengths that does not overlap; NULL may stand where a length is 0, and only there. A bool is 0 or 1.
  */
 #ifndef VANITYCROW_H
 #define VANITYCROW_H
@@ -18,9 +18,9 @@ extern "C" {
 #endif
 
 /* The version of this interface (CHANGELOG.md). */
-#define VANITYCROW_VERSION "0.2.0"
+#define VANITYCROW_VERSION "0.3.0"
 #define VANITYCROW_VERSION_MAJOR 0
-#define VANITYCROW_VERSION_MINOR 2
+#define VANITYCROW_VERSION_MINOR 3
 #define VANITYCROW_VERSION_PATCH 0
 
 #define VANITYCROW_AREA_BYTES 49152
@@ -124,10 +124,10 @@ struct vanitycrow_profile {
 /* Class of a channel: echoes beyond the guard, fading too fast for OFDM. */
 struct vanitycrow_class { bool echo; bool doppler; };
 
-/* The last reports, at most three: c is the newest. */
+/* The last reports, as many as count says, three at most: c is the newest. */
 struct vanitycrow_reports { uint8_t count; float a; float b; float c; };
 
-/* Per level: tried or not, the share of frames that came through, when (s), and bursts lost whole. */
+/* Per level: tried or not, the share of frames that came through where it was, when (s), and bursts lost whole. */
 struct vanitycrow_tries {
     bool tried[VANITYCROW_LEVELS];
     float success[VANITYCROW_LEVELS];
@@ -141,7 +141,7 @@ struct vanitycrow_holds { double blocked_until[VANITYCROW_LEVELS]; bool hold_all
 struct vanitycrow_gear {
     size_t level;
     size_t target;
-    double burst_s;
+    double burst_s; /* 0, as in a fresh record: the profile's max_burst_s */
     struct vanitycrow_maybe_db aim_db;
     struct vanitycrow_maybe_db last_report_db;
     struct vanitycrow_reports snr_reports;
@@ -191,7 +191,7 @@ struct vanitycrow_last_burst {
     size_t n;
 };
 
-/* The record that a station holds. The bytes between its fields have no meaning: an accepted call may leave anything there, a refused one keeps them.
+/* The record that a station holds. The bytes between its fields have no meaning: an accepted call may leave anything there, a refused one writes nothing.
  * Two records are compared field by field. */
 struct vanitycrow_sender {
     struct vanitycrow_gear gear;

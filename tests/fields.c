@@ -1,5 +1,6 @@
 /* Every limit of document 01 through the C interface, field by field: accepted on the limit and just inside, refused by its number just outside; and after each refused
- * call every byte of profile, record, work area and output is as before. The last line counts the checks; the status is 1 where one failed. */
+ * call every byte of profile, record, work area and output is as before, and all of them on pages that may only be read. The last line counts the checks; the status
+ * is 1 where one failed. */
 #include <math.h>
 #include <stdio.h>
 #include <string.h>
@@ -169,10 +170,9 @@ static void record_numbers(void) {
     const struct field fields[] = {
         {"gear.level", &g->level, SIZE, 1, 0, 16, BOTH},
         {"gear.target", &g->target, SIZE, 1, 0, 16, BOTH},
-        {"gear.burst_s", &g->burst_s, F64, 1, 1, 1000, BOTH},
+        {"gear.burst_s", &g->burst_s, F64, 1, 1, 1000, BOTH}, /* or 0: record_not_there */
         {"gear.aim_db.db", &g->aim_db.db, F32, 1, -100, 308, BOTH},
         {"gear.last_report_db.db", &g->last_report_db.db, F32, 1, -100, 308, BOTH},
-        {"gear.snr_reports.count", &g->snr_reports.count, U8, 1, 0, 3, BOTH},
         {"gear.snr_reports.a", &g->snr_reports.a, F32, 1, -100, 308, BOTH},
         {"gear.snr_reports.b", &g->snr_reports.b, F32, 1, -100, 308, BOTH},
         {"gear.snr_reports.c", &g->snr_reports.c, F32, 1, -100, 308, BOTH},
@@ -181,20 +181,60 @@ static void record_numbers(void) {
         {"gear.tries.fails", g->tries.fails, U8, 17, 0, 255, BOTH},
         {"gear.holds.blocked_until", g->holds.blocked_until, F64, 17, 0, 1001000000, HIGH_ONLY},
         {"link.session", &k->session, U8, 1, 0, 255, BOTH},
-        {"link.last_time", &k->last_time, F64, 1, 0, 1000000000, BOTH},
+        {"link.last_time", &k->last_time, F64, 1, 0, 1000000000, HIGH_ONLY},
         {"link.burst_id", &k->burst_id, U8, 1, 0, 3, BOTH},
         {"link.peer_heard", &k->peer_heard, U8, 1, 0, 3, BOTH},
-        {"link.peer_slot", &k->peer_slot, U8, 1, 0, 2, BOTH},
+        {"link.peer_slot", &k->peer_slot, U8, 1, 0, 255, BOTH},
         {"link.peer_doppler_hz", &k->peer_doppler_hz, F32, 1, 0, 63.5, OR_NAN},
-        {"link.peer_wave", &k->peer_wave, U8, 1, 0, 5, BOTH},
+        {"link.peer_wave", &k->peer_wave, U8, 1, 0, 255, BOTH},
         {"counts.waiting", &subject.s.counts.waiting, U32, 1, 0, 16384, BOTH},
     };
     memcpy(&subject, &flown_one, sizeof subject);
     g->aim_db.set = g->last_report_db.set = k->heard = true;
+    g->snr_reports = (struct vanitycrow_reports){.count = 3};
     memset(g->tries.tried, 1, sizeof g->tries.tried);
     check_fields(fields, COUNT(fields), 3, record_check);
+}
+
+/* Of the reports as many are looked at as are there, the newest first; a count above three reads as three. */
+static void record_reports(void) {
+    struct vanitycrow_reports *r = &subject.s.gear.snr_reports;
+    float *const newest_first[] = {&r->c, &r->b, &r->a};
+    memcpy(&subject, &flown_one, sizeof subject);
+    for (int count = 0; count <= UINT8_MAX; count++)
+        for (int k = 0; k < 3; k++) {
+            *r = (struct vanitycrow_reports){.count = (uint8_t)count};
+            *newest_first[k] = NAN;
+            record_check("a report that is not a number", k < count ? 3 : 0);
+        }
+}
+
+/* What is not there is not looked at; a field still at its value in a fresh record is sound. */
+static void record_not_there(void) {
+    struct vanitycrow_gear *g = &subject.s.gear;
+    struct vanitycrow_link *k = &subject.s.link;
+    memcpy(&subject, &flown_one, sizeof subject);
     g->aim_db = g->last_report_db = (struct vanitycrow_maybe_db){false, NAN};
     record_check("dB beside flags that are off", 0);
+    k->heard = false;
+    k->peer_heard = 255;
+    record_check("a number not heard", 0);
+    k->heard = true;
+    record_check("a number heard", 3);
+    memcpy(&subject, &flown_one, sizeof subject);
+    for (size_t l = 0; l < 17; l++) {
+        g->tries.success[l] = NAN;
+        g->tries.tried[l] = false;
+        record_check("a share of a level not tried", 0);
+        g->tries.tried[l] = true;
+        record_check("a share of a level tried", 3);
+        g->tries.tried[l] = false;
+    }
+    memcpy(&subject, &flown_one, sizeof subject);
+    g->burst_s = 0;
+    record_check("burst seconds of a fresh record", 0);
+    g->burst_s = nextafter(0, 1);
+    record_check("burst seconds above 0", 3);
 }
 
 /* Held pieces, the outstanding burst and their counts. */
@@ -473,6 +513,21 @@ static void order_of_refusals(void) {
     given = usual_arguments();
 }
 
+/* Each call was refused by each of its numbers, and by no other, on pages that may only be read. */
+static unsigned every_number(void) {
+    static const uint8_t last[CALLS] = {[CONNECT] = 6, [QUEUE] = 4, [SHORT_ACK] = 6, [LONG_ACK] = 7, [TURN] = 6, [BURST] = 4, [FIND] = 4};
+    unsigned calls = 0;
+    for (int c = 0; c < CALLS; c++)
+        for (uint8_t number = 1; number < COUNT(read_only[c]); number++) {
+            int wanted = number <= last[c] || (c == QUEUE && (number == 8 || number == 9)) || (c == BURST && number == 10);
+            calls += read_only[c][number];
+            if (wanted == (read_only[c][number] > 0)) continue;
+            printf("fields: %s, %u times refused by %u\n", call_names[c], read_only[c][number], (unsigned)number);
+            failures++;
+        }
+    return calls;
+}
+
 int main(void) {
     given = usual_arguments();
     if (!make_stations()) {
@@ -486,6 +541,8 @@ int main(void) {
     subject.p = usual();
     profile_sizes();
     record_numbers();
+    record_reports();
+    record_not_there();
     record_lists();
     record_list_counts();
     record_rest();
@@ -499,6 +556,7 @@ int main(void) {
     queue_lengths();
     output_lengths();
     order_of_refusals();
-    printf("fields: %u checks, %u failed\n", checks, failures);
+    unsigned again = every_number();
+    printf("fields: %u checks, %u failed; %u calls refused on pages that may only be read\n", checks, failures, again);
     return failures ? 1 : 0;
 }

@@ -61,8 +61,8 @@ done
 small=$work/small
 mkdir -p "$small/tools"
 cp tools/believed tools/sources.py "$small/tools/"
-for crate in base sender station demand frame; do
-    mkdir -p "$small/crates/$crate/src" "$small/crates/$crate/specs" "$small/crates/$crate/proofs/crc"
+for crate in base sender station demand rounding; do
+    mkdir -p "$small/crates/$crate/src" "$small/crates/$crate/specs" "$small/crates/$crate/proofs"
     echo "$crate:" >>"$small/crates.txt"
     echo "pub mod Lib" >"$small/crates/$crate/specs/Lib.antt"
     echo "// Nothing." >"$small/crates/$crate/src/lib.rt"
@@ -143,18 +143,21 @@ fn private() -> u8
     1
 }
 END
-for file in Lists Claim; do
+for file in Lists Page; do
     printf -- '-- Definitions only.\nabbrev pub of%s : Type 0\nof%s = Unit\n' $file $file >"$small/crates/demand/specs/$file.antt"
 done
-printf -- '-- Definitions only.\nabbrev pub fcs : Type 0\nfcs = Unit\n' >"$small/crates/frame/specs/V42.antt"
 printf 'pub demand3 : Unit\ndemand3 = tt\n' >"$small/crates/demand/proofs/Theorem.antt"
-printf 'pub v42 : Unit\nv42 = tt\n' >"$small/crates/frame/proofs/crc/Rule.antt"
-mkdir -p "$small/crates/calendar/proofs" "$small/crates/adif/proofs"
+printf 'pub in-binary32 : Unit\nin-binary32 = tt\n\npub in-binary64 : Unit\nin-binary64 = tt\n\npub in-conversions : Unit\nin-conversions = tt\n' \
+    >"$small/crates/rounding/proofs/Theorem.antt"
+mkdir -p "$small/crates/verdicts/proofs" "$small/crates/calendar/proofs" "$small/crates/adif/proofs"
+for law in queue reply burst lookup; do
+    printf 'pub %s-first : Unit\n%s-first = tt\n\n' $law $law
+done >"$small/crates/verdicts/proofs/Order.antt"
 printf 'pub date-back : Unit\ndate-back = tt\n\npub second-back : Unit\nsecond-back = tt\n' >"$small/crates/calendar/proofs/Laws.antt"
 printf 'pub read-back : Unit\nread-back = tt\n' >"$small/crates/adif/proofs/Laws.antt"
 "$small/tools/believed" --names >"$work/believed"
 "$small/tools/believed" --rest >"$work/rest"
-for name in Kind cited Parameter inside «IN_QUOTES» helper call ofLists ofClaim fcs Whole Part; do
+for name in Kind cited Parameter inside «IN_QUOTES» helper call ofLists ofPage Whole Part; do
     grep -q "^ *$name (line" "$work/believed" || { cat "$work/believed"; echo "believed: not reached: $name"; exit 1; }
     tried=$((tried + 1))
 done

@@ -3,13 +3,13 @@ use frame::encode;
 ghost use mathlib.Core.Path.{_≡_};
 ghost use Prim.Native.Nat.{_*_, _≤_};
 ghost use lib.ListN.{length};
-ghost use Rattle.frame.specs.Crc.{crc32 as crc32Of};
+ghost use Rattle.frame.specs.V42.{fcs, number};
 ghost use Rattle.frame.specs.Frame.{maxPayload};
 ghost use Rattle.bench_abi.specs.Burst.{benchFrames};
 
 #[no_mangle]
 pub extern "C" fn vanitycrow_crc32(bytes: &[u8]) -> u32
-    ensures { λ r. ⌜ r ≡ crc32Of (now (bytes .entry)) ⌝ }
+    ensures { λ r. ⌜ r ≡ number (fcs (now (bytes .entry))) ⌝ }
 {
     frame::crc::crc32(bytes)
 }

@@ -1,180 +1,59 @@
--- DEMAND 3: after every list of connects, queuings, short acks, long acks, turns and bursts, refused ones included, whatever the replies say, from a fresh
--- sender and a work area of any number of zeros, under any profile.
+-- DEMAND 3, as one page states it (specs/Page.antt): after every list of connects, queuings, short acks, long acks, turns and bursts, refused ones included,
+-- whatever the replies say, from a fresh sender and a work area of any number of zeros, under any profile.
 -- Assumes nothing.
-use mathlib.Core.Path.{_≡_, refl, sym, ap, ap₂, _∙_, subst}
-use mathlib.Core.List.{List, [], _∷_}
-use mathlib.Core.Bool.{Bool, true, false, cond, not, _&&_, false≢true}
-use Prim.Native.Nat.{ℕ, zero, suc, _≤_, _<_}
+use mathlib.Core.Path.{_≡_, refl, sym, ap, _∙_, subst}
+use mathlib.Core.List.{List, [], _∷_, _++_}
+use mathlib.Core.Bool.{true, false}
+use Prim.Native.Nat.{ℕ, _≤_}
 use native.Mathlib.Omega.{arith}
-use lib.Dec.{leb, eqb}
-use lib.ListN.{length, getD, replicate, length-replicate}
-use borrow.Author.Tests.{leb-true, leb-false}
-use Rattle.laws.proofs.Picks.{test, and-yes, and-first, and-second}
-use Rattle.laws.proofs.Tests.{all-at}
-use Rattle.config.specs.declared.Profile.{Profile}
-use Rattle.config.specs.Ranged.{Ranged}
-use Rattle.config.specs.Ranges.{inRange, inOrder}
-use Rattle.config.proofs.ranges.Ranged.{ranged}
-use Rattle.ledger.specs.Ledger as L
-use Rattle.ledger.specs.Calls.{Along, run, history, tally}
-use Rattle.ledger.specs.Claim.{Demand3}
-use Rattle.ledger.specs.Tally as T
-use Rattle.ledger.specs.Tally.{silent}
-use Rattle.ledger.proofs.Refine.{Refines, refined, ok-after}
-use Rattle.area.specs.Layout.{areaBytes}
-use Rattle.record.specs.Fresh.{fresh}
-use Rattle.record.specs.Profiles.{sizesOf}
-use Rattle.record.proofs.View.{view-fresh}
-use Rattle.soundness.specs.Soundness.{soundOk}
-use Rattle.soundness.proofs.fields.Sound.{sound-test, profile-sizes}
-use Rattle.laws.specs.Bytes.{overwrite, Bytes}
-use Rattle.config.specs.Durations.{frameBytes}
-use Rattle.pieces.specs.Burst.{framesSent}
-use Rattle.outgoing.specs.Outgoing.{burstOf, output}
-use Rattle.sender.specs.declared.Bursted.{Bursted}
-use Rattle.invariant.proofs.Well.{Well, fresh-well}
-use Rattle.invariant.proofs.Bursts.{choice-keeps-air}
-use Rattle.refusals.specs.declared.Verdict.{Verdict}
-use Rattle.refusals.specs.Refusals.{kindOf}
-use Rattle.verdicts.specs.Verdicts.{passed, standing, firstOf, queueVerdict, receiveVerdict, burstVerdict}
-use Rattle.verdicts.proofs.Passed.{standing-three, burst-passed}
-use Rattle.demand.specs.Lists.{Call, queues, hears, bursts, State, Given, freshStart, shown, next, told, sizesFor}
-use Rattle.demand.specs.Claim.{reached, Demand}
-use Rattle.demand.proofs.Answers.{queue-no, queue-told, hear-no, hear-told, burst-no, burst-silent, burst-is}
-use Rattle.demand.proofs.Steps.{sizes, Ok, call, does, does-burst}
-use Rattle.limits.specs.Limits.{minPayload}
-use Rattle.ledger.specs.Sizes.{Sizes}
-use Rattle.ledger.specs.CallsCode.{idle}
-use Rattle.ledger.specs.SizesCode.{SizeRange}
+use lib.Dec.{eqb}
+use lib.ListN.{length, take, drop}
+use borrow.Author.Tests.{eq-eqb, ne-eqb}
+use Rattle.laws.specs.Lists.{listed}
+use Rattle.ledger.specs.Ledger.{Piece, len, end, find, offs}
+use Rattle.ledger.specs.CoverCode.{Ascend}
+use Rattle.demand.specs.Lists.{Call, queues, Given}
+use Rattle.demand.specs.Page.{Hold, c, s, t, DemandThree}
+use Rattle.demand.specs.PageCode.{Reached}
+use Rattle.demand.proofs.Payloads.{take-drop-more}
+use Rattle.demand.proofs.Reached.{reached}
 
-zeros-bytes : (n : ℕ) → Bytes (replicate n 0)
-zeros-bytes zero i = omega arith
-zeros-bytes (suc n) zero = omega arith
-zeros-bytes (suc n) (suc i) = zeros-bytes n i
+-- what holds of the piece that is found at an offset holds of each piece
+hold : (bs ys : List ℕ) (m k n : ℕ) (ps : List Piece) → Ascend m k n ps
+    → ((o : ℕ) → k ≤ o → listed o (offs ps) ≡ true → find o ps ≡ take (length (find o ps)) (drop o bs)) → Hold (bs ++ ys) ps
+hold bs ys m k n [] a f = tt
+hold bs ys m k n (q ∷ ps) a f =
+    let here : eqb (q .off) (q .off) ≡ true = eq-eqb (q .off) (q .off) refl in
+    let e : find (q .off) (q ∷ ps) ≡ q .bytes = rw here refl in
+    let g = f (q .off) (a .0) (rw here refl) in
+    let h : q .bytes ≡ take (len q) (drop (q .off) bs) = sym e ∙ g ∙ ap (λ (x : List ℕ). take (length x) (drop (q .off) bs)) e in (
+      a .1,
+      h ∙ sym (take-drop-more (len q) (q .off) bs ys (omega (arith, ap length h))),
+      hold bs ys m (end q) n ps (a .3)
+          (λ o b l.
+          let x : eqb o (q .off) ≡ false = ne-eqb o (q .off) (λ e. omega (arith, a .1, e)) in
+          let y : find o (q ∷ ps) ≡ find o ps = rw x refl in
+          let g = f o (omega (arith, a .0)) (rw x l) in sym y ∙ g ∙ ap (λ (z : List ℕ). take (length z) (drop o bs)) y),
+    )
 
--- ---- the calls get through
-
-module _ (p : Profile) (rg : Ranged p) (io : inOrder p ≡ true) (six : length (p .codes .ends) ≤ 6) where
-  refines : Refines (sizesOf p) (sizes p rg io six) State Call Given (Ok p rg io six) (next p) shown (call p rg io six) (told p)
-  refines =
+pub demand3 : DemandThree
+demand3 p six n is gs =
+    let d : (i : Call) → Given i (c p n is) → Reached p n is i = reached p six n is gs in
+    let q = d (queues []) (λ i. omega arith) in
+    let l = q .ledger in (
       record {
-        allowed = λ i c g so ok. does p rg io six i c g ok .allowed;
-        steps = λ i c g so ok. does p rg io six i c g ok .steps;
-        tells = λ i c g so ok. does p rg io six i c g ok .tells;
-        keeps = λ i c g so ok. does p rg io six i c g ok .keeps;
-      }
-
-  module _ (n : ℕ) (large : areaBytes ≤ n) (is : List Call) (gs : Along (next p) Given is (freshStart n)) where
-    fresh-ok : Well p fresh (replicate n 0)
-    fresh-ok = fresh-well p (replicate n 0) (zeros-bytes n) (omega (arith, length-replicate {A = ℕ} n 0))
-
-    through : (i : Call) → Given i (reached p n is)
-        → Demand3 (sizesOf p) (history (next p) (told p) is (freshStart n)) (shown (reached p n is)) (tally (next p) (told p) is (freshStart n) T.start) (told p i (reached p n is)) (shown (next p i (reached p n is)))
-    through i g =
-        refined (sizesOf p) (sizes p rg io six) State Call Given (Ok p rg io six) (next p) shown (call p rg io six) (told p) refines (freshStart n) (view-fresh (replicate n 0)) fresh-ok is gs i g
-
-    well : Well p (reached p n is .0) (reached p n is .1)
-    well = ok-after (sizesOf p) (sizes p rg io six) State Call Given (Ok p rg io six) (next p) shown (call p rg io six) (told p) refines (freshStart n) (view-fresh (replicate n 0)) fresh-ok is gs
-
--- ---- every call is refused
-
-first-no : (v w : Verdict) → passed v ≡ false → passed (firstOf v w) ≡ false
-first-no v w e = ap (λ (t : Bool). passed (cond t w v)) e ∙ e
-
-module _ (p : Profile) (n : ℕ) (refused : (connect : Bool) → passed (standing p fresh (replicate n 0) connect) ≡ false) where
-  stays : (i : Call) → (next p i (freshStart n) ≡ freshStart n) × (told p i (freshStart n) ≡ silent)
-  unfolding queueVerdict receiveVerdict burstVerdict
-  stays (queues bs) =
-      let e = first-no (standing p fresh (replicate n 0) false) _ (refused false) in
-      (queue-no p (freshStart n) bs e, queue-told p (freshStart n) bs false e)
-  stays (hears h r b) =
-      let e = first-no (standing p fresh (replicate n 0) (eqb (kindOf r) 0)) _ (refused (eqb (kindOf r) 0)) in
-      (hear-no p (freshStart n) h r b e, hear-told p (freshStart n) h r b false e)
-  stays (bursts out) =
-      let e = first-no (standing p fresh (replicate n 0) false) _ (refused false) in
-      (burst-no p (freshStart n) out e, burst-silent p (freshStart n) out e)
-
-  module _ (z : Sizes) (zr : SizeRange z) where
-    idles : Refines z zr State Call Given (λ (c : State). c ≡ freshStart n) (next p) shown (λ (i : Call) (c : State). idle) (told p)
-    idles =
-        record {
-          allowed = λ i c g so e. tt;
-          steps = λ i c g so e. subst (λ (x : State). shown (next p i x) ≡ shown x) (sym e) (ap shown (stays i .0));
-          tells = λ i c g so e. subst (λ (x : State). told p i x ≡ silent) (sym e) (stays i .1);
-          keeps = λ i c g so e. ap (next p i) e ∙ stays i .0;
-        }
-
-    module _ (is : List Call) (gs : Along (next p) Given is (freshStart n)) where
-      refused-all : (i : Call) → Given i (reached p n is)
-          → Demand3 z (history (next p) (told p) is (freshStart n)) (shown (reached p n is)) (tally (next p) (told p) is (freshStart n) T.start) (told p i (reached p n is)) (shown (next p i (reached p n is)))
-      refused-all i g =
-          refined z zr State Call Given (λ (c : State). c ≡ freshStart n) (next p) shown (λ (j : Call) (c : State). idle) (told p) idles (freshStart n) (view-fresh (replicate n 0)) refl is gs i g
-
-      at-start : reached p n is ≡ freshStart n
-      at-start = ok-after z zr State Call Given (λ (c : State). c ≡ freshStart n) (next p) shown (λ (j : Call) (c : State). idle) (told p) idles (freshStart n) (view-fresh (replicate n 0)) refl is gs
-
--- a call that stands finds a profile that is not refused, and a work area that is large enough
-stands-finds : (p : Profile) (n : ℕ) (connect : Bool) → passed (standing p fresh (replicate n 0) connect) ≡ true → ((inRange p && inOrder p) ≡ true) × (areaBytes ≤ n)
-unfolding soundOk
-stands-finds p n connect e =
-    let h = standing-three p fresh (replicate n 0) connect e in
-    (and-yes (inRange p) (inOrder p) (h .0) (h .1), omega (arith, leb-true areaBytes (length (replicate n 0)) (all-at _ 0 (h .2)), length-replicate {A = ℕ} n 0))
-
-refused-by : (p : Profile) (n : ℕ) → ((inRange p && inOrder p) ≡ true → areaBytes ≤ n → ⊥) → (connect : Bool) → passed (standing p fresh (replicate n 0) connect) ≡ false
-refused-by p n f connect =
-    test (passed (standing p fresh (replicate n 0) connect))
-    (λ e. let h = stands-finds p n connect e in absurd (f (h .0) (h .1)))
-    (λ e. e)
-
--- ---- DEMAND 3
-
-least-sizes : SizeRange (record { short = minPayload; long = minPayload; top = 0 })
-least-sizes = record { least = omega arith; order = omega arith; most = omega arith; bits = omega arith }
-
-module _ (p : Profile) (six : length (p .codes .ends) ≤ 6) (n : ℕ) (is : List Call) (gs : Along (next p) Given is (freshStart n)) where
-  abbrev c : State
-  c = reached p n is
-
-  abbrev Claimed : Sizes → Call → Type 0
-  Claimed z i = Demand3 z (history (next p) (told p) is (freshStart n)) (shown c) (tally (next p) (told p) is (freshStart n) T.start) (told p i c) (shown (next p i c))
-
-  sizes-for : (b : Bool) → (inRange p && inOrder p) ≡ b → sizesFor p ≡ cond b (sizesOf p) (record { short = minPayload; long = minPayload; top = 0 })
-  sizes-for b e = ap (λ (t : Bool). cond t (sizesOf p) (record { short = minPayload; long = minPayload; top = 0 })) e
-
-  -- where the profile is refused or the work area is too short
-  turned-down : (z : Sizes) → SizeRange z → sizesFor p ≡ z → ((inRange p && inOrder p) ≡ true → areaBytes ≤ n → ⊥) → (i : Call) → Given i c → Demand p n is i
-  unfolding burstVerdict
-  turned-down z zr e f i g =
-      let refused = refused-by p n f in
-      let none : (out : List ℕ) → passed (burstVerdict p (c .0) (c .1) (length out)) ≡ true → ⊥ =
-      λ out ok. false≢true (sym (first-no (standing p fresh (replicate n 0) false) _ (refused false)) ∙ subst (λ (x : State). passed (burstVerdict p (x .0) (x .1) (length out)) ≡ true) (at-start p n refused z zr is gs) ok) in
-      record {
-        bytes = subst (λ (x : Sizes). Claimed x i) (sym e) (refused-all p n refused z zr is gs i g);
-        written = λ out ok. absurd (none out ok);
-        air = λ out ok. absurd (none out ok);
-        sound = λ v l. absurd (f v l);
-      }
-
-  taken-up : (v : (inRange p && inOrder p) ≡ true) → areaBytes ≤ n → (i : Call) → Given i c → Demand p n is i
-  unfolding burstOf output
-  taken-up v l i g =
-      let rg = ranged p (and-first (inRange p) (inOrder p) v) in
-      let io = and-second (inRange p) (inOrder p) v in
-      let w = well p rg io six n l is gs in
-      record {
-        bytes = subst (λ (x : Sizes). Claimed x i) (sym (sizes-for true v)) (through p rg io six n l is gs i g);
-        written = λ out ok.
-            ap (λ (x : Bursted × (List ℕ × List ℕ)). x .1 .1) (burst-is p c out true ok)
-            ∙ sym (ap (λ (x : L.Sender). overwrite out 0 (framesSent (frameBytes p (c .0 .gear .level)) (x .pieces) (x .sent))) (does-burst p rg io six out c w ok .steps));
-        air = λ out ok. choice-keeps-air p rg (c .0) (c .1) w six;
-        sound = λ x y. sound-test p (c .0) (c .1) (w .sound) (w .arrays);
-      }
-
-  -- DEMAND 3, of every list of calls and every further call
-  pub demand3 : (i : Call) → Given i c → Demand p n is i
-  demand3 i g =
-      test (inRange p && inOrder p)
-      (λ v. test (leb areaBytes n)
-      (λ l. taken-up v (leb-true areaBytes n l) i g)
-      (λ l. turned-down (sizesOf p) (profile-sizes p (ranged p (and-first (inRange p) (inOrder p) v)) (and-second (inRange p) (inOrder p) v)) (sizes-for true v) (λ x y. omega (arith, leb-false areaBytes n l, y)) i g))
-      (λ v. turned-down (record { short = minPayload; long = minPayload; top = 0 }) least-sizes (sizes-for false v) (λ x y. false≢true (sym v ∙ x)) i g)
+        sum = l .sum;
+        taken = l .taken;
+        order = l .history;
+        waiting = l .waiting;
+        covers = l .covers;
+        holds = subst (λ (b : List ℕ). Hold b (s p n is .pieces)) (sym (l .history)) (hold _ (t p n is .waiting) _ 0 (s p n is .next) (s p n is .pieces) (l .ascends) (λ o k h. l .holds o h));
+        acked = l .acked;
+        next = l .next;
+        flying = l .flying;
+        pieces = l .pieces;
+      },
+      q .sound,
+      (λ i g. let r = d i g .ledger in record { exactly = r .exactly; keeps = r .keeps }),
+      q .sends,
+    )

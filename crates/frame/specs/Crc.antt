@@ -1,4 +1,6 @@
--- The check sum of ITU-T V.42 byte by byte, as `crc32` of frame.rs reckons it. proofs/crc/Rule.antt proves it equal to V.42's own rule. Definitions only.
+-- The check sum byte by byte, as `crc32` of frame.rs reckons it; proofs/crc/Rule.antt proves it equal to V.42's rule, which the
+-- contracts cite.
+-- Follows the code or serves proofs: nothing here has to be believed.
 use mathlib.Core.List.{List, [], _∷_}
 use Prim.Native.Nat.{ℕ, zero, suc, _-_, _*_, _/_, _%_}
 use lib.Bits.{bitXor}

@@ -4,7 +4,7 @@ use Prim.Native.Nat.{ℕ, _-_, min}
 use lib.ListN.{length, replicate}
 use Rattle.laws.specs.Little.{le}
 use Rattle.limits.specs.Limits.{longestPayload}
-use Rattle.frame.specs.Crc.{crc32}
+use Rattle.frame.specs.V42.{fcs, number}
 
 -- Frame::max_payload: min(size - 10, 255)
 abbrev pub maxPayload : ℕ → ℕ
@@ -18,6 +18,6 @@ headOf off n = 3 ∷ 0 ∷ (le 3 off ++ (n ∷ []))
 abbrev pub bodyOf : ℕ → ℕ → List ℕ → List ℕ
 bodyOf size off payload = (headOf off (length payload) ++ payload) ++ replicate (size - 10 - length payload) 0
 
--- Frame::encode of a data frame
+-- Frame::encode of a data frame: behind the body its check sequence by V.42's rule, as a number low byte first
 unfoldable pub frameOf : ℕ → ℕ → List ℕ → List ℕ
-frameOf size off payload = bodyOf size off payload ++ le 4 (crc32 (bodyOf size off payload))
+frameOf size off payload = bodyOf size off payload ++ le 4 (number (fcs (bodyOf size off payload)))

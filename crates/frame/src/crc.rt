@@ -4,7 +4,8 @@ ghost use mathlib.Core.Path.{_≡_};
 ghost use Prim.Native.Nat.{_+_, _*_, _%_, _≤_, _<_};
 ghost use lib.Bits.{bitXor};
 ghost use lib.ListN.{length, drop};
-ghost use Rattle.frame.specs.Crc.{shifts, feedBytes, crc32 as crc32Of};
+ghost use Rattle.frame.specs.V42.{fcs, number};
+ghost use Rattle.frame.specs.Crc.{shifts, feedBytes};
 ghost use Rattle.frame.specs.Table.{tableOf};
 
 // Sixteen tables of 16, one after the other.
@@ -332,7 +333,7 @@ fn rest(t: &[u32; 256], start: u32, bytes: &[u8], from: usize) -> u32
 // `crc32` by tables that are lent: for many check sums one after the other.
 pub fn crc32_by(t: &[u32; 256], bytes: &[u8]) -> u32
     requires { ⌜ now t ≡ tableOf ⌝ }
-    ensures { λ r. ⌜ r ≡ crc32Of (now (bytes .entry)) ⌝ }
+    ensures { λ r. ⌜ r ≡ number (fcs (now (bytes .entry))) ⌝ }
 {
     let mut c: u32 = 0xFFFFFFFF;
     let mut i = 0;
@@ -344,7 +345,7 @@ pub fn crc32_by(t: &[u32; 256], bytes: &[u8]) -> u32
 }
 
 pub fn crc32(bytes: &[u8]) -> u32
-    ensures { λ r. ⌜ r ≡ crc32Of (now (bytes .entry)) ⌝ }
+    ensures { λ r. ⌜ r ≡ number (fcs (now (bytes .entry))) ⌝ }
 {
     let t = table();
     crc32_by(&t, bytes)

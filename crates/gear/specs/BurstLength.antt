@@ -3,7 +3,7 @@ use Prim.Native.Nat.{ℕ, _+_}
 use mathlib.Core.Bool.{Bool, false, cond, not, _&&_, _||_}
 use lib.Dec.{eqb}
 use lib.Ieee.{Float, inf, binary32, binary64, add, sub, mul, div, le, lt, eq}
-use Rattle.ieee.specs.Range.{w32, w64}
+use Rattle.ieee.specs.Range.{inside, w32, w64}
 use Rattle.float.specs.Pick.{minF, maxF, clampF, absF}
 use Rattle.laws.specs.Span.{upto, fold}
 use Rattle.level.specs.Ladder.{waveRank}
@@ -25,9 +25,17 @@ cleanBurst p l cue =
     let lo = p .lengths .«max_burst_s» in
     clampF (sub binary64 (sub binary64 (div binary64 (add binary64 (add binary64 pre ack) turn) (p .lengths .«burst_overhead»)) ack) turn) lo (maxF (p .lengths .«max_burst_long_s») lo)
 
+-- "burst seconds 1 to 1,000", or 0, the value in a fresh record
+abbrev pub burstOk : Float → Bool
+burstOk s = eq s (w64 0) || inside (w64 1) (w64 1000) s
+
+-- `burst_s`: a fresh record's 0 stands for the usual seconds, the profile's max_burst_s, with which Station::new begins
+unfoldable pub burstSeconds : Float → Float → Float
+burstSeconds usual s = cond (eq s (w64 0)) usual s
+
 -- `burst_len_s`
 unfoldable pub burstLen : Profile → Gear → ℕ → Float
-burstLen p g l = cond (p .lengths .«burst_adapt») (minF (g .«burst_s») (cleanBurst p l (cueFor p g l))) (p .lengths .«max_burst_s»)
+burstLen p g l = cond (p .lengths .«burst_adapt») (minF (burstSeconds (p .lengths .«max_burst_s») (g .«burst_s»)) (cleanBurst p l (cueFor p g l))) (p .lengths .«max_burst_s»)
 
 -- `next_entry`: the lowest SNR that a faster level wants, by the plain thresholds
 unfoldable pub nextEntry : Marks → ℕ → ℕ → Float
@@ -45,6 +53,6 @@ adapted p at loss snr g =
     withReport
     (withBurst g
     (cond (eq loss (w32 0) && eqb (g .level) at && steady (g .«last_report_db») (p .lengths .«burst_steady_db») snr && far (p .plain) (p .lengths .«burst_climb_db») at (p .«max_level») snr)
-    (minF (mul binary64 (g .«burst_s») (w64 2)) (maxF (p .lengths .«max_burst_long_s») (p .lengths .«max_burst_s»)))
+    (minF (mul binary64 (burstSeconds (p .lengths .«max_burst_s») (g .«burst_s»)) (w64 2)) (maxF (p .lengths .«max_burst_long_s») (p .lengths .«max_burst_s»)))
     (p .lengths .«max_burst_s»)))
     (some snr)

@@ -13,9 +13,9 @@ use Rattle.config.specs.declared.Profile.{Profile}
 use Rattle.config.specs.Ranged.{Ranged}
 use Rattle.report.specs.declared.ChanClass.{ChanClass}
 use Rattle.levels.specs.declared.memory.Tries.{Tries}
-use Rattle.levels.specs.Memory.{pushed, noted, failed, cleared, hits, marked, channelFailed}
+use Rattle.levels.specs.Memory.{noted, failed, cleared, hits, marked, channelFailed}
 use Rattle.gear.specs.declared.Gear.{Gear}
-use Rattle.gear.specs.Setters.{withTries, withBurst, withClass}
+use Rattle.gear.specs.Setters.{withTries, withClass}
 use Rattle.gear.specs.BurstLength.{adapted}
 use Rattle.gear.specs.declared.Outcome.{Outcome}
 use Rattle.gear.specs.Judging.{aimed, capped, incrementsOnly, blamed, failuresCounted, byGoodput, worthKeeping, held, byLadder, judged, arrived, onAck}
@@ -61,15 +61,15 @@ module _ (at : ℕ) (now : Float) (n : Past now) where
       either Times (lt wholeLoss loss) _ _ (either Times channel _ _ (channel-times (failed t at) (failed-times t s)) (failed-times t s))
       (either Times (eq loss (w32 0)) _ _ (cleared-times t s) s)
 
--- ---- transitions: success times, and the count of reports
+-- ---- transitions: success times
 
 abbrev Dated : Gear → Type 0
-Dated g = (g .«snr_reports» .count ≤ 3) × Times (g .tries)
+Dated g = Times (g .tries)
 
 module _ (p : Profile) (now : Float) (n : Past now) where
   aimed-dated : (g : Gear) (snr : Float) → Dated g → Dated (aimed p g snr)
-  unfolding aimed pushed
-  aimed-dated g snr d = (omega arith, d .1)
+  unfolding aimed
+  aimed-dated g snr d = d
 
   increments-dated : (g : Gear) → Dated g → Dated (incrementsOnly p g now)
   unfolding incrementsOnly
@@ -77,12 +77,12 @@ module _ (p : Profile) (now : Float) (n : Past now) where
 
   goodput-dated : (at : ℕ) (loss snr : Float) (g : Gear) → Dated g → Dated (byGoodput p at loss snr now g)
   unfolding byGoodput
-  goodput-dated at loss snr g d = (d .0, counted-times at now n loss (blamed p at snr) (g .tries) (d .1))
+  goodput-dated at loss snr g d = counted-times at now n loss (blamed p at snr) (g .tries) d
 
   held-dated : (at : ℕ) (loss snr : Float) (g : Gear) → Dated g → Dated (held p at loss snr now g)
   unfolding held
   held-dated at loss snr g d =
-      either Dated (lt wholeLoss loss) _ _ (d .0, failed-times at now n (g .tries) (d .1)) (either Dated (lt lossToStepDown loss) _ _ d (d .0, cleared-times at now n (g .tries) (d .1)))
+      either Dated (lt wholeLoss loss) _ _ (failed-times at now n (g .tries) d) (either Dated (lt lossToStepDown loss) _ _ d (cleared-times at now n (g .tries) d))
 
   ladder-dated : (at : ℕ) (loss snr : Float) (g : Gear) → Dated g → Dated (byLadder p at loss snr now g)
   unfolding byLadder
@@ -92,7 +92,7 @@ module _ (p : Profile) (now : Float) (n : Past now) where
   unfolding judged adapted
   judged-dated at loss snr g d =
       let x = withTries g (noted (g .tries) at (sub binary32 (w32 1) loss) now) in
-      let e : Dated x = (d .0, noted-times at now n (g .tries) (sub binary32 (w32 1) loss) (d .1)) in
+      let e : Dated x = noted-times at now n (g .tries) (sub binary32 (w32 1) loss) d in
       either Dated (p .goodput) _ _ (goodput-dated at loss snr x e) (ladder-dated at loss snr x e)
 
   ack-dated : (g : Gear) (o : Outcome) (snr : Float) → Dated g → Dated (onAck p g o snr now)
@@ -121,7 +121,7 @@ to-laws g w =
       aim = s .aim;
       last = s .last;
       reports = record { a = s .a; b = s .b; c = s .c };
-      shares = λ k h. (w .1 .shares k h, s .shares k h);
+      shares = record { width = w .1 .width; share = λ k h z. (w .1 .shares k h z, s .shares k h z) };
       ends = s .ends;
     }
 
@@ -133,25 +133,21 @@ from-laws g s d = (
     burst = s .burst;
     aim = s .aim;
     last = s .last;
-    count = d .0;
     a = s .reports .a;
     b = s .reports .b;
     c = s .reports .c;
-    shares = λ k h. s .shares k h .1;
-    times = d .1;
+    shares = λ k h z. s .shares .share k h z .1;
+    times = d;
     ends = s .ends;
   },
-  record { shares = λ k h. s .shares k h .0 },
+  record { width = s .shares .width; shares = λ k h z. s .shares .share k h z .0 },
 )
 
 dated : (g : Gear) → WellGear g → Dated g
-dated g w = (w .0 .count, w .0 .times)
+dated g w = w .0 .times
 
 pub class-well : (g : Gear) (c : ChanClass) → WellGear g → WellGear (withClass g c)
 class-well g c w = from-laws (withClass g c) (let s = to-laws g w in record { level = s .level; target = s .target; burst = s .burst; aim = s .aim; last = s .last; reports = s .reports; shares = s .shares; ends = s .ends }) (dated g w)
-
-pub burst-well : (g : Gear) (x : Float) → In (w64 1) (w64 1000) x → WellGear g → WellGear (withBurst g x)
-burst-well g x i w = from-laws (withBurst g x) (let s = to-laws g w in record { level = s .level; target = s .target; burst = i; aim = s .aim; last = s .last; reports = s .reports; shares = s .shares; ends = s .ends }) (dated g w)
 
 module _ (p : Profile) (k : Ranged p) where
   pub ack-gear-well : (g : Gear) (o : Outcome) (snr now : Float) → OutcomeInRange o → DbInRange snr → TimeInRange now → WellGear g → WellGear (onAck p g o snr now)

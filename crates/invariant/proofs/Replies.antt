@@ -12,10 +12,9 @@ use lib.Ieee.{Float, binary32, span, climb, size, odd, units, round, neg, div, l
 use Rattle.ieee.specs.Range.{In, w32}
 use Rattle.ieee.proofs.Bounds.{in-wider}
 use Rattle.ieee.proofs.Value.{lt→le, lt-not-le, le-no-nan}
-use Rattle.float_laws.proofs.Reports.{snr-in, spread-in, slot-in}
+use Rattle.float_laws.proofs.Reports.{snr-in, spread-in}
 use Rattle.laws.specs.Bytes.{Bytes}
 use Rattle.laws.proofs.Picks.{either, test, and-first, and-second}
-use Rattle.level.proofs.Laws.{wave-lt}
 use Rattle.report.specs.Report.{spreadOf, reportAt}
 use Rattle.report.specs.declared.ChanReport.{ChanReport}
 use Rattle.report.specs.Ack.{infoOf, noReport}
@@ -23,10 +22,9 @@ use Rattle.report.specs.declared.ack.AckInfo.{AckInfo}
 use Rattle.config.specs.declared.Profile.{Profile}
 use Rattle.config.specs.Ranged.{Ranged}
 use Rattle.config.specs.Ranges.{inOrder}
-use Rattle.gear.specs.Setters.{withBurst}
 use Rattle.gear_laws.specs.Sound.{OutcomeInRange, DbInRange, TimeInRange}
 use Rattle.ledger.specs.Reply.{Reply, shortAck, longAck}
-use Rattle.ledger.specs.Ledger.{settles, queue}
+use Rattle.ledger.specs.Ledger.{queue}
 use Rattle.record.specs.Profiles.{sizesOf}
 use Rattle.record.specs.View.{view, store, storeArea}
 use Rattle.record.specs.declared.Link.{Link}
@@ -41,7 +39,7 @@ use Rattle.replies.specs.declared.Turn.{Turn}
 use Rattle.replies.specs.Replies.{ackNoted, longDb, shortAcked, longAcked, turnDb, nothingHeard, turned, connectedTo}
 use Rattle.soundness.proofs.fields.Sound.{profile-sizes}
 use Rattle.invariant.specs.Invariant.{AckIn, LongAckIn, TurnIn, ConnAckIn}
-use Rattle.invariant.proofs.Gears.{class-well, burst-well, ack-gear-well, connected-gear-well, turn-gear-well}
+use Rattle.invariant.proofs.Gears.{class-well, ack-gear-well, connected-gear-well, turn-gear-well}
 use Rattle.invariant.proofs.Outcomes.{outcome-counts}
 use Rattle.invariant.proofs.Ledgers.{on-ack-kept, clear-kept, queue-kept}
 use Rattle.invariant.proofs.Well.{Well, well-gear, well-kept, given-well, stored-well}
@@ -74,14 +72,12 @@ module _ (p : Profile) (rg : Ranged p) (io : inOrder p ≡ true) where
         time = k .time;
         number = k .number;
         heard = k .heard;
-        slot = k .slot;
-        wave = either (λ (n : ℕ). n ≤ 5) (settles r (view s a)) _ _ (omega (arith, wave-lt (s .gear .level))) (k .wave);
         notBelow = k .notBelow;
         notAbove = k .notAbove;
       })
 
   noted-sound : (k : Link) (now : Float) (turn disc : Bool) (n : ℕ) → TimeInRange now → n ≤ maxNumber → SoundLink k → SoundLink (ackNoted k now turn disc n)
-  noted-sound k now turn disc n t h s = record { time = t; number = s .number; heard = h; slot = s .slot; wave = s .wave; notBelow = s .notBelow; notAbove = s .notAbove }
+  noted-sound k now turn disc n t h s = record { time = t .high; number = s .number; heard = λ z. h; notBelow = s .notBelow; notAbove = s .notAbove }
 
   pub short-well : (h : Heard) (r : Ack) (s : Sender) (a : List ℕ) → AckIn h r → Well p s a → WellBoth p (shortAcked p h r s a)
   unfolding shortAcked
@@ -91,7 +87,7 @@ module _ (p : Profile) (rg : Ranged p) (io : inOrder p ≡ true) where
       either (WellBoth p) (s .link .awaiting) _ _
       (ack-well (shortAck (r .burst) (r .bitmap)) (r .stored) (r .«snr_db») (h .time) _ a (i .db) (i .time)
       (given-well p s a _ _ w (class-well (s .gear) (r .class) (well-gear p s a w))
-      (record { time = k .time; number = k .number; heard = k .heard; slot = i .slot; wave = k .wave; notBelow = q .notBelow; notAbove = q .notAbove })))
+      (record { time = k .time; number = k .number; heard = k .heard; notBelow = q .notBelow; notAbove = q .notAbove })))
       (given-well p s a (s .gear) _ w (well-gear p s a w) k)
 
   pub long-well : (h : Heard) (r : LongAck) (i : AckInfo) (s : Sender) (a : List ℕ) → LongAckIn p h i → Well p s a → WellBoth p (longAcked p h r i s a)
@@ -101,7 +97,7 @@ module _ (p : Profile) (rg : Ranged p) (io : inOrder p ≡ true) where
       either (WellBoth p) (s .link .awaiting) _ _
       (ack-well (longAck (i .burst) (i .bitmap)) (r .stored) (longDb p i) (h .time) _ a (j .db) (j .time)
       (given-well p s a _ _ w (class-well (s .gear) (i .report .class) (well-gear p s a w))
-      (record { time = k .time; number = k .number; heard = k .heard; slot = j .slot; wave = k .wave; notBelow = j .notBelow; notAbove = j .notAbove })))
+      (record { time = k .time; number = k .number; heard = k .heard; notBelow = j .notBelow; notAbove = j .notAbove })))
       (given-well p s a (s .gear) _ w (well-gear p s a w) k)
 
   -- ---- turn, connect answer and queuing
@@ -112,16 +108,15 @@ module _ (p : Profile) (rg : Ranged p) (io : inOrder p ≡ true) where
       let k = w .sound .link in
       stored-well p zr _ s a _ _ w (clear-kept (sizesOf p) zr (view s a) (well-kept p s a w))
       (turn-gear-well p rg (s .gear) (outcomeOf (nothingHeard (view s a)) (view s a)) (turnDb h r) (h .wave) (h .time) (counts (nothingHeard (view s a)) s a w) (i .db) (i .time) (well-gear p s a w))
-      (record { time = i .time; number = k .number; heard = k .heard; slot = k .slot; wave = k .wave; notBelow = k .notBelow; notAbove = k .notAbove })
+      (record { time = i .time .high; number = k .number; heard = k .heard; notBelow = k .notBelow; notAbove = k .notAbove })
 
   pub connected-well : (h : Heard) (r : ConnAck) (s : Sender) (a : List ℕ) → ConnAckIn h r → Well p s a → Well p (connectedTo p h r s) a
   unfolding connectedTo
   connected-well h r s a i w =
       let k = w .sound .link in
       given-well p s a _ _ w
-      (connected-gear-well p rg (withBurst (s .gear) (p .lengths .«max_burst_s»)) (r .class) (p .cue && r .cue) (r .«snr_db») (h .time) (i .db)
-      (burst-well (s .gear) (p .lengths .«max_burst_s») (rg .lengths .usual) (well-gear p s a w)))
-      (record { time = i .time; number = k .number; heard = k .heard; slot = i .slot; wave = k .wave; notBelow = k .notBelow; notAbove = k .notAbove })
+      (connected-gear-well p rg (s .gear) (r .class) (p .cue && r .cue) (r .«snr_db») (h .time) (i .db) (well-gear p s a w))
+      (record { time = i .time .high; number = k .number; heard = k .heard; notBelow = k .notBelow; notAbove = k .notAbove })
 
   pub queued-well : (bs : List ℕ) (s : Sender) (a : List ℕ) → Bytes bs → Allowed (sizesOf p) (queues bs) (view s a) → Well p s a → Well p (store (queue bs (view s a)) s) (storeArea (queue bs (view s a)) a)
   queued-well bs s a by al w = stored-well p zr (queue bs (view s a)) s a (s .gear) (s .link) w (queue-kept (sizesOf p) zr (view s a) (well-kept p s a w) bs by al) (well-gear p s a w) (w .sound .link)
@@ -152,21 +147,20 @@ unfolding span climb size odd units round div ofInt ofBits
 top-is = refl
 
 abbrev ReportIn : ChanReport → Type 0
-ReportIn c = DbInRange (c .«eff_snr_db») × (c .slot ≤ 2) × (lt (c .«doppler_hz») (w32 0) ≡ false) × (lt (ofBits binary32 0x427e_0000) (c .«doppler_hz») ≡ false)
+ReportIn c = DbInRange (c .«eff_snr_db») × (lt (c .«doppler_hz») (w32 0) ≡ false) × (lt (ofBits binary32 0x427e_0000) (c .«doppler_hz») ≡ false)
 
 report-in : (b : List ℕ) → Bytes b → (at : ℕ) → ReportIn (reportAt b at)
 unfolding reportAt
 report-in b by at =
     let d = neither (w32 0) (div binary32 (w32 127) (w32 2)) (spreadOf (getD b (at + 3) 0)) (spread-in (getD b (at + 3) 0) (by (at + 3))) in (
       wide _ (snr-in (getD b (at + 1) 0) (by (at + 1))),
-      slot-in (getD b at 0 / 4 % 4) (omega arith),
       d .0,
       subst (λ (t : Float). lt t (spreadOf (getD b (at + 3) 0)) ≡ false) top-is (d .1),
     )
 
 none-in : ReportIn noReport
 unfolding le lt eq neg ofInt ofBits
-none-in = (record { low = tt; high = tt }, omega arith, refl, refl)
+none-in = (record { low = tt; high = tt }, refl, refl)
 
 pub info-in : (p : Profile) (h : Heard) (b : List ℕ) → Bytes b → TimeInRange (h .time) → LongAckIn p h (infoOf b)
 info-in p h b by t =
@@ -175,7 +169,6 @@ info-in p h b by t =
       time = t;
       db = either DbInRange (leb 17 (length b) && p .«eff_snr») _ _ (c .0) (wide _ (snr-in (getD b 9 0) (by 9)));
       burst = omega arith;
-      slot = c .1;
-      notBelow = c .2;
-      notAbove = c .3;
+      notBelow = c .1;
+      notAbove = c .2;
     }

@@ -102,7 +102,7 @@ module _ (p : Profile) where
 
     link-sound : SoundLink (s .link) → SoundLink (storeLink l (s .link))
     unfolding storeLink
-    link-sound k = record { time = k .time; number = kept .sound .number; heard = k .heard; slot = k .slot; wave = k .wave; notBelow = k .notBelow; notAbove = k .notAbove }
+    link-sound k = record { time = k .time; number = kept .sound .number; heard = k .heard; notBelow = k .notBelow; notAbove = k .notAbove }
 
     whole : WellGear (s .gear) → SoundLink (s .link) → Sound (sizesOf p) (view (store l s) (storeArea l a)) → SoundRecord p (store l s) (storeArea l a)
     unfolding store storeCounts storeHeld storeSent
@@ -145,5 +145,5 @@ module _ (p : Profile) where
         sound = fresh-is-sound p a h;
         arrays = fresh-arrays;
         bytes = by;
-        typed = record { shares = λ k i. passes _ (every-all (λ (x : ℕ). fits binary32 (getD (replicate 17 (w32 0)) x nan)) 17 refl k i) };
+        typed = record { width = refl; shares = λ k i z. passes _ (every-all (λ (x : ℕ). fits binary32 (getD (replicate 17 (w32 0)) x nan)) 17 refl k i) };
       }

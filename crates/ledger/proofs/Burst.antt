@@ -81,6 +81,9 @@ module _ (z : Sizes) (zr : SizeRange z) (n : ℕ) (ps : List Piece) (a : Ascend 
   few-shorts =
       omega (arith, shortFrames-few (z .short) (omega (arith, zr .least)) cuts (z .long) 0 n ps (omega (arith, zr .most, zr .least)) a)
 
+taken-few : (n : ℕ) (os : List ℕ) → length (take n os) ≤ n
+taken-few n os = omega (arith, length-take n os)
+
 module _ (z : Sizes) (zr : SizeRange z) (s : Sender) (g : Plan) (so : Sound z s) (fi : Fits z s g) where
   held-in : Within (heldOffs (s .held)) (s .pieces)
   held-in = flying-within (heldOffs (s .held)) (s .pieces) (so .heldFlying)
@@ -148,7 +151,7 @@ module _ (z : Sizes) (zr : SizeRange z) (s : Sender) (g : Plan) (so : Sound z s)
       (λ e. omega (arith, ltb-false 0 (occurs o (heldOffs (kept g s))) e))
 
   old-few : length (oldOffs g s) ≤ g .room
-  old-few = omega (arith, length-take (g .room) (unheld (heldOffs (kept g s)) (recut g s)))
+  old-few = taken-few (g .room) _
 
   new-few : length (newPieces g s) ≤ g .room - length (oldOffs g s)
   new-few = chunks-few (g .room - length (oldOffs g s)) (g .payload) (s .next) (s .waiting)

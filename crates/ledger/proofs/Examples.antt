@@ -116,9 +116,10 @@ unfolding dataBurst hearAck settleBurst clearBurst queue
 held-then = refl
 
 -- after an ack of another burst the held list and the unsent rest stay
-unmatched : heldRows (hearAck 11520 (shortAck 1 2) true (twice true (plan 30 1 2 2)) .held) ≡ 0 ∷ 2880 ∷ 60 ∷ 2880 ∷ []
+unmatched : (heldRows (hearAck 11520 (shortAck 1 2) true (twice true (plan 30 1 2 2)) .held) ≡ 0 ∷ 2880 ∷ 60 ∷ 2880 ∷ [])
+    × (heldRows (hearAck 11520 (shortAck 1 2) true (twice true (plan 30 1 2 2)) .rest) ≡ 60 ∷ 2880 ∷ [])
 unfolding dataBurst hearAck settleBurst clearBurst queue
-unmatched = refl
+unmatched = (refl, refl)
 
 -- an ack of a burst with no frame keeps the held list, whatever it says
 no-frame : (keep : Bool) → heldRows (hearAck 11520 (shortAck 0 63) keep (record { waiting = []; next = 30; acked = 0; pieces = piece 0 30 ∷ []; held = record { off = 0; bits = 2880 } ∷ []; rest = []; sent = []; awaited = true; number = 0 }) .held) ≡ 0 ∷ 2880 ∷ []

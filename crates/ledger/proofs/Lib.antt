@@ -10,6 +10,7 @@ pub mod Agree
 pub mod Burst
 pub mod Planned
 pub mod Progress
+pub mod Sentences
 pub mod Kept
 pub mod PerOffset
 pub mod Stream

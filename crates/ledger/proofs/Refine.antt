@@ -12,14 +12,13 @@ use Rattle.ledger.specs.Ledger.{Sender, Sent, sentOffs, offs, find, data
 use Rattle.ledger.specs.Tally.{Tally, byteOf, feed, framesTold, Event, start}
 use Rattle.ledger.specs.Sound.{Sound}
 use Rattle.ledger.specs.Calls.{Along, run, tally, history}
-use Rattle.ledger.specs.Claim.{Carry, Demand3}
+use Rattle.ledger.specs.ClaimCode.{Carry, LedgerClaim}
 use Rattle.ledger.proofs.Agree.{Agree, start-agree}
 use Rattle.ledger.proofs.PerOffset.{covers-once, acked-exactly}
 use Rattle.ledger.proofs.History.{taken-is, history-is}
 use Rattle.ledger.proofs.InFlight.{find-flown, inFlight-size, flown-parts, flown-length}
 use Rattle.ledger.proofs.Kept.{out-occurs, step-sound, step-agree, step-keeps, fresh-sound}
 use Rattle.ledger.proofs.Offsets.{find-some, flying-within}
-use Rattle.ledger.proofs.Planned.{keeps-air}
 use Rattle.ledger.proofs.ShortFrames.{pieces-shortFrames}
 use Rattle.ledger.specs.Sizes.{Sizes}
 use Rattle.ledger.specs.CallsCode.{Move, Allowed, step, moveTold, idle, queues, hears, turns, bursts}
@@ -48,7 +47,7 @@ module _ (z : Sizes) (zr : SizeRange z) (s : Sender) (t : Tally) (so : Sound z s
       carry z zr (dataBurst g s) (feed (moveTold z (bursts g) s) t) so′ ag′ (dataBurst g s .sent)
       (λ o h. omega (arith, out-occurs z (dataBurst g s) so′ o))
 
-  pub claim-of : (bytes : List ℕ) → t .taken ≡ length bytes → bytes ≡ map byteOf (t .flown) ++ t .waiting → Demand3 z bytes s t (moveTold z c s) (step z c s)
+  pub claim-of : (bytes : List ℕ) → t .taken ≡ length bytes → bytes ≡ map byteOf (t .flown) ++ t .waiting → LedgerClaim z bytes s t (moveTold z c s) (step z c s)
   claim-of bytes tk hi =
       let f = inFlight-size (s .next) (s .pieces) (t .flown) (ag .flown) in
       let p = flown-parts (t .flown) in
@@ -61,7 +60,9 @@ module _ (z : Sizes) (zr : SizeRange z) (s : Sender) (t : Tally) (so : Sound z s
         waiting = sym (ag .waiting);
         covers = λ o. covers-once (z .long) (s .next) o (s .pieces) (t .flown) (so .ascend) (ag .flown);
         inPieces = sym f;
+        ascends = so .ascend;
         holds = holds z zr s t so ag;
+        next = sym l;
         exactly = acked-exactly (moveTold z c s) t;
         acked = omega (arith, so .sum);
         carries = call-carries c (step-sound z zr c s al so) (step-agree z zr c s t al so ag);
@@ -72,7 +73,6 @@ module _ (z : Sizes) (zr : SizeRange z) (s : Sender) (t : Tally) (so : Sound z s
         );
         flying = omega (arith, so .bytes);
         pieces = omega (arith, pieces-shortFrames (z .short) (omega (arith, zr .least)) (z .long) 0 (s .next) (s .pieces) (so .ascend), so .shorts);
-        air = λ k kr lo. keeps-air z k s so kr lo;
       }
 
 -- where the arguments may be any
@@ -119,7 +119,7 @@ module _ (z : Sizes) (zr : SizeRange z) (C I : Type 0) (Given : I → C → Type
 
       -- DEMAND 3, after every list of calls and of one further call
       pub refined : (i : I) → Given i (run next is c) →
-          Demand3 z (history next says is c) (view (run next is c)) (tally next says is c start) (says i (run next is c)) (view (next i (run next is c)))
+          LedgerClaim z (history next says is c) (view (run next is c)) (tally next says is c start) (says i (run next is c)) (view (next i (run next is c)))
       refined i g =
           let d = run next is c in
           let t = tally next says is c start in

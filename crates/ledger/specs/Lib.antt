@@ -12,3 +12,4 @@ pub mod Plan
 pub mod Calls
 pub mod CallsCode
 pub mod Claim
+pub mod ClaimCode

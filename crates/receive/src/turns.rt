@@ -40,12 +40,11 @@ pub fn hear_connect(p: Profile, s: Sender, h: Heard, r: ConnAck) -> Sender
     requires { ⌜ Ranged p ⌝ }
     ensures { λ q. ⌜ q ≡ connectedTo p h r s ⌝ }
 {
-    let mut g = s.gear;
-    g.burst_s = p.lengths.max_burst_s;
-    let m = g.connect(p, r.class, p.cue & r.cue, r.snr_db, h.time);
+    let g = s.gear.connect(p, r.class, p.cue & r.cue, r.snr_db, h.time);
     let mut q = s;
-    q.gear = m;
+    q.gear = g;
     q.link.connected = true;
+    q.link.awaiting = false;
     q.link.session = r.session;
     q.link.last_time = h.time;
     q.link.peer_slot = r.slot;

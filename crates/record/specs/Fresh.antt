@@ -23,13 +23,13 @@ none = record { set = false; db = w32 0 }
 abbrev never : Float
 never = inf true
 
--- `burst_s` is set by the connect answer; until then nothing reads it
+-- `burst_s`: 0 stands for the profile's max_burst_s (`burstSeconds`)
 abbrev pub freshGear : Gear
 freshGear =
     record {
       level = 0;
       target = 0;
-      «burst_s» = w64 1;
+      «burst_s» = w64 0;
       «aim_db» = none;
       «last_report_db» = none;
       «snr_reports» = record { count = 0; a = w32 0; b = w32 0; c = w32 0 };

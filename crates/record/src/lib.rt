@@ -80,7 +80,7 @@ fn fresh_gear() -> Gear
     Gear {
         level: 0,
         target: 0,
-        burst_s: 1.0,
+        burst_s: 0.0,
         aim_db: none,
         last_report_db: none,
         snr_reports: Reports {

@@ -1,47 +1,43 @@
-// The calls of a list and their answers (docs/CALLS.md, Calls).
+// The calls of a list that change no work area, and a burst, with their answers (docs/CALLS.md, Calls).
 use crate::OUT_BYTES;
 use crate::buffer::least;
-use crate::held;
-use config::MaybeDb;
+use adif::Logged;
+use call_lines::LinkLine;
+use call_lines::link_words;
+use call_lines::names::AREA;
+use call_lines::names::LOG;
+use call_lines::names::Named;
+use call_lines::names::OUT;
 use config::Profile;
-use float_bits::of_bits64;
-use numbered::Left;
+use list_calls::Asked;
+use numbered::Burst;
 use numbered::LeftBurst;
-use profile_table::single_of;
 use record::Sender;
-use replies::Ack;
-use replies::ConnAck;
-use replies::Heard;
-use replies::LongAck;
-use replies::Turn;
-use report::ChanClass;
 use station::vanitycrow_adif;
+use words::Input;
+use words::Number;
 use words::Read;
 use words::done;
-use words::double;
-use words::flag;
-use words::hex;
-use words::none;
-use words::single;
 use words::whole;
-ghost use Prim.Native.Nat.{_≤_, _<_};
 
-// The run so far: the profile and the sender, what is lent of the work area and of the output, and what is used of the text's
-// buffer; `stage` counts the profile's lines read, `ok` is false after a line that breaks the rules.
+// Bytes that a line can have as HEX: its 65,536 characters have no more pairs.
+const BYTES: usize = 32768;
+
+// The run so far, but for the sender: the input, what is lent of the work area and of the output, and what is used of the text's buffer;
+// `stage` counts the profile's lines read, `ok` is false after a line that breaks the rules.
 pub struct Run {
+    pub input: Input,
     pub stage: usize,
     pub ok: bool,
-    pub p: Profile,
-    pub s: Sender,
     pub area: usize,
     pub out: usize,
     pub text: usize,
 }
 
-// A reply's time, wave and dB measured here, and how far its line was read.
-pub struct Hearing {
-    pub heard: Heard,
-    pub read: Read,
+// The run and its sender.
+pub struct Step {
+    pub run: Run,
+    pub s: Sender,
 }
 
 pub(crate) fn failed(mut run: Run) -> Run {
@@ -49,363 +45,185 @@ pub(crate) fn failed(mut run: Run) -> Run {
     run
 }
 
-// The next record, and more text.
-fn moved(mut run: Run, s: Sender, n: usize) -> Run {
-    run.s = s;
+pub(crate) fn with_text(mut run: Run, n: usize) -> Run {
     run.text = n;
     run
 }
 
-fn with_text(mut run: Run, n: usize) -> Run {
-    run.text = n;
-    run
-}
-
-// A number too wide for its field is the largest.
-fn u8_of(n: u64) -> u8 {
-    if n < 256 { n as u8 } else { 255 }
-}
-
-// T, W and HERE.
-fn heard_first(line: &[u8], r: Read) -> Hearing {
-    let time = double(line, r);
-    let wave = whole(line, time);
-    let here = single(line, wave);
-    Hearing {
-        heard: Heard {
-            time: of_bits64(time.value),
-            wave: u8_of(wave.value),
-            snr_db: single_of(here.value),
-        },
-        read: here,
-    }
-}
-
-// The answer to a queuing or a reply, and the record that it left.
-fn answered(run: Run, q: Left, t: &mut [u8], name: &[u8]) -> Run {
-    let n = transcript::answer(t, run.text, name, q.refusal);
-    let next = q.next;
-    moved(run, next, n)
-}
-
-pub(crate) fn connect(line: &[u8], r: Read, run: Run, area: &mut [u8], t: &mut [u8]) -> Run {
-    let h = heard_first(line, r);
-    let session = whole(line, h.read);
-    let db = single(line, session);
-    let echo = flag(line, db);
-    let doppler = flag(line, echo);
-    let slot = whole(line, doppler);
-    let cue = flag(line, slot);
-    if !done(line, cue) {
+// The answer to a queuing or a reply, by the first word of its line.
+pub(crate) fn answered(line: &[u8], r: Read, run: Run, ok: bool, refusal: u8, t: &mut [u8]) -> Run {
+    if !ok {
         return failed(run);
     }
-    let reply = ConnAck {
-        session: (session.value % 256) as u8,
-        snr_db: single_of(db.value),
-        class: ChanClass {
-            echo: echo.value == 1,
-            doppler: doppler.value == 1,
-        },
-        slot: u8_of(slot.value),
-        cue: cue.value == 1,
-    };
-    let lent = least(run.area, area);
-    let q = held::connect(run.p, run.s, &mut area[..lent], h.heard, reply);
-    answered(run, q, t, b"connect")
+    let to = least(r.at, line);
+    let n = transcript::answer(t, run.text, &line[..to], refusal);
+    with_text(run, n)
 }
 
-// A short ack's line, and whether it was right.
-pub struct ShortLine {
-    pub hearing: Hearing,
-    pub reply: Ack,
-    pub ok: bool,
-}
-
-fn short_words(line: &[u8], r: Read) -> ShortLine {
-    let hearing = heard_first(line, r);
-    let burst = whole(line, hearing.read);
-    let bitmap = whole(line, burst);
-    let db = single(line, bitmap);
-    let turn = flag(line, db);
-    let disc = flag(line, turn);
-    let stored = flag(line, disc);
-    let echo = flag(line, stored);
-    let doppler = flag(line, echo);
-    let slot = whole(line, doppler);
-    ShortLine {
-        hearing,
-        reply: Ack {
-            burst: u8_of(burst.value),
-            bitmap: u8_of(bitmap.value),
-            snr_db: single_of(db.value),
-            want_turn: turn.value == 1,
-            want_disc: disc.value == 1,
-            stored: stored.value == 1,
-            class: ChanClass {
-                echo: echo.value == 1,
-                doppler: doppler.value == 1,
-            },
-            slot: u8_of(slot.value),
-        },
-        ok: done(line, slot),
-    }
-}
-
-pub(crate) fn short(line: &[u8], r: Read, run: Run, area: &mut [u8], t: &mut [u8]) -> Run {
-    let q = short_words(line, r);
-    if !q.ok {
-        return failed(run);
-    }
-    let h = q.hearing;
-    let reply = q.reply;
-    let lent = least(run.area, area);
-    let q = held::short_ack(run.p, run.s, &mut area[..lent], h.heard, reply);
-    answered(run, q, t, b"short")
-}
-
-// A long ack's line: the reply, how many bytes its payload has, and how far it was read.
-pub struct LongLine {
-    pub hearing: Hearing,
-    pub reply: LongAck,
-    pub payload: usize,
-    pub ok: bool,
-}
-
-fn long_words(line: &[u8], r: Read, bytes: &mut [u8]) -> LongLine {
-    let hearing = heard_first(line, r);
-    let turn = flag(line, hearing.read);
-    let disc = flag(line, turn);
-    let stored = flag(line, disc);
-    let payload = hex(line, stored, bytes);
-    LongLine {
-        hearing,
-        reply: LongAck {
-            want_turn: turn.value == 1,
-            want_disc: disc.value == 1,
-            stored: stored.value == 1,
-        },
-        payload: payload.value as usize,
-        ok: done(line, payload),
-    }
-}
-
-fn long_call(q: LongLine, run: Run, area: &mut [u8], t: &mut [u8], bytes: &[u8]) -> Run {
-    let n = least(q.payload, bytes);
-    let h = q.hearing;
-    let reply = q.reply;
-    let lent = least(run.area, area);
-    let q = held::long_ack(run.p, run.s, &mut area[..lent], h.heard, reply, &bytes[..n]);
-    answered(run, q, t, b"long")
-}
-
-pub(crate) fn long(
-    line: &[u8],
-    r: Read,
-    run: Run,
-    area: &mut [u8],
-    t: &mut [u8],
-    bytes: &mut [u8],
-) -> Run {
-    let q = long_words(line, r, bytes);
-    if !q.ok {
-        return failed(run);
-    }
-    long_call(q, run, area, t, bytes)
-}
-
-pub(crate) fn turn(line: &[u8], r: Read, run: Run, area: &mut [u8], t: &mut [u8]) -> Run {
-    let h = heard_first(line, r);
-    let no_db = none(line, h.read);
-    let db = single(line, h.read);
-    if !(done(line, no_db) | done(line, db)) {
-        return failed(run);
-    }
-    let report = MaybeDb {
-        set: !no_db.ok,
-        db: single_of(db.value),
-    };
-    let reply = Turn { report };
-    let lent = least(run.area, area);
-    let q = held::turn(run.p, run.s, &mut area[..lent], h.heard, reply);
-    answered(run, q, t, b"turn")
-}
-
-fn queue_call(n: usize, run: Run, area: &mut [u8], t: &mut [u8], bytes: &[u8]) -> Run {
-    let k = least(n, bytes);
-    let lent = least(run.area, area);
-    let q = held::queue(run.p, run.s, &mut area[..lent], &bytes[..k]);
-    answered(run, q, t, b"queue")
-}
-
-pub(crate) fn queue_bytes(
-    line: &[u8],
-    r: Read,
-    run: Run,
-    area: &mut [u8],
-    t: &mut [u8],
-    bytes: &mut [u8],
-) -> Run {
-    let read = hex(line, r, bytes);
-    if !done(line, read) {
-        return failed(run);
-    }
-    queue_call(read.value as usize, run, area, t, bytes)
+// and the record that it left.
+pub(crate) fn after(line: &[u8], r: Read, run: Run, q: Asked, t: &mut [u8]) -> Step {
+    let left = q.left;
+    let s = left.next;
+    let run = answered(line, r, run, q.ok, left.refusal, t);
+    Step { run, s }
 }
 
 // A frame's size at the level of the record.
-fn frame_size(p: Profile, s: Sender) -> usize {
-    let g = s.gear;
-    if g.level < 17 {
-        return p.frame_bytes(g.level) as usize;
+fn frame_size(p: Profile, level: usize) -> usize {
+    if level < 17 {
+        return p.frame_bytes(level) as usize;
     }
     0
 }
 
 // The answer to a burst, whose frames stand in the output.
-fn burst_answer(run: Run, q: LeftBurst, t: &mut [u8], out: &[u8]) -> Run {
-    let b = q.burst;
+fn burst_text(t: &mut [u8], n: usize, b: Burst, size: usize, out: &[u8]) -> usize {
     let refusal = b.refusal;
     if refusal != 0 {
-        let n = transcript::answer(t, run.text, b"burst", refusal);
-        return with_text(run, n);
+        return transcript::answer(t, n, b"burst", refusal);
     }
-    let sent = b.outgoing;
-    let n = transcript::burst::burst(t, run.text, sent, frame_size(run.p, run.s), out);
-    let next = q.next;
-    moved(run, next, n)
+    transcript::burst::burst(t, n, b.outgoing, size, out)
 }
 
-fn burst_call(run: Run, area: &mut [u8], out: &mut [u8]) -> LeftBurst {
+fn burst_call(run: Run, p: Profile, s: Sender, area: &mut [u8], out: &mut [u8]) -> LeftBurst {
     let lent = least(run.area, area);
     let most = least(run.out, out);
-    held::data_burst(run.p, run.s, &mut area[..lent], &mut out[..most])
+    held::data_burst(p, s, &mut area[..lent], &mut out[..most])
 }
 
-pub(crate) fn burst(
+fn level_of(s: Sender) -> usize {
+    let g = s.gear;
+    g.level
+}
+
+pub(crate) fn burst(run: Run, p: Profile, s: Sender, area: &mut [u8], t: &mut [u8]) -> Step {
+    let mut out = [0u8; OUT_BYTES];
+    let size = frame_size(p, level_of(s));
+    let b = burst_call(run, p, s, area, &mut out);
+    let s = b.next;
+    let n = burst_text(t, run.text, b.burst, size, &out);
+    let run = with_text(run, n);
+    Step { run, s }
+}
+
+// The answer to the question for a piece.
+fn piece_text(at: u64, n: usize, p: Profile, s: Sender, area: &[u8], t: &mut [u8]) -> usize {
+    let off = (at % 4294967296) as u32;
+    let found = held::find(p, s, area, off);
+    let refusal = found.refusal;
+    if refusal != 0 {
+        return transcript::answer(t, n, b"piece", refusal);
+    }
+    if found.here & (at < 4294967296) {
+        return transcript::piece(t, n, held::piece(p, s, area, off));
+    }
+    transcript::no_piece(t, n)
+}
+
+pub(crate) fn piece(
     line: &[u8],
     r: Read,
     run: Run,
-    area: &mut [u8],
+    p: Profile,
+    s: Sender,
+    area: &[u8],
     t: &mut [u8],
-    out: &mut [u8],
 ) -> Run {
-    if !done(line, r) {
-        return failed(run);
-    }
-    let b = burst_call(run, area, out);
-    burst_answer(run, b, t, out)
-}
-
-// A piece that is there.
-fn piece_bytes(run: Run, area: &[u8], t: &mut [u8], n: usize, off: u32) -> usize {
-    let lent = least(run.area, area);
-    let b = held::piece(run.p, run.s, &area[..lent], off);
-    transcript::piece(t, n, b)
-}
-
-pub(crate) fn piece(line: &[u8], r: Read, run: Run, area: &[u8], t: &mut [u8]) -> Run {
     let q = whole(line, r);
     if !done(line, q) {
         return failed(run);
     }
     let lent = least(run.area, area);
-    let off = (q.value % 4294967296) as u32;
-    let found = held::find(run.p, run.s, &area[..lent], off);
-    let refusal = found.refusal;
-    if refusal != 0 {
-        let n = transcript::answer(t, run.text, b"piece", refusal);
-        return with_text(run, n);
-    }
-    if found.here & (q.value < 4294967296) {
-        let n = piece_bytes(run, area, t, run.text, off);
-        return with_text(run, n);
-    }
-    let n = transcript::no_piece(t, run.text);
+    let n = piece_text(q.value, run.text, p, s, &area[..lent], t);
     with_text(run, n)
-}
-
-// A link's line: how many bytes its call sign has, its seconds and its count, and whether it was right.
-pub struct LinkLine {
-    pub call: usize,
-    pub start: u64,
-    pub end: u64,
-    pub acked: u64,
-    pub ok: bool,
-}
-
-fn link_words(line: &[u8], r: Read, bytes: &mut [u8]) -> LinkLine {
-    let call = hex(line, r, bytes);
-    let start = whole(line, call);
-    let end = whole(line, start);
-    let acked = whole(line, end);
-    LinkLine {
-        call: call.value as usize,
-        start: start.value,
-        end: end.value,
-        acked: acked.value,
-        ok: done(line, acked) & (acked.value < 4294967296),
-    }
 }
 
 // The answer to a link's line; its record stands in the output.
-fn log_call(q: LinkLine, run: Run, t: &mut [u8], out: &mut [u8], bytes: &[u8]) -> Run {
-    let k = least(q.call, bytes);
-    let most = least(run.out, out);
-    let acked = (q.acked % 4294967296) as u32;
-    let logged = vanitycrow_adif(&bytes[..k], q.start, q.end, acked, &mut out[..most]);
+fn log_text(t: &mut [u8], n: usize, logged: Logged, out: &[u8]) -> usize {
     let refusal = logged.refusal;
     if refusal != 0 {
-        let n = transcript::answer(t, run.text, b"log", refusal);
-        return with_text(run, n);
+        return transcript::answer(t, n, b"log", refusal);
     }
     let len = least(logged.len, out);
-    let n = transcript::log(t, run.text, &out[..len]);
+    transcript::log(t, n, &out[..len])
+}
+
+fn logged(q: LinkLine, most: usize, out: &mut [u8], bytes: &[u8]) -> Logged {
+    let k = least(q.call, bytes);
+    let lent = least(most, out);
+    let acked = (q.acked % 4294967296) as u32;
+    vanitycrow_adif(&bytes[..k], q.start, q.end, acked, &mut out[..lent])
+}
+
+fn log_call(q: LinkLine, run: Run, t: &mut [u8], bytes: &[u8]) -> Run {
+    let mut out = [0u8; OUT_BYTES];
+    let answer = logged(q, run.out, &mut out, bytes);
+    let n = log_text(t, run.text, answer, &out);
     with_text(run, n)
 }
 
-pub(crate) fn log(
-    line: &[u8],
-    r: Read,
-    run: Run,
-    t: &mut [u8],
-    out: &mut [u8],
-    bytes: &mut [u8],
-) -> Run {
-    let q = link_words(line, r, bytes);
+fn log(line: &[u8], r: Read, run: Run, t: &mut [u8]) -> Run {
+    let mut bytes = [0u8; BYTES];
+    let q = link_words(line, r, &mut bytes);
     if !q.ok {
         return failed(run);
     }
-    log_call(q, run, t, out, bytes)
+    log_call(q, run, t, &bytes)
 }
 
-pub(crate) fn show(line: &[u8], r: Read, run: Run, area: &[u8], t: &mut [u8]) -> Run {
+// usual: the profile's max_burst_s.
+pub(crate) fn show(
+    line: &[u8],
+    r: Read,
+    run: Run,
+    usual: f64,
+    s: Sender,
+    area: &[u8],
+    t: &mut [u8],
+) -> Run {
     if !done(line, r) {
         return failed(run);
     }
-    let n = transcript::state::state(t, run.text, run.s, area);
+    let burst_s = s.gear.burst_seconds(usual);
+    let n = state_lines::state(t, run.text, burst_s, s, area);
     with_text(run, n)
 }
 
-pub(crate) fn lend_area(line: &[u8], r: Read, run: Run, t: &mut [u8]) -> Run {
+// A length, at most `most`, and whether the line was right.
+fn length(line: &[u8], r: Read, most: u64) -> Number {
     let q = whole(line, r);
-    if !done(line, q) | (q.value > 65536) {
-        return failed(run);
+    Number {
+        ok: done(line, q) & (q.value <= most),
+        value: q.value,
     }
-    let n = transcript::answer(t, run.text, b"area", 0);
-    let mut after = run;
-    after.area = q.value as usize;
-    after.text = n;
-    after
 }
 
-pub(crate) fn lend_out(line: &[u8], r: Read, run: Run, t: &mut [u8]) -> Run {
-    let q = whole(line, r);
-    if !done(line, q) | (q.value > OUT_BYTES as u64) {
-        return failed(run);
+// So much of the work area is lent from here on.
+fn lend_area(mut run: Run, n: usize, t: &mut [u8]) -> Run {
+    run.area = n;
+    run.text = transcript::answer(t, run.text, b"area", 0);
+    run
+}
+
+// So much output is lent from here on.
+fn lend_out(mut run: Run, n: usize, t: &mut [u8]) -> Run {
+    run.out = n;
+    run.text = transcript::answer(t, run.text, b"out", 0);
+    run
+}
+
+// A link's line, or one that lends.
+pub(crate) fn aside(n: Named, line: &[u8], run: Run, t: &mut [u8]) -> Run {
+    if n.call == LOG {
+        return log(line, n.read, run, t);
     }
-    let n = transcript::answer(t, run.text, b"out", 0);
-    let mut after = run;
-    after.out = q.value as usize;
-    after.text = n;
-    after
+    let a = length(line, n.read, 65536);
+    if (n.call == AREA) & a.ok {
+        return lend_area(run, a.value as usize, t);
+    }
+    let o = length(line, n.read, OUT_BYTES as u64);
+    if (n.call == OUT) & o.ok {
+        return lend_out(run, o.value as usize, t);
+    }
+    failed(run)
 }

@@ -1,19 +1,30 @@
 // Reads a call list on standard input, makes its calls and writes the transcript on standard output (docs/CALLS.md).
 mod buffer;
 mod calls;
-mod held;
 mod input;
 
 use buffer::flush;
 use buffer::least;
 use buffer::room;
+use call_lines::names::BURST;
+use call_lines::names::NO_CALL;
+use call_lines::names::Named;
+use call_lines::names::PIECE;
+use call_lines::names::STATE;
+use call_lines::names::TURN;
+use call_lines::names::call_of;
 use calls::Run;
+use calls::Step;
 use calls::failed;
+use calls::with_text;
 use input::next_line;
 use limits::AREA_BYTES;
+use list_calls::ask;
 use profile_table::LINES;
 use profile_table::listed::profile_line;
 use profile_table::profile_of;
+use record::Counts;
+use record::Sender;
 use sender::fresh;
 use words::Input;
 use words::done;
@@ -21,7 +32,7 @@ use words::taken::END;
 use words::taken::WHOLE;
 use words::word;
 
-// Bytes of output that a profile lends.
+// Bytes of output that a profile lends, zeros at each call that writes there.
 pub(crate) const OUT_BYTES: usize = 32768;
 
 // No whole profile was read yet: `stage` is past every stage.
@@ -36,169 +47,140 @@ fn clear(area: &mut [u8]) {
     }
 }
 
-fn end_line(run: Run, t: &mut [u8]) -> Run {
-    let n = transcript::end(t, run.text, run.s);
-    let mut after = run;
-    after.text = n;
-    after
-}
-
 // `profile`: the profile before it ends.
-fn begin(run: Run, t: &mut [u8]) -> Run {
+fn begin(run: Run, c: Counts, t: &mut [u8]) -> Run {
     let mut after = run;
     if run.stage == LINES {
-        after = end_line(run, t);
+        after.text = state_lines::end(t, run.text, c);
     }
     after.stage = 0;
     after
 }
 
-// The whole profile was read: a fresh sender, zeros in the work area and the output.
-fn start(run: Run, area: &mut [u8], out: &mut [u8], v: &[u64; 147]) -> Run {
+// The whole profile was read: zeros in the work area, and what is lent.
+fn start(run: Run, area: &mut [u8]) -> Run {
     clear(area);
-    clear(out);
-    let p = profile_of(v);
-    let s = fresh();
     let mut after = run;
     after.stage = LINES;
-    after.p = p;
-    after.s = s;
     after.area = AREA_BYTES;
     after.out = OUT_BYTES;
     after
 }
 
 // The profile's next line.
-fn profile_step(line: &[u8], run: Run, area: &mut [u8], out: &mut [u8], v: &mut [u64; 147]) -> Run {
+fn profile_step(line: &[u8], run: Run, area: &mut [u8], v: &mut [u64; 147]) -> Run {
     let k = run.stage;
     if !profile_line(line, k, v) {
         return failed(run);
     }
     if k >= LINES - 1 {
-        return start(run, area, out, v);
+        return start(run, area);
     }
     let mut after = run;
     after.stage = k + 1;
     after
 }
 
-fn reply(line: &[u8], run: Run, area: &mut [u8], t: &mut [u8], bytes: &mut [u8]) -> Run {
-    let r = word(line, b"short");
-    if r.ok {
-        return calls::short(line, r, run, area, t);
-    }
-    let r = word(line, b"long");
-    if r.ok {
-        return calls::long(line, r, run, area, t, bytes);
-    }
-    let r = word(line, b"turn");
-    if r.ok {
-        return calls::turn(line, r, run, area, t);
-    }
-    let r = word(line, b"connect");
-    if r.ok {
-        return calls::connect(line, r, run, area, t);
-    }
-    failed(run)
-}
-
-fn look(line: &[u8], run: Run, area: &mut [u8], t: &mut [u8], bytes: &mut [u8]) -> Run {
-    let r = word(line, b"piece");
-    if r.ok {
-        return calls::piece(line, r, run, area, t);
-    }
-    let r = word(line, b"state");
-    if r.ok {
-        return calls::show(line, r, run, area, t);
-    }
-    let r = word(line, b"area");
-    if r.ok {
-        return calls::lend_area(line, r, run, t);
-    }
-    let r = word(line, b"out");
-    if r.ok {
-        return calls::lend_out(line, r, run, t);
-    }
-    reply(line, run, area, t, bytes)
-}
-
-fn call(
+// What changes neither the record nor the work area.
+fn look(
+    n: Named,
     line: &[u8],
     run: Run,
-    area: &mut [u8],
-    out: &mut [u8],
+    s: Sender,
+    area: &[u8],
     t: &mut [u8],
-    bytes: &mut [u8],
+    v: &[u64; 147],
 ) -> Run {
-    let r = word(line, b"burst");
-    if r.ok {
-        return calls::burst(line, r, run, area, t, out);
+    if n.call == PIECE {
+        return calls::piece(line, n.read, run, profile_of(v), s, area, t);
     }
-    let r = word(line, b"queue");
-    if r.ok {
-        return calls::queue_bytes(line, r, run, area, t, bytes);
+    if n.call == STATE {
+        let usual = profile_of(v).lengths.max_burst_s;
+        return calls::show(line, n.read, run, usual, s, area, t);
     }
-    let r = word(line, b"log");
-    if r.ok {
-        return calls::log(line, r, run, t, out, bytes);
-    }
-    look(line, run, area, t, bytes)
+    calls::aside(n, line, run, t)
 }
 
-// One line.
-fn step(
+// A queuing or a reply.
+fn asked(
+    n: Named,
     line: &[u8],
     run: Run,
+    s: Sender,
     area: &mut [u8],
-    out: &mut [u8],
     t: &mut [u8],
-    bytes: &mut [u8],
+    v: &[u64; 147],
+) -> Step {
+    let lent = least(run.area, area);
+    let q = ask(n, line, profile_of(v), s, &mut area[..lent]);
+    calls::after(line, n.read, run, q, t)
+}
+
+fn call(line: &[u8], run: Run, s: Sender, area: &mut [u8], t: &mut [u8], v: &[u64; 147]) -> Step {
+    let n = call_of(line);
+    if (n.call == BURST) & done(line, n.read) {
+        return calls::burst(run, profile_of(v), s, area, t);
+    }
+    if (n.call == NO_CALL) | (n.call > TURN) {
+        let run = look(n, line, run, s, area, t, v);
+        return Step { run, s };
+    }
+    asked(n, line, run, s, area, t, v)
+}
+
+// A remark, or an empty line.
+fn passed_over(line: &[u8]) -> bool {
+    if line.len() == 0 {
+        return true;
+    }
+    line[0] == 35
+}
+
+// Whether a line is a call, which stands after a whole profile.
+fn is_call(line: &[u8], run: Run) -> bool {
+    let r = word(line, b"profile");
+    (run.stage == LINES) & !passed_over(line) & !done(line, r)
+}
+
+// A line that is none.
+fn no_call(
+    line: &[u8],
+    run: Run,
+    c: Counts,
+    area: &mut [u8],
+    t: &mut [u8],
     v: &mut [u64; 147],
 ) -> Run {
-    if line.len() == 0 {
-        return run;
-    }
-    if line[0] == 35 {
+    if passed_over(line) {
         return run;
     }
     if run.stage < LINES {
-        return profile_step(line, run, area, out, v);
+        return profile_step(line, run, area, v);
     }
     let r = word(line, b"profile");
     if done(line, r) {
-        return begin(run, t);
-    }
-    if run.stage == LINES {
-        return call(line, run, area, out, t, bytes);
+        return begin(run, c, t);
     }
     failed(run)
 }
 
-// The line that was read, if it is one.
-fn line_step(
-    i: Input,
+// One line. The sender is fresh from `profile` to the end of the profile.
+fn step(
     line: &[u8],
     run: Run,
+    s: Sender,
     area: &mut [u8],
-    out: &mut [u8],
     t: &mut [u8],
-    bytes: &mut [u8],
     v: &mut [u64; 147],
-) -> Run {
-    let len = least(i.len, line);
-    if i.kind != WHOLE {
-        return failed(run);
+) -> Step {
+    if is_call(line, run) {
+        return call(line, run, s, area, t, v);
     }
-    let mut before = run;
-    before.text = room(t, run.text);
-    step(&line[..len], before, area, out, t, bytes, v)
-}
-
-fn error_line(run: Run, n: u64, t: &mut [u8]) -> Run {
-    let k = transcript::error(t, run.text, n);
-    let mut after = run;
-    after.text = k;
-    after
+    let run = no_call(line, run, s.counts, area, t, v);
+    if run.stage < LINES {
+        return Step { run, s: fresh() };
+    }
+    Step { run, s }
 }
 
 fn next(n: u64) -> u64 {
@@ -206,91 +188,73 @@ fn next(n: u64) -> u64 {
 }
 
 // The last line of the transcript, after n lines of the list that were right.
-fn last_line(run: Run, n: u64, t: &mut [u8]) -> Run {
-    if !run.ok {
-        return error_line(run, next(n), t);
+fn last_line(run: Run, c: Counts, n: u64, t: &mut [u8]) -> usize {
+    if !run.ok | (run.stage < LINES) {
+        return transcript::error(t, run.text, next(n));
     }
-    if run.stage < LINES {
-        return error_line(run, next(n), t);
-    }
-    end_line(run, t)
+    state_lines::end(t, run.text, c)
 }
 
-fn finish(run: Run, n: u64, t: &mut [u8]) {
-    let after = last_line(run, n, t);
-    flush(t, after.text);
+fn finish(q: Step, n: u64, t: &mut [u8]) {
+    let s = q.s;
+    let k = last_line(q.run, s.counts, n, t);
+    flush(t, k);
 }
 
-fn none_yet() -> Run {
-    let v = [0u64; 147];
-    Run {
-        stage: NO_PROFILE,
-        ok: true,
-        p: profile_of(&v),
+fn none_yet() -> Step {
+    Step {
+        run: Run {
+            input: Input {
+                at: 0,
+                end: 0,
+                len: 0,
+                kind: WHOLE,
+            },
+            stage: NO_PROFILE,
+            ok: true,
+            area: 0,
+            out: 0,
+            text: 0,
+        },
         s: fresh(),
-        area: 0,
-        out: 0,
-        text: 0,
     }
 }
 
-// The input and the run.
-pub struct Reading {
-    pub i: Input,
-    pub run: Run,
+// Nothing of a line that is not whole.
+fn empty(mut i: Input) -> Input {
+    i.len = 0;
+    i
 }
 
-// The next line, if there is one.
-fn turn(
-    q: Reading,
-    chunk: &mut [u8],
-    line: &mut [u8],
-    area: &mut [u8],
-    out: &mut [u8],
-    t: &mut [u8],
-    bytes: &mut [u8],
-    v: &mut [u64; 147],
-) -> Reading {
-    let before = q.i;
-    let run = q.run;
-    let i = next_line(chunk, line, before);
-    if i.kind == END {
-        return Reading { i, run };
+// The next line of the input, if there is one, and room for its answer.
+fn read(run: Run, chunk: &mut [u8], line: &mut [u8], t: &[u8]) -> Run {
+    let mut after = run;
+    let i = next_line(chunk, line, run.input);
+    if i.kind == WHOLE {
+        after.input = i;
+        after.text = room(t, run.text);
+        return after;
     }
-    let run = line_step(i, line, run, area, out, t, bytes, v);
-    Reading { i, run }
+    after.input = empty(i);
+    after.ok = i.kind == END;
+    after
 }
 
-fn stopped(q: Reading) -> bool {
-    let i = q.i;
-    let run = q.run;
+fn stopped(run: Run) -> bool {
+    let i = run.input;
     (i.kind == END) | !run.ok
 }
 
-fn replay(
-    chunk: &mut [u8],
-    line: &mut [u8],
-    area: &mut [u8],
-    out: &mut [u8],
-    t: &mut [u8],
-    bytes: &mut [u8],
-) {
+fn replay(chunk: &mut [u8], line: &mut [u8], area: &mut [u8], t: &mut [u8]) {
     let mut v = [0u64; 147];
-    let mut q = Reading {
-        i: Input {
-            at: 0,
-            end: 0,
-            len: 0,
-            kind: WHOLE,
-        },
-        run: none_yet(),
-    };
+    let mut q = none_yet();
     let mut n: u64 = 0;
     while n < 18446744073709551615 {
-        q = turn(q, chunk, line, area, out, t, bytes, &mut v);
-        if stopped(q) {
-            let run = q.run;
-            finish(run, n, t);
+        let run = read(q.run, chunk, line, t);
+        let len = least(run.input.len, line);
+        q = step(&line[..len], run, q.s, area, t, &mut v);
+        if stopped(q.run) {
+            finish(q, n, t);
             return;
         }
         n += 1;
@@ -302,14 +266,5 @@ fn main() {
     let mut line = io::large_buffer();
     let mut area = io::large_buffer();
     let mut text = [0u8; 131072];
-    let mut out = [0u8; OUT_BYTES];
-    let mut bytes = [0u8; 32768];
-    replay(
-        &mut chunk,
-        &mut line,
-        &mut area,
-        &mut out,
-        &mut text,
-        &mut bytes,
-    );
+    replay(&mut chunk, &mut line, &mut area, &mut text);
 }

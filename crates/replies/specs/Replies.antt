@@ -5,7 +5,7 @@ use Prim.Native.Nat.{ℕ, _+_, _%_}
 use lib.Ieee.{Float}
 use Rattle.report.specs.declared.ack.AckInfo.{AckInfo}
 use Rattle.config.specs.declared.Profile.{Profile}
-use Rattle.gear.specs.Setters.{withBurst, withClass}
+use Rattle.gear.specs.Setters.{withClass}
 use Rattle.gear.specs.OtherReplies.{connected, onTurn}
 use Rattle.ledger.specs.Reply.{Reply, shortAck, longAck}
 use Rattle.ledger.specs.Ledger as L
@@ -20,7 +20,7 @@ use Rattle.replies.specs.declared.ConnAck.{ConnAck}
 use Rattle.replies.specs.declared.Ack.{Ack}
 use Rattle.replies.specs.declared.LongAck.{LongAck}
 use Rattle.replies.specs.declared.Turn.{Turn}
-use Rattle.record.specs.Setters.{withGear, withLink, withSession, withTime, withHeard, withSlot, withDoppler, withWishes}
+use Rattle.record.specs.Setters.{withGear, withLink, withSession, withTime, withHeard, withSlot, withDoppler, withWishes, withAwaiting}
 
 -- the slot that the peer hears best, and its Doppler spread
 abbrev pub withPath : Link → ℕ → Float → Link
@@ -30,9 +30,9 @@ withPath k slot hz = withDoppler (withSlot k slot) hz
 abbrev pub ackNoted : Link → Float → Bool → Bool → ℕ → Link
 ackNoted k now turn disc number = withWishes (withHeard (withTime k now) number) turn disc
 
--- the connect answer: session, slot and time
+-- the connect answer: session, slot and time; `clear_wait`
 abbrev pub connectNoted : Link → Float → ℕ → ℕ → Link
-connectNoted k now session slot = withSlot (withTime (withSession k session) now) slot
+connectNoted k now session slot = withAwaiting (withSlot (withTime (withSession k session) now) slot) false
 
 -- "An ack not awaited updates only the turn and disconnect wishes and the number last heard" (and the time)
 unfoldable pub shortAcked : Profile → Heard → Ack → Sender → List ℕ → Sender × List ℕ
@@ -72,8 +72,8 @@ turned p h r s a =
     let g = onTurn p (s .gear) (outcomeOf (nothingHeard before) before) (turnDb h r) (h .wave) (h .time) in
     (store after (withLink (withGear s g) (withTime (s .link) (h .time))), storeArea after a)
 
--- the called station's cue counts where the profile has one; burst_s is set here (docs/DECISIONS.md)
+-- the called station's cue counts where the profile has one
 unfoldable pub connectedTo : Profile → Heard → ConnAck → Sender → Sender
 connectedTo p h r s =
-    withLink (withGear s (connected p (withBurst (s .gear) (p .lengths .«max_burst_s»)) (r .class) (p .cue && r .cue) (r .«snr_db») (h .time)))
+    withLink (withGear s (connected p (s .gear) (r .class) (p .cue && r .cue) (r .«snr_db») (h .time)))
     (connectNoted (s .link) (h .time) (r .session) (r .slot))

@@ -1,3 +1,4 @@
 pub mod Queuing
 pub mod Answered
 pub mod Bursting
+pub mod Refused

@@ -1,8 +1,8 @@
 -- Document 01's sound record, as tests and as facts. Definitions only.
 use mathlib.Core.List.{List, [], _∷_}
-use mathlib.Core.Bool.{Bool, not, _||_}
+use mathlib.Core.Bool.{Bool, false, not, _||_}
 use Prim.Native.Nat.{ℕ, _+_, _-_}
-use lib.Dec.{leb, eqb}
+use lib.Dec.{ltb, leb, eqb}
 use lib.ListN.{length, take, drop, getD}
 use lib.Ieee.{Float, nan, binary32, le, lt, neg, ofBits}
 use Rattle.laws.specs.Tests.{all}
@@ -14,6 +14,7 @@ use Rattle.levels.specs.declared.memory.Reports.{Reports}
 use Rattle.levels.specs.declared.memory.Tries.{Tries}
 use Rattle.levels.specs.declared.usable.Holds.{Holds}
 use Rattle.gear.specs.declared.Gear.{Gear}
+use Rattle.gear.specs.BurstLength.{burstOk}
 use Rattle.area.specs.Layout.{areaBytes}
 use Rattle.area.specs.Table.{rowsFrom}
 use Rattle.area_check.specs.Rows.{rowOffs, tableOk, allFlying, heldBitsOk, sentBitsOk, noneListed}
@@ -32,21 +33,22 @@ keptOk x = inside (neg (w32 100)) (w32 308) x
 unfoldable pub keptIfOk : MaybeDb → Bool
 keptIfOk m = not (m .set) || keptOk (m .db)
 
--- at most three reports; those not there yet count as 0
+-- of the reports that are there: the newest first; a count above three reads as three
 unfoldable pub reportsOk : Reports → Bool
-reportsOk r = all (leb (r .count) 3 ∷ keptOk (r .a) ∷ keptOk (r .b) ∷ keptOk (r .c) ∷ [])
+reportsOk r = all ((ltb (r .count) 1 || keptOk (r .c)) ∷ (ltb (r .count) 2 || keptOk (r .b)) ∷ (ltb (r .count) 3 || keptOk (r .a)) ∷ [])
 
--- level k: minus infinity is a time and an end too, that of a fresh record
+-- level k: its share where it was tried; minus infinity is a time and an end too, that of a fresh record
 unfoldable pub rememberedOk : Tries → Holds → ℕ → Bool
 rememberedOk t h k =
-    all (inside (w32 0) (w32 1) (getD (t .success) k nan) ∷ le (getD (t .«success_at») k nan) (w64 1000000000) ∷ le (getD (h .«blocked_until») k nan) (w64 1001000000) ∷ [])
+    all ((not (getD (t .tried) k false) || inside (w32 0) (w32 1) (getD (t .success) k nan)) ∷ le (getD (t .«success_at») k nan) (w64 1000000000)
+    ∷ le (getD (h .«blocked_until») k nan) (w64 1001000000) ∷ [])
 
 unfoldable pub gearOk : Gear → Bool
 gearOk g =
-    all (leb (g .level) 16 ∷ leb (g .target) 16 ∷ inside (w64 1) (w64 1000) (g .«burst_s») ∷ keptIfOk (g .«aim_db») ∷ keptIfOk (g .«last_report_db»)
+    all (leb (g .level) 16 ∷ leb (g .target) 16 ∷ burstOk (g .«burst_s») ∷ keptIfOk (g .«aim_db») ∷ keptIfOk (g .«last_report_db»)
     ∷ reportsOk (g .«snr_reports») ∷ every (rememberedOk (g .tries) (g .holds)) (upto 0 17) ∷ [])
 
--- ---- the link: "burst numbers 0 to 3, times at most 10^9, Doppler 0 to 63.5", or not a number. A slot above 2 and a wave above 5 stand for nothing
+-- ---- the link: "burst numbers 0 to 3, times at most 10^9, Doppler 0 to 63.5", or not a number; of the number last heard where one was heard
 
 -- 63.5
 abbrev pub maxDoppler : Float
@@ -54,8 +56,8 @@ maxDoppler = ofBits binary32 0x427e_0000
 
 unfoldable pub linkOk : Link → Bool
 linkOk k =
-    all (inside (w64 0) (w64 1000000000) (k .«last_time») ∷ leb (k .«burst_id») maxNumber ∷ leb (k .«peer_heard») maxNumber ∷ leb (k .«peer_slot») 2
-    ∷ leb (k .«peer_wave») 5 ∷ not (lt (k .«peer_doppler_hz») (w32 0)) ∷ not (lt maxDoppler (k .«peer_doppler_hz»)) ∷ [])
+    all (le (k .«last_time») (w64 1000000000) ∷ leb (k .«burst_id») maxNumber ∷ (not (k .heard) || leb (k .«peer_heard») maxNumber)
+    ∷ not (lt (k .«peer_doppler_hz») (w32 0)) ∷ not (lt maxDoppler (k .«peer_doppler_hz»)) ∷ [])
 
 -- ---- the ledger's part
 

@@ -9,6 +9,7 @@ use lib.Ieee.{nan, le, lt, neg}
 use Rattle.ieee.specs.Range.{In, w32, w64}
 use Rattle.config.specs.declared.Profile.{Profile}
 use Rattle.gear.specs.declared.Gear.{Gear}
+use Rattle.gear.specs.BurstLength.{burstOk}
 use Rattle.ledger.specs.Sound.{Sound}
 use Rattle.area.specs.Layout.{areaBytes}
 use Rattle.area.specs.Table.{rowsFrom, total}
@@ -22,23 +23,20 @@ use Rattle.limits.specs.Limits.{maxSlots, maxNumber, maxPieces}
 pub record SoundGear (g : Gear) : Type 0 where
   pub level : g .level < 17
   pub target : g .target < 17
-  pub burst : In (w64 1) (w64 1000) (g .«burst_s»)
+  pub burst : T (burstOk (g .«burst_s»))
   pub aim : g .«aim_db» .set ≡ true → In (neg (w32 100)) (w32 308) (g .«aim_db» .db)
   pub last : g .«last_report_db» .set ≡ true → In (neg (w32 100)) (w32 308) (g .«last_report_db» .db)
-  pub count : g .«snr_reports» .count ≤ 3
-  pub a : In (neg (w32 100)) (w32 308) (g .«snr_reports» .a)
-  pub b : In (neg (w32 100)) (w32 308) (g .«snr_reports» .b)
-  pub c : In (neg (w32 100)) (w32 308) (g .«snr_reports» .c)
-  pub shares : (k : ℕ) → k < 17 → In (w32 0) (w32 1) (getD (g .tries .success) k nan)
+  pub a : 3 ≤ g .«snr_reports» .count → In (neg (w32 100)) (w32 308) (g .«snr_reports» .a)
+  pub b : 2 ≤ g .«snr_reports» .count → In (neg (w32 100)) (w32 308) (g .«snr_reports» .b)
+  pub c : 1 ≤ g .«snr_reports» .count → In (neg (w32 100)) (w32 308) (g .«snr_reports» .c)
+  pub shares : (k : ℕ) → k < 17 → getD (g .tries .tried) k false ≡ true → In (w32 0) (w32 1) (getD (g .tries .success) k nan)
   pub times : (k : ℕ) → k < 17 → T (le (getD (g .tries .«success_at») k nan) (w64 1000000000))
   pub ends : (k : ℕ) → k < 17 → T (le (getD (g .holds .«blocked_until») k nan) (w64 1001000000))
 
 pub record SoundLink (k : Link) : Type 0 where
-  pub time : In (w64 0) (w64 1000000000) (k .«last_time»)
+  pub time : T (le (k .«last_time») (w64 1000000000))
   pub number : k .«burst_id» ≤ maxNumber
-  pub heard : k .«peer_heard» ≤ maxNumber
-  pub slot : k .«peer_slot» ≤ 2
-  pub wave : k .«peer_wave» ≤ 5
+  pub heard : k .heard ≡ true → k .«peer_heard» ≤ maxNumber
   -- not a number is neither below nor above
   pub notBelow : lt (k .«peer_doppler_hz») (w32 0) ≡ false
   pub notAbove : lt maxDoppler (k .«peer_doppler_hz») ≡ false

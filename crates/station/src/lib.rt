@@ -18,6 +18,16 @@ ghost use Rattle.refusals.specs.declared.Reply.the-variants as R;
 ghost use Rattle.numbered.specs.Numbered.{answerNumber, burstNumber, findNumber};
 ghost use Rattle.adif.specs.Adif.{logOf};
 ghost use Rattle.station.specs.Exported.{left, leftBurst};
+ghost use Rattle.station.specs.ExportedCode.{kept};
+
+// Stores the next record, unless a number refuses the call: then nothing is written.
+fn keep(s: &mut Sender, refusal: u8, next: Sender)
+    ensures { λ _. ⌜ now (s .exit) ≡ kept (now (s .entry)) refusal next ⌝ }
+{
+    if refusal == 0 {
+        *s = next;
+    }
+}
 
 // The record of a new sender.
 #[no_mangle]
@@ -34,7 +44,7 @@ pub extern "C" fn vanitycrow_queue(p: &Profile, s: &mut Sender, a: &mut [u8], by
     ensures { λ r. ⌜ (left r (now (s .exit)), now (a .exit)) ≡ answerNumber (queueOf (now (p .entry)) (now (s .entry)) (now (a .entry)) (now (bytes .entry))) ⌝ }
 {
     let q = numbered::queue(*p, *s, a, bytes);
-    *s = q.next;
+    keep(s, q.refusal, q.next);
     q.refusal
 }
 
@@ -50,7 +60,7 @@ pub extern "C" fn vanitycrow_connect(
     ensures { λ q. ⌜ (left q (now (s .exit)), now (a .exit)) ≡ answerNumber (receiveOf (now (p .entry)) (now (s .entry)) (now (a .entry)) h (R.ConnAck r) []) ⌝ }
 {
     let q = numbered::connect(*p, *s, a, h, r);
-    *s = q.next;
+    keep(s, q.refusal, q.next);
     q.refusal
 }
 
@@ -66,7 +76,7 @@ pub extern "C" fn vanitycrow_short_ack(
     ensures { λ q. ⌜ (left q (now (s .exit)), now (a .exit)) ≡ answerNumber (receiveOf (now (p .entry)) (now (s .entry)) (now (a .entry)) h (R.Ack r) []) ⌝ }
 {
     let q = numbered::short_ack(*p, *s, a, h, r);
-    *s = q.next;
+    keep(s, q.refusal, q.next);
     q.refusal
 }
 
@@ -83,7 +93,7 @@ pub extern "C" fn vanitycrow_long_ack(
     ensures { λ q. ⌜ (left q (now (s .exit)), now (a .exit)) ≡ answerNumber (receiveOf (now (p .entry)) (now (s .entry)) (now (a .entry)) h (R.LongAck r) (now (payload .entry))) ⌝ }
 {
     let q = numbered::long_ack(*p, *s, a, h, r, payload);
-    *s = q.next;
+    keep(s, q.refusal, q.next);
     q.refusal
 }
 
@@ -99,7 +109,7 @@ pub extern "C" fn vanitycrow_turn(
     ensures { λ q. ⌜ (left q (now (s .exit)), now (a .exit)) ≡ answerNumber (receiveOf (now (p .entry)) (now (s .entry)) (now (a .entry)) h (R.Turn r) []) ⌝ }
 {
     let q = numbered::turn(*p, *s, a, h, r);
-    *s = q.next;
+    keep(s, q.refusal, q.next);
     q.refusal
 }
 
@@ -114,7 +124,7 @@ pub extern "C" fn vanitycrow_data_burst(
     ensures { λ r. ⌜ (leftBurst r (now (s .exit)), (now (a .exit), now (out .exit))) ≡ burstNumber (burstCall (now (p .entry)) (now (s .entry)) (now (a .entry)) (now (out .entry))) ⌝ }
 {
     let q = numbered::data_burst(*p, *s, a, out);
-    *s = q.next;
+    keep(s, q.burst.refusal, q.next);
     q.burst
 }
 

@@ -1,2 +1,2 @@
--- What belongs to no one function: laws of an answer's outcome, of lists side by side, and of a frame's bytes in the output.
+-- What belongs to no one function: laws of an answer's outcome, and of a frame's bytes in the output.
 pub mod Laws

@@ -1,7 +1,7 @@
 -- The transcript's answers and its last lines (docs/CALLS.md). Definitions only.
 use mathlib.Core.Bool.{cond}
 use mathlib.Core.List.{List, _++_}
-use Prim.Native.Nat.{ℕ, _+_, _*_, min}
+use Prim.Native.Nat.{ℕ, _*_, min}
 use lib.Dec.{eqb}
 use lib.ListN.{getD}
 use Rattle.laws.specs.Bytes.{part}
@@ -10,7 +10,6 @@ use Rattle.text.specs.Buffer.{each}
 use Rattle.laws.specs.Text.{text}
 use Rattle.text.specs.Words.{numberWord, flagWord, hex}
 use Rattle.limits.specs.Limits.{maxSlots}
-use Rattle.record.specs.declared.Sender.{Sender}
 use Rattle.outgoing.specs.declared.Frames.{Frames}
 use Rattle.outgoing.specs.declared.Outgoing.{Outgoing}
 
@@ -48,16 +47,6 @@ pieceLine bytes = text "piece" ++ hex bytes ++ text "\n"
 -- `log ok TEXT`: the record's characters as they stand
 abbrev pub logLine : List ℕ → List ℕ
 logLine chars = text "log ok " ++ chars ++ text "\n"
-
--- TAKEN WAITING FLYING ACKED
-abbrev pub tallyWords : Sender → List ℕ
-tallyWords s =
-    numberWord (s .counts .«next_offset» + s .counts .waiting) ++ numberWord (s .counts .waiting) ++ numberWord (s .counts .flying)
-    ++ numberWord (s .counts .«bytes_acked»)
-
--- `end TAKEN WAITING FLYING ACKED`
-abbrev pub endLine : Sender → List ℕ
-endLine s = text "end" ++ tallyWords s ++ text "\n"
 
 -- `error LINE`
 abbrev pub errorLine : ℕ → List ℕ

@@ -1,17 +1,13 @@
 // The lines of a transcript (docs/CALLS.md), put into a lent buffer of which n bytes are used: each function gives what is used then.
-use record::Sender;
 use text::hex;
 use text::number;
 use text::puts;
 ghost use mathlib.Core.Path.{_≡_};
-ghost use mathlib.Core.List.{_++_};
 ghost use Rattle.text.specs.Buffer.{appended};
 ghost use Rattle.laws.specs.Text.{text};
-ghost use Rattle.transcript.specs.Answers.{answerLine, pieceLine, logLine, tallyWords, endLine, errorLine};
+ghost use Rattle.transcript.specs.Answers.{answerLine, pieceLine, logLine, errorLine};
 
 pub mod burst;
-pub mod lists;
-pub mod state;
 
 // What a call answers, by its name and the refusal's number, 0 for none.
 pub fn answer(t: &mut [u8], n: usize, name: &[u8], refusal: u8) -> usize
@@ -48,26 +44,6 @@ pub fn log(t: &mut [u8], n: usize, chars: &[u8]) -> usize
 {
     let n = puts(t, n, b"log ok ");
     let n = puts(t, n, chars);
-    puts(t, n, b"\n")
-}
-
-// TAKEN WAITING FLYING ACKED.
-pub(crate) fn tally(t: &mut [u8], n: usize, s: Sender) -> usize
-    ensures { λ r. ⌜ (r, now (t .exit)) ≡ appended (n, now (t .entry)) (tallyWords s) ⌝ }
-{
-    let c = s.counts;
-    let n = number(t, n, (c.next_offset as u64) + (c.waiting as u64));
-    let n = number(t, n, c.waiting as u64);
-    let n = number(t, n, c.flying as u64);
-    number(t, n, c.bytes_acked as u64)
-}
-
-// What closes a profile's calls.
-pub fn end(t: &mut [u8], n: usize, s: Sender) -> usize
-    ensures { λ r. ⌜ (r, now (t .exit)) ≡ appended (n, now (t .entry)) (endLine s) ⌝ }
-{
-    let n = puts(t, n, b"end");
-    let n = tally(t, n, s);
     puts(t, n, b"\n")
 }
 

@@ -1,98 +1,123 @@
--- Each refusal comes back where its reason holds and no earlier one's does: document 01's order.
+-- THE NUMBER THAT COMES BACK is that of the first reason that holds in the call's table (specs/Reasons.antt), and 0 where none does: both ways, document 01's order.
 -- Assumes nothing.
-use mathlib.Core.Path.{_≡_, refl, ap, ap₂, _∙_}
-use mathlib.Core.List.{List}
-use mathlib.Core.Bool.{Bool, true, false, not, _&&_, _||_}
-use Prim.Native.Nat.{ℕ, _+_, _*_, _≤_, _<_}
-use lib.Dec.{eqb}
-use borrow.Author.Tests.{eq-eqb, lt-ltb}
-use Rattle.laws.proofs.Picks.{cond-yes, cond-no}
+use mathlib.Core.Path.{_≡_, refl, sym, ap, subst, _∙_}
+use mathlib.Core.Logic.{_⊎_, inl, inr}
+use mathlib.Core.List.{List, [], _∷_, _++_}
+use mathlib.Core.Bool.{Bool, true, false, cond, not, _&&_, _||_, false≢true}
+use Prim.Native.Nat.{ℕ, _+_, _*_, _≤_}
+use native.Mathlib.Omega.{arith}
+use lib.Dec.{ltb, eqb, lit≤}
+use borrow.Author.Tests.{eq-eqb, ne-eqb, ltb-true, ltb-false}
+use Rattle.laws.proofs.Picks.{by, test}
 use Rattle.config.specs.declared.Profile.{Profile}
 use Rattle.config.specs.Ranges.{inRange, inOrder}
-use Rattle.area.proofs.room.Laws.{full, over}
+use Rattle.area.proofs.room.Laws.{full, over, room}
 use Rattle.record.specs.declared.Sender.{Sender}
 use Rattle.soundness.specs.Soundness.{soundOk}
 use Rattle.replies.specs.declared.Heard.{Heard}
-use Rattle.refusals.specs.declared.Verdict.the-variants.{ProfileOutOfRange, ShortOverLong, Unsound, OutOfTurn, BadTime, BadValue, ShortPayload, QueueFull, AllTaken, ShortOutput}
+use Rattle.refusals.specs.declared.Verdict.{Verdict}
+use Rattle.refusals.specs.declared.Verdict.the-variants.{Accepted, ProfileOutOfRange, ShortOverLong, Unsound, OutOfTurn, BadTime, BadValue, ShortPayload, QueueFull, AllTaken, ShortOutput}
 use Rattle.refusals.specs.declared.Reply.{Reply}
-use Rattle.refusals.specs.Refusals.{kindOf, timeOk, heardOk, replyOk}
-use Rattle.verdicts.specs.Verdicts.{passed, standing, replyVerdict, roomVerdict, outputVerdict, queueVerdict, receiveVerdict, burstVerdict}
+use Rattle.refusals.specs.Refusals.{numberOf, kindOf, timeOk, heardOk, replyOk}
+use Rattle.verdicts.specs.Verdicts.{firstOf, standing, replyVerdict, roomVerdict, outputVerdict, queueVerdict, receiveVerdict, burstVerdict}
+use Rattle.verdicts.specs.Reasons.{Reason, First, standingReasons, lookupReasons, queueReasons, replyReasons, burstReasons}
 use Rattle.limits.specs.Limits.{maxSlots, maxWaiting, maxTaken}
 
--- a connect that comes again, or another call before connect
-wrong-turn : (x : Bool) → ((x && x) || (not x && not x)) ≡ true
-wrong-turn true = refl
-wrong-turn false = refl
+-- ---- tables
+
+-- no two numbers are the first
+pub first-one : (rs : List Reason) (n m : ℕ) → First rs n → First rs m → n ≡ m
+first-one [] n m f g = f ∙ sym g
+first-one (r ∷ rs) n m (inl f) (inl g) = f .1 ∙ sym (g .1)
+first-one (r ∷ rs) n m (inl f) (inr g) = absurd (false≢true (sym (g .0) ∙ f .0))
+first-one (r ∷ rs) n m (inr f) (inl g) = absurd (false≢true (sym (f .0) ∙ g .0))
+first-one (r ∷ rs) n m (inr f) (inr g) = first-one rs n m (f .1) (g .1)
+
+-- a test, and then what comes after it
+tested : (k : ℕ) (b : Bool) (v w : Verdict) (rs : List Reason) → numberOf v ≡ k → First rs (numberOf w) → First ((k, b) ∷ rs) (numberOf (cond b v w))
+tested k b v w rs e f = by (λ (x : Verdict). First ((k, b) ∷ rs) (numberOf x)) b (λ t. inl (t, e)) (λ t. inr (t, f))
+
+-- 0 is the number of no refusal
+abbrev Refusals : List Reason → Type 0
+Refusals [] = Unit {0}
+Refusals (r ∷ rs) = (1 ≤ r .0) × Refusals rs
+
+-- one table, and then another
+behind : (rs qs : List Reason) (v w : Verdict) → Refusals rs → First rs (numberOf v) → First qs (numberOf w) → First (rs ++ qs) (numberOf (firstOf v w))
+behind [] qs v w k f g = subst (λ (t : Bool). First qs (numberOf (cond t w v))) (sym (eq-eqb (numberOf v) 0 f)) g
+behind (r ∷ rs) qs v w k (inl f) g =
+    inl (f .0, ap (λ (t : Bool). numberOf (cond t w v)) (ne-eqb (numberOf v) 0 (λ z. omega (arith, z, f .1, k .0))) ∙ f .1)
+behind (r ∷ rs) qs v w k (inr f) g = inr (f .0, behind rs qs v w (k .1) (f .1) g)
+
+-- out of turn, as the code tests it
+turn-test : (c connect : Bool) → ((c && connect) || (not c && not connect)) ≡ cond connect c (not c)
+turn-test true true = refl
+turn-test true false = refl
+turn-test false true = refl
+turn-test false false = refl
+
+-- ---- the calls
 
 module _ (p : Profile) (s : Sender) (a : List ℕ) where
   module _ (connect : Bool) where
-    pub one : inRange p ≡ false → ProfileOutOfRange ≡ standing p s a connect
+    standing-first : First (standingReasons p s a connect) (numberOf (standing p s a connect))
     unfolding standing
-    one e = cond-yes _ _ _ _ (ap not e) refl
+    standing-first =
+        let c = s .link .connected in
+        let t = (c && connect) || (not c && not connect) in
+        let last : List Reason = (4, cond connect c (not c)) ∷ [] in
+        let v₄ : Verdict = cond t OutOfTurn Accepted in
+        let v₃ : Verdict = cond (not (soundOk p s a)) Unsound v₄ in
+        let v₂ : Verdict = cond (not (inOrder p)) ShortOverLong v₃ in
+        tested 1 (not (inRange p)) ProfileOutOfRange v₂ ((2, not (inOrder p)) ∷ (3, not (soundOk p s a)) ∷ last) refl
+        (tested 2 (not (inOrder p)) ShortOverLong v₃ ((3, not (soundOk p s a)) ∷ last) refl
+        (tested 3 (not (soundOk p s a)) Unsound v₄ last refl
+        (subst (λ (b : Bool). First ((4, b) ∷ []) (numberOf v₄)) (turn-test c connect) (tested 4 t OutOfTurn Accepted [] refl refl))))
 
-    pub two : inRange p ≡ true → inOrder p ≡ false → ShortOverLong ≡ standing p s a connect
-    unfolding standing
-    two e₁ e = cond-no _ _ _ _ (ap not e₁) (cond-yes _ _ _ _ (ap not e) refl)
+    standing-refusals : Refusals (standingReasons p s a connect)
+    standing-refusals = (lit≤ tt, (lit≤ tt, (lit≤ tt, (lit≤ tt, tt))))
 
-    pub three : inRange p ≡ true → inOrder p ≡ true → soundOk p s a ≡ false → Unsound ≡ standing p s a connect
-    unfolding standing
-    three e₁ e₂ e = cond-no _ _ _ _ (ap not e₁) (cond-no _ _ _ _ (ap not e₂) (cond-yes _ _ _ _ (ap not e) refl))
-
-    pub four : inRange p ≡ true → inOrder p ≡ true → soundOk p s a ≡ true → s .link .connected ≡ connect → OutOfTurn ≡ standing p s a connect
-    unfolding standing
-    four e₁ e₂ e₃ e =
-        cond-no _ _ _ _ (ap not e₁)
-        (cond-no _ _ _ _ (ap not e₂)
-        (cond-no _ _ _ _ (ap not e₃)
-        (cond-yes _ _ _ _ (ap (λ (x : Bool). (x && connect) || (not x && not connect)) e ∙ wrong-turn connect) refl)))
-
-  -- ---- a reply
-
-  module _ (h : Heard) (r : Reply) (n : ℕ) where
-    -- 1 to 4 before 5 to 7
-    pub reply-stands : passed (standing p s a (eqb (kindOf r) 0)) ≡ false → standing p s a (eqb (kindOf r) 0) ≡ receiveVerdict p s a h r n
-    unfolding receiveVerdict
-    reply-stands e = cond-no _ _ _ _ e refl
-
-    module _ (ok : passed (standing p s a (eqb (kindOf r) 0)) ≡ true) where
-      pub five : timeOk (s .link .«last_time») (h .time) ≡ false → BadTime ≡ receiveVerdict p s a h r n
-      unfolding replyVerdict receiveVerdict
-      five e = cond-yes _ _ _ _ ok (cond-yes _ _ _ _ (ap not e) refl)
-
-      pub six : timeOk (s .link .«last_time») (h .time) ≡ true → (heardOk h && replyOk r) ≡ false → BadValue ≡ receiveVerdict p s a h r n
-      unfolding replyVerdict receiveVerdict
-      six e₁ e = cond-yes _ _ _ _ ok (cond-no _ _ _ _ (ap not e₁) (cond-yes _ _ _ _ (ap not e) refl))
-
-      pub seven : timeOk (s .link .«last_time») (h .time) ≡ true → (heardOk h && replyOk r) ≡ true → kindOf r ≡ 2 → n < 13 → ShortPayload ≡ receiveVerdict p s a h r n
-      unfolding replyVerdict receiveVerdict
-      seven e₁ e₂ k l =
-          cond-yes _ _ _ _ ok
-          (cond-no _ _ _ _ (ap not e₁) (cond-no _ _ _ _ (ap not e₂) (cond-yes _ _ _ _ (ap₂ (λ (x y : Bool). x && y) (eq-eqb _ _ k) (lt-ltb _ _ l)) refl)))
-
-  -- ---- a queuing, and a burst: n bytes more, n bytes of output
+  pub lookup-first : First (lookupReasons p s a) (numberOf (standing p s a false))
+  lookup-first = standing-first false
 
   module _ (n : ℕ) where
-    -- 1 to 4 before 8 and 9
-    pub queue-stands : passed (standing p s a false) ≡ false → standing p s a false ≡ queueVerdict p s a n
+    room-first : First ((8, ltb maxWaiting (s .counts .waiting + n)) ∷ (9, ltb maxTaken (s .counts .«next_offset» + s .counts .waiting + n)) ∷ []) (numberOf (roomVerdict (s .counts) n))
+    unfolding roomVerdict
+    room-first =
+        let w = s .counts .waiting in
+        let t = s .counts .«next_offset» + s .counts .waiting in
+        let said : ℕ → ℕ = λ (q : ℕ). numberOf (cond (eqb q 8) QueueFull (cond (eqb q 9) AllTaken Accepted)) in
+        test (ltb maxWaiting (w + n))
+        (λ x. inl (x, ap said (full w t n (ltb-true _ _ x))))
+        (λ x. inr (
+          x,
+          test (ltb maxTaken (t + n))
+              (λ y. inl (y, ap said (over w t n (ltb-false _ _ x) (ltb-true _ _ y))))
+              (λ y. inr (y, ap said (room w t n (ltb-false _ _ x) (ltb-false _ _ y)))),
+        ))
+
+    pub queue-first : First (queueReasons p s a n) (numberOf (queueVerdict p s a n))
     unfolding queueVerdict
-    queue-stands e = cond-no _ _ _ _ e refl
+    queue-first =
+        let rs : List Reason = (8, ltb maxWaiting (s .counts .waiting + n)) ∷ (9, ltb maxTaken (s .counts .«next_offset» + s .counts .waiting + n)) ∷ [] in
+        behind (standingReasons p s a false) rs (standing p s a false) (roomVerdict (s .counts) n) (standing-refusals false) (standing-first false) room-first
 
-    -- 1 to 4 before 10
-    pub burst-stands : passed (standing p s a false) ≡ false → standing p s a false ≡ burstVerdict p s a n
-    unfolding burstVerdict
-    burst-stands e = cond-no _ _ _ _ e refl
+    pub burst-first : First (burstReasons p s a n) (numberOf (burstVerdict p s a n))
+    unfolding burstVerdict outputVerdict
+    burst-first =
+        let b = ltb n (maxSlots * p .«long_bytes») in
+        behind (standingReasons p s a false) ((10, b) ∷ []) (standing p s a false) (outputVerdict (p .«long_bytes») n) (standing-refusals false) (standing-first false)
+        (tested 10 b ShortOutput Accepted [] refl refl)
 
-    module _ (ok : passed (standing p s a false) ≡ true) where
-      pub eight : maxWaiting < s .counts .waiting + n → QueueFull ≡ queueVerdict p s a n
-      unfolding roomVerdict queueVerdict
-      eight l = cond-yes _ _ _ _ ok (cond-yes _ _ _ _ (eq-eqb _ _ (full (s .counts .waiting) (s .counts .«next_offset» + s .counts .waiting) n l)) refl)
-
-      pub nine : s .counts .waiting + n ≤ maxWaiting → maxTaken < s .counts .«next_offset» + s .counts .waiting + n → AllTaken ≡ queueVerdict p s a n
-      unfolding roomVerdict queueVerdict
-      nine f l =
-          let e = over (s .counts .waiting) (s .counts .«next_offset» + s .counts .waiting) n f l in
-          cond-yes _ _ _ _ ok (cond-no _ _ _ _ (ap (λ (q : ℕ). eqb q 8) e) (cond-yes _ _ _ _ (eq-eqb _ _ e) refl))
-
-      pub ten : n < maxSlots * p .«long_bytes» → ShortOutput ≡ burstVerdict p s a n
-      unfolding burstVerdict outputVerdict
-      ten l = cond-yes _ _ _ _ ok (cond-yes _ _ _ _ (lt-ltb _ _ l) refl)
+    pub reply-first : (h : Heard) (r : Reply) → First (replyReasons p s a h r n) (numberOf (receiveVerdict p s a h r n))
+    unfolding receiveVerdict replyVerdict
+    reply-first h r =
+        let k = eqb (kindOf r) 0 in
+        let b₅ = not (timeOk (s .link .«last_time») (h .time)) in
+        let b₆ = not (heardOk h && replyOk r) in
+        let b₇ = eqb (kindOf r) 2 && ltb n 13 in
+        let v₇ : Verdict = cond b₇ ShortPayload Accepted in
+        behind (standingReasons p s a k) ((5, b₅) ∷ (6, b₆) ∷ (7, b₇) ∷ []) (standing p s a k) (replyVerdict (s .link .«last_time») h r n) (standing-refusals k) (standing-first k)
+        (tested 5 b₅ BadTime (cond b₆ BadValue v₇) ((6, b₆) ∷ (7, b₇) ∷ []) refl
+        (tested 6 b₆ BadValue v₇ ((7, b₇) ∷ []) refl
+        (tested 7 b₇ ShortPayload Accepted [] refl refl)))

@@ -113,10 +113,6 @@ module _ (p : Profile) (s : Sender) (a : List ℕ) where
       let t = s .counts .«next_offset» + s .counts .waiting in
       (queue-fits (s .counts .waiting) t n (s .counts .flying) (flying-few s (counts-pass (q .1))) (q .2), sound-rows (q .1) .1, not-refused (s .counts .waiting) t n (q .2) .0)
 
-  pub receive-passed : (h : Heard) (r : Reply) (n : ℕ) → passed (receiveVerdict p s a h r n) ≡ true → (inRange p ≡ true) × (soundOk p s a ≡ true)
-  unfolding receiveVerdict
-  receive-passed h r n e = standing-passed (eqb (kindOf r) 0) (first-passed (standing p s a (eqb (kindOf r) 0)) (replyVerdict (s .link .«last_time») h r n) e .0)
-
   -- 1, 2 and 3 do not turn it down
   pub standing-three : (connect : Bool) → passed (standing p s a connect) ≡ true → (inRange p ≡ true) × (inOrder p ≡ true) × (soundOk p s a ≡ true)
   unfolding standing
@@ -125,6 +121,13 @@ module _ (p : Profile) (s : Sender) (a : List ℕ) where
       let h₂ = over-first (not (inOrder p)) ShortOverLong _ refl (h₁ .1) in
       let h₃ = over-first (not (soundOk p s a)) Unsound _ refl (h₂ .1) in
       (not-false _ (h₁ .0), not-false _ (h₂ .0), not-false _ (h₃ .0))
+
+  pub receive-three : (h : Heard) (r : Reply) (n : ℕ) → passed (receiveVerdict p s a h r n) ≡ true → (inRange p ≡ true) × (inOrder p ≡ true) × (soundOk p s a ≡ true)
+  unfolding receiveVerdict
+  receive-three h r n e = standing-three (eqb (kindOf r) 0) (first-passed (standing p s a (eqb (kindOf r) 0)) (replyVerdict (s .link .«last_time») h r n) e .0)
+
+  pub receive-passed : (h : Heard) (r : Reply) (n : ℕ) → passed (receiveVerdict p s a h r n) ≡ true → (inRange p ≡ true) × (soundOk p s a ≡ true)
+  receive-passed h r n e = let t = receive-three h r n e in (t .0, t .2)
 
   -- nor does 10
   pub burst-passed : (n : ℕ) → passed (burstVerdict p s a n) ≡ true → (inRange p ≡ true) × (inOrder p ≡ true) × (soundOk p s a ≡ true) × (maxSlots * p .«long_bytes» ≤ n)

@@ -246,7 +246,9 @@ impl<M: Meter> Pair<M> {
         let (s, p) = (&self.original, self.port.sender());
         let (c, g) = (&p.counts, &p.gear);
         assert_eq!((s.level, s.target), (g.level, g.target));
-        assert_eq!(s.burst_s.to_bits(), g.burst_s.to_bits());
+        let usual = g.burst_s == 0.0;
+        let burst_s = if usual { s.cfg.max_burst_s } else { g.burst_s };
+        assert_eq!(s.burst_s.to_bits(), burst_s.to_bits());
         assert_eq!((s.out.len(), s.next_offset), (c.waiting as usize, c.next_offset));
         let flying: usize = s.inflight.values().map(Vec::len).sum();
         assert_eq!((s.inflight.len(), flying), (c.pieces, c.flying as usize));

@@ -24,7 +24,7 @@ use Rattle.config.specs.Ranged.{Ranged}
 use Rattle.levels.proofs.rates.RateLaws.{cue-in}
 use Rattle.gear.specs.declared.Gear.{Gear}
 use Rattle.gear.specs.Goodput.{cueFor}
-use Rattle.gear.specs.BurstLength.{cleanBurst, burstLen, steady, far, adapted}
+use Rattle.gear.specs.BurstLength.{cleanBurst, burstSeconds, burstLen, steady, far, adapted}
 
 module _ (p : Profile) (k : Ranged p) where
   abbrev usual : Float
@@ -60,18 +60,18 @@ module _ (p : Profile) (k : Ranged p) where
         clamp-in _ usual longest
         (in-no-nan {lo = neg (w64 180)} {hi = w64 25101} tt tt (clean-in _ _ _ _ (one-in cue) (k .air .ack (waveRank l) (wave-lt l)) turn-in (k .lengths .overhead))) usual-le
 
-    pub burst-len-in : (g : Gear) → T (le usual (g .«burst_s»)) → In usual longest (burstLen p g l)
+    pub burst-len-in : (g : Gear) → T (le usual (burstSeconds usual (g .«burst_s»))) → In usual longest (burstLen p g l)
     unfolding burstLen
     burst-len-in g b =
         let clean = cleanBurst p l (cueFor p g l) in
         let i = clean-burst-in (cueFor p g l) in
-        let m = min-le (g .«burst_s») clean (le-no-nan usual (g .«burst_s») b .1) (le-no-nan usual clean (i .low) .1) in
+        let m = min-le (burstSeconds usual (g .«burst_s»)) clean (le-no-nan usual (burstSeconds usual (g .«burst_s»)) b .1) (le-no-nan usual clean (i .low) .1) in
         either (In usual longest) (p .lengths .«burst_adapt») _ _
-        (record { low = min-keeps (λ (z : Float). T (le usual z)) (g .«burst_s») clean b (i .low); high = le-trans (minF (g .«burst_s») clean) clean longest (m .1) (i .high) })
+        (record { low = min-keeps (λ (z : Float). T (le usual z)) (burstSeconds usual (g .«burst_s»)) clean b (i .low); high = le-trans (minF (burstSeconds usual (g .«burst_s»)) clean) clean longest (m .1) (i .high) })
         (record { low = le-refl usual (no-nan usual (k .lengths .usual)); high = usual-le })
 
   -- the next budget: from 1 to 1,000 s
-  pub adapted-in : (at : ℕ) (loss snr : Float) (g : Gear) → In (w64 1) (w64 1000) (g .«burst_s») → In (w64 1) (w64 1000) (adapted p at loss snr g .«burst_s»)
+  pub adapted-in : (at : ℕ) (loss snr : Float) (g : Gear) → In (w64 1) (w64 1000) (burstSeconds usual (g .«burst_s»)) → In (w64 1) (w64 1000) (adapted p at loss snr g .«burst_s»)
   unfolding adapted
   adapted-in at loss snr g i =
       either (In (w64 1) (w64 1000)) (eq loss (w32 0) && eqb (g .level) at && steady (g .«last_report_db») (p .lengths .«burst_steady_db») snr && far (p .plain) (p .lengths .«burst_climb_db») at (p .«max_level») snr) _ _ (doubled-in _ _ _ i (k .lengths .long) (k .lengths .usual)) (k .lengths .usual)

@@ -13,7 +13,6 @@ use Rattle.laws.specs.Bytes.{Bytes}
 use Rattle.config.specs.declared.Profile.{Profile}
 use Rattle.gear.specs.declared.Gear.{Gear}
 use Rattle.gear.specs.declared.Outcome.{Outcome}
-use Rattle.gear.specs.Setters.{withBurst}
 use Rattle.gear.specs.OtherReplies.{connected, onTurn}
 use Rattle.ledger.specs.Ledger.{clearBurst}
 use Rattle.record.specs.View.{view, store, storeArea}
@@ -72,7 +71,7 @@ turn-is p h r s q o db g e₁ e₂ e₃ e₄ =
     (e₃ ∙ ap₂ (λ (x : Outcome) (y : Float). onTurn p (s .gear) x y (h .wave) (h .time)) e₁ e₂)
 
 pub connect-is : (p : Profile) (h : Heard) (r : ConnAck) (s : Sender) (g : Gear)
-    → g ≡ connected p (withBurst (s .gear) (p .lengths .«max_burst_s»)) (r .class) (p .cue && r .cue) (r .«snr_db») (h .time)
+    → g ≡ connected p (s .gear) (r .class) (p .cue && r .cue) (r .«snr_db») (h .time)
     → withLink (withGear s g) (connectNoted (s .link) (h .time) (r .session) (r .slot)) ≡ connectedTo p h r s
 unfolding connectedTo
 connect-is p h r s g e = ap (λ (x : Gear). withLink (withGear s x) (connectNoted (s .link) (h .time) (r .session) (r .slot))) e

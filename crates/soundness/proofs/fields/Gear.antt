@@ -3,12 +3,12 @@ use mathlib.Core.Path.{_≡_, refl, sym}
 use mathlib.Core.Bool.{Bool, true, false, not, _&&_, _||_, false≢true}
 use Prim.Native.Nat.{ℕ, _≤_}
 use native.Mathlib.Omega.{arith}
-use borrow.Author.Tests.{leb-true, le-leb, not-true}
+use borrow.Author.Tests.{leb-true, le-leb, le-ltb, ltb-false, not-true}
 use denote.Floats.{passes, is-true}
-use lib.Dec.{T}
+use lib.Dec.{T, ltb}
 use lib.ListN.{getD}
 use lib.Ieee.{Float, nan, le, neg}
-use Rattle.laws.proofs.Picks.{and-first, and-second, and-yes}
+use Rattle.laws.proofs.Picks.{test, or-left, or-right}
 use Rattle.laws.proofs.Tests.{all-at, all-none, all-more}
 use Rattle.laws.proofs.Span.{every-all, all-every}
 use Rattle.ieee.proofs.Range.{from-inside, to-inside}
@@ -21,6 +21,27 @@ use Rattle.gear.specs.declared.Gear.{Gear}
 use Rattle.record.specs.declared.Link.{Link}
 use Rattle.soundness.specs.Soundness.{keptOk, keptIfOk, reportsOk, rememberedOk, gearOk, linkOk}
 use Rattle.soundness.specs.SoundnessCode.{SoundGear, SoundLink}
+
+-- ---- a test of what is there
+
+where-set : (s t : Bool) → (not s || t) ≡ true → s ≡ true → t ≡ true
+where-set true t e z = e
+where-set false t e z = absurd (false≢true z)
+
+if-set : (s t : Bool) → (s ≡ true → t ≡ true) → (not s || t) ≡ true
+if-set true t f = f refl
+if-set false t f = refl
+
+-- of a count
+from-count : (n m : ℕ) (t : Bool) → (ltb n m || t) ≡ true → m ≤ n → t ≡ true
+from-count n m t e h = go (ltb n m) e (le-ltb n m h)
+  where
+    go : (b : Bool) → (b || t) ≡ true → b ≡ false → t ≡ true
+    go true e z = absurd (false≢true (sym z))
+    go false e z = e
+
+to-count : (n m : ℕ) (t : Bool) → (m ≤ n → t ≡ true) → (ltb n m || t) ≡ true
+to-count n m t f = test (ltb n m) (λ z. or-left (ltb n m) t z) (λ z. or-right (ltb n m) t (f (omega (arith, ltb-false n m z))))
 
 -- ---- one number
 
@@ -38,26 +59,18 @@ to-kept x i = to-inside _ _ x i
 
 from-kept-if : (m : MaybeDb) → keptIfOk m ≡ true → m .set ≡ true → In (neg (w32 100)) (w32 308) (m .db)
 unfolding keptIfOk
-from-kept-if m e z = from-kept (m .db) (go (m .set) (keptOk (m .db)) e z)
-  where
-    go : (s t : Bool) → (not s || t) ≡ true → s ≡ true → t ≡ true
-    go true t e z = e
-    go false t e z = absurd (false≢true z)
+from-kept-if m e z = from-kept (m .db) (where-set (m .set) (keptOk (m .db)) e z)
 
 to-kept-if : (m : MaybeDb) → (m .set ≡ true → In (neg (w32 100)) (w32 308) (m .db)) → keptIfOk m ≡ true
 unfolding keptIfOk
-to-kept-if m f = go (m .set) (keptOk (m .db)) (λ z. to-kept (m .db) (f z))
-  where
-    go : (s t : Bool) → (s ≡ true → t ≡ true) → (not s || t) ≡ true
-    go true t f = f refl
-    go false t f = refl
+to-kept-if m f = if-set (m .set) (keptOk (m .db)) (λ z. to-kept (m .db) (f z))
 
 -- ---- the gear
 
 module _ (t : Tries) (h : Holds) (k : ℕ) where
-  from-share : rememberedOk t h k ≡ true → In (w32 0) (w32 1) (getD (t .success) k nan)
+  from-share : rememberedOk t h k ≡ true → getD (t .tried) k false ≡ true → In (w32 0) (w32 1) (getD (t .success) k nan)
   unfolding rememberedOk
-  from-share e = from-inside _ _ _ (all-at _ 0 e)
+  from-share e z = from-inside _ _ _ (where-set _ _ (all-at _ 0 e) z)
 
   from-time : rememberedOk t h k ≡ true → T (le (getD (t .«success_at») k nan) (w64 1000000000))
   unfolding rememberedOk
@@ -67,10 +80,10 @@ module _ (t : Tries) (h : Holds) (k : ℕ) where
   unfolding rememberedOk
   from-end e = passes _ (all-at _ 2 e)
 
-  to-level : In (w32 0) (w32 1) (getD (t .success) k nan) → T (le (getD (t .«success_at») k nan) (w64 1000000000))
+  to-level : (getD (t .tried) k false ≡ true → In (w32 0) (w32 1) (getD (t .success) k nan)) → T (le (getD (t .«success_at») k nan) (w64 1000000000))
       → T (le (getD (h .«blocked_until») k nan) (w64 1001000000)) → rememberedOk t h k ≡ true
   unfolding rememberedOk
-  to-level i u v = all-more _ _ (to-inside _ _ _ i) (all-more _ _ (is-true _ u) (all-more _ _ (is-true _ v) all-none))
+  to-level i u v = all-more _ _ (if-set _ _ (λ z. to-inside _ _ _ (i z))) (all-more _ _ (is-true _ u) (all-more _ _ (is-true _ v) all-none))
 
 pub gear-sound : (g : Gear) → gearOk g ≡ true → SoundGear g
 unfolding gearOk reportsOk
@@ -80,27 +93,31 @@ gear-sound g e =
     record {
       level = omega (arith, leb-true (g .level) 16 (all-at _ 0 e));
       target = omega (arith, leb-true (g .target) 16 (all-at _ 1 e));
-      burst = from-inside _ _ _ (all-at _ 2 e);
+      burst = passes _ (all-at _ 2 e);
       aim = from-kept-if _ (all-at _ 3 e);
       last = from-kept-if _ (all-at _ 4 e);
-      count = leb-true _ _ (all-at _ 0 r);
-      a = from-kept _ (all-at _ 1 r);
-      b = from-kept _ (all-at _ 2 r);
-      c = from-kept _ (all-at _ 3 r);
+      a = λ h. from-kept _ (from-count (g .«snr_reports» .count) 3 _ (all-at _ 2 r) h);
+      b = λ h. from-kept _ (from-count (g .«snr_reports» .count) 2 _ (all-at _ 1 r) h);
+      c = λ h. from-kept _ (from-count (g .«snr_reports» .count) 1 _ (all-at _ 0 r) h);
       shares = λ k h. from-share (g .tries) (g .holds) k (v k h);
       times = λ k h. from-time (g .tries) (g .holds) k (v k h);
       ends = λ k h. from-end (g .tries) (g .holds) k (v k h);
     }
 
-to-reports : (r : Reports) → r .count ≤ 3 → In (neg (w32 100)) (w32 308) (r .a) → In (neg (w32 100)) (w32 308) (r .b) → In (neg (w32 100)) (w32 308) (r .c) → reportsOk r ≡ true
+abbrev There : ℕ → Reports → Float → Type 0
+There n r x = n ≤ r .count → In (neg (w32 100)) (w32 308) x
+
+to-reports : (r : Reports) → There 3 r (r .a) → There 2 r (r .b) → There 1 r (r .c) → reportsOk r ≡ true
 unfolding reportsOk
-to-reports r n a b c = all-more _ _ (le-leb _ _ n) (all-more _ _ (to-kept _ a) (all-more _ _ (to-kept _ b) (all-more _ _ (to-kept _ c) all-none)))
+to-reports r a b c =
+    all-more _ _ (to-count (r .count) 1 _ (λ h. to-kept _ (c h)))
+    (all-more _ _ (to-count (r .count) 2 _ (λ h. to-kept _ (b h))) (all-more _ _ (to-count (r .count) 3 _ (λ h. to-kept _ (a h))) all-none))
 
 pub sound-gear : (g : Gear) → SoundGear g → gearOk g ≡ true
 unfolding gearOk
 sound-gear g r =
-    all-more _ _ (le-leb (g .level) 16 (omega (arith, r .level))) (all-more _ _ (le-leb (g .target) 16 (omega (arith, r .target))) (all-more _ _ (to-inside _ _ _ (r .burst))
-    (all-more _ _ (to-kept-if _ (r .aim)) (all-more _ _ (to-kept-if _ (r .last)) (all-more _ _ (to-reports _ (r .count) (r .a) (r .b) (r .c))
+    all-more _ _ (le-leb (g .level) 16 (omega (arith, r .level))) (all-more _ _ (le-leb (g .target) 16 (omega (arith, r .target))) (all-more _ _ (is-true _ (r .burst))
+    (all-more _ _ (to-kept-if _ (r .aim)) (all-more _ _ (to-kept-if _ (r .last)) (all-more _ _ (to-reports _ (r .a) (r .b) (r .c))
     (all-more _ _ (all-every (rememberedOk (g .tries) (g .holds)) 17 (λ k h. to-level (g .tries) (g .holds) k (r .shares k h) (r .times k h) (r .ends k h))) all-none))))))
 
 -- ---- the link
@@ -109,17 +126,15 @@ pub link-sound : (k : Link) → linkOk k ≡ true → SoundLink k
 unfolding linkOk
 link-sound k e =
     record {
-      time = from-inside _ _ _ (all-at _ 0 e);
+      time = passes _ (all-at _ 0 e);
       number = leb-true _ _ (all-at _ 1 e);
-      heard = leb-true _ _ (all-at _ 2 e);
-      slot = leb-true _ _ (all-at _ 3 e);
-      wave = leb-true _ _ (all-at _ 4 e);
-      notBelow = not-true _ (all-at _ 5 e);
-      notAbove = not-true _ (all-at _ 6 e);
+      heard = λ z. leb-true _ _ (where-set (k .heard) _ (all-at _ 2 e) z);
+      notBelow = not-true _ (all-at _ 3 e);
+      notAbove = not-true _ (all-at _ 4 e);
     }
 
 pub sound-link : (k : Link) → SoundLink k → linkOk k ≡ true
 unfolding linkOk
 sound-link k r =
-    all-more _ _ (to-inside _ _ _ (r .time)) (all-more _ _ (le-leb _ _ (r .number)) (all-more _ _ (le-leb _ _ (r .heard)) (all-more _ _ (le-leb _ _ (r .slot))
-    (all-more _ _ (le-leb _ _ (r .wave)) (all-more _ _ (not-yes _ (r .notBelow)) (all-more _ _ (not-yes _ (r .notAbove)) all-none))))))
+    all-more _ _ (is-true _ (r .time)) (all-more _ _ (le-leb _ _ (r .number)) (all-more _ _ (if-set (k .heard) _ (λ z. le-leb _ _ (r .heard z)))
+    (all-more _ _ (not-yes _ (r .notBelow)) (all-more _ _ (not-yes _ (r .notAbove)) all-none))))

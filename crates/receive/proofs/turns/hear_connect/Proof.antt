@@ -8,7 +8,7 @@ connect-requires : tie.Need-connect-requires
 connect-requires c κs = search needs
 
 returns : tie.Need-returns
-returns c = connect-is _ _ _ _ _ (c .before .before .before .before .connect .ensures)
+returns c = connect-is _ _ _ _ _ (c .before .before .before .before .before .connect .ensures)
 
 pub hear-connect-spec : {M : Type 1} → statement M
 hear-connect-spec = tie.close (tie.spec connect-requires returns)

@@ -37,12 +37,15 @@ mul-level-ok-3 c = search needs
 element-copy-out-level-ok-3 : tie.Need-element-copy-out-level-ok-3 Inv-loop μ-loop
 element-copy-out-level-ok-3 c = search needs
 
+element-copy-out-level-ok-4 : tie.Need-element-copy-out-level-ok-4 Inv-loop μ-loop
+element-copy-out-level-ok-4 c = search needs
+
 level-ok-requires : tie.Need-level-ok-requires Inv-loop μ-loop
 level-ok-requires c κs = search needs
 
 returns : tie.Need-returns Inv-loop μ-loop
 unfolding rememberedOk
-returns c = sym (c .before .before .before .before .before .before .loop .inv .1 ∙ every-fail _ _ _ (omega arith) (told-no _ _ (c .before .level-ok .ensures) (not-true _ (c .if1 .taken))))
+returns c = sym (c .before .before .before .before .before .before .before .loop .inv .1 ∙ every-fail _ _ _ (omega arith) (told-no _ _ (c .before .level-ok .ensures) (not-true _ (c .if1 .taken))))
 
 add-k : tie.Need-add-k Inv-loop μ-loop
 add-k c = search needs
@@ -52,7 +55,7 @@ loop-less c = search needs
 
 loop-again : tie.Need-loop-again Inv-loop μ-loop
 unfolding rememberedOk
-loop-again c = (omega arith, c .before .before .before .before .before .before .loop .inv .1 ∙ every-pass _ _ _ (omega arith) (told-yes _ _ (c .before .level-ok .ensures) (not-false _ (c .if1 .left))))
+loop-again c = (omega arith, c .before .before .before .before .before .before .before .loop .inv .1 ∙ every-pass _ _ _ (omega arith) (told-yes _ _ (c .before .level-ok .ensures) (not-false _ (c .if1 .left))))
 
 returns-2 : tie.Need-returns-2 Inv-loop μ-loop
 returns-2 c = sym (c .before .loop .inv .1 ∙ every-end _ _ _ (omega arith))
@@ -64,12 +67,13 @@ levels-ok-spec =
     Inv-loop
     μ-loop
     loop-holds
-    mul-level-ok
     element-copy-out-level-ok
-    mul-level-ok-2
+    mul-level-ok
     element-copy-out-level-ok-2
-    mul-level-ok-3
+    mul-level-ok-2
     element-copy-out-level-ok-3
+    mul-level-ok-3
+    element-copy-out-level-ok-4
     level-ok-requires
     returns
     add-k

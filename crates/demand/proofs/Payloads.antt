@@ -1,0 +1,52 @@
+-- The output of a burst, from its answer and the bytes taken alone.
+-- Assumes nothing.
+use Prim.Native.Nat.{ℕ, zero, suc, _+_, _-_, _≤_}
+use mathlib.Core.Path.{_≡_, refl, sym, ap, ap₂, _∙_, subst}
+use mathlib.Core.List.{List, [], _∷_, _++_, map, append-assoc}
+use native.Mathlib.Omega.{arith}
+use lib.ListN.{length, take, drop, take-append-drop, length-append, length-take, length-drop}
+use Rattle.laws.proofs.Lists.{map-map, map-id, map-append}
+use Rattle.frame.specs.Frame.{frameOf}
+use Rattle.ledger.specs.Ledger.{Piece, Sent, Frame, find}
+use Rattle.ledger.specs.LedgerCode.{frames}
+use Rattle.ledger.specs.Tally.{Tally, unacked, byteOf, furthest, sentOut, feed, went}
+use Rattle.ledger.specs.ClaimCode.{Carry}
+use Rattle.pieces.specs.Burst.{framesSent}
+use Rattle.demand.specs.Page.{Taken, framesOfTaken}
+
+pub take-drop-more : (n o : ℕ) (bs ys : List ℕ) → n ≤ length (take n (drop o bs)) → take n (drop o (bs ++ ys)) ≡ take n (drop o bs)
+take-drop-more zero o bs ys h = refl
+take-drop-more (suc n) zero [] ys h = absurd (omega arith)
+take-drop-more (suc n) zero (b ∷ bs) ys h = ap (λ (l : List ℕ). b ∷ l) (take-drop-more n zero bs ys (omega arith))
+take-drop-more (suc n) (suc o) [] ys h = absurd (omega arith)
+take-drop-more (suc n) (suc o) (b ∷ bs) ys h = take-drop-more (suc n) o bs ys h
+
+pub sent-taken : (size : ℕ) (bs ys : List ℕ) (ps : List Piece) (fs : List Sent) → Carry bs ps (frames ps fs) → framesSent size ps fs ≡ framesOfTaken size (bs ++ ys) (frames ps fs)
+sent-taken size bs ys ps [] c = refl
+sent-taken size bs ys ps (f ∷ fs) c =
+    let e : find (f .off) ps ≡ take (length (find (f .off) ps)) (drop (f .off) bs) = c .2 in
+    let m = take-drop-more (length (find (f .off) ps)) (f .off) bs ys (omega (arith, ap length e)) in
+    ap₂ (λ (x y : List ℕ). frameOf size (f .off) x ++ y) (e ∙ sym m) (sent-taken size bs ys ps fs (c .3))
+
+-- a burst moves bytes from waiting to flown
+pub sent-bytes : (n : ℕ) (fs : List Frame) (t : Tally) → map byteOf (feed (went n fs) t .flown) ++ feed (went n fs) t .waiting ≡ map byteOf (t .flown) ++ t .waiting
+unfolding sentOut
+sent-bytes n fs t =
+    let k = furthest fs - length (t .flown) in
+    let u : map byteOf (unacked (take k (t .waiting))) ≡ take k (t .waiting) = map-map byteOf _ (take k (t .waiting)) ∙ map-id (take k (t .waiting)) in
+    rw (
+      map-append byteOf (t .flown) (unacked (take k (t .waiting))),
+      u,
+      append-assoc (map byteOf (t .flown)) (take k (t .waiting)) (drop k (t .waiting)),
+      take-append-drop k (t .waiting),
+    )
+    refl
+
+-- frames that carry flown bytes carry bytes taken
+pub within : (bs ys : List ℕ) (ps : List Piece) (fs : List Frame) → Carry bs ps fs → Taken (bs ++ ys) fs
+within bs ys ps [] h = tt
+within bs ys ps (f ∷ fs) h = (
+  h .0,
+  omega (arith, h .0, h .1, ap length (h .2), length-take (f .len) (drop (f .off) bs), length-drop (f .off) bs, length-append bs ys),
+  within bs ys ps fs (h .3),
+)

@@ -1,0 +1,39 @@
+-- What the ledger proves for demand 3 (crates/demand/specs/Page.antt states it): follows the code or serves proofs; nothing here has to be believed.
+use Prim.Native.Nat.{ℕ, _+_, _≤_}
+use mathlib.Core.Path.{_≡_}
+use mathlib.Core.Bool.{true, _&&_, _||_}
+use mathlib.Core.List.{List, [], _∷_, _++_, map}
+use lib.Dec.{ltb}
+use lib.ListN.{length, take, drop}
+use Rattle.laws.specs.Lists.{listed}
+use Rattle.limits.specs.Limits.{maxFlying, maxPieces}
+use Rattle.ledger.specs.Ledger.{Piece, Frame, Sender, size, find, offs, heldOffs}
+use Rattle.ledger.specs.Tally.{Tally, Event, byteOf, inFlight, acknowledged, feed, framesTold}
+use Rattle.ledger.specs.Claim.{covering, flyingAt, ackedAt, settledBy}
+use Rattle.ledger.specs.CoverCode.{Ascend}
+use Rattle.ledger.specs.Sizes.{Sizes}
+
+-- each frame has 1 byte or more, and carries those of `bs` at its offset, as many as its length says
+abbrev pub Carry : List ℕ → List Piece → List Frame → Type 0
+Carry bs ps [] = Unit {0}
+Carry bs ps (f ∷ fs) =
+    (1 ≤ f .len) × (length (find (f .off) ps) ≡ f .len) × (find (f .off) ps ≡ take (f .len) (drop (f .off) bs)) × Carry bs ps fs
+
+-- after a list of calls that queued `bytes` and left the sender s and the tally t; one further call, told as e, leaves the sender s′
+pub record LedgerClaim (z : Sizes) (bytes : List ℕ) (s : Sender) (t : Tally) (e : Event) (s′ : Sender) : Type 0 where
+  pub sum : t .taken ≡ length (t .waiting) + inFlight (t .flown) + acknowledged (t .flown)
+  pub taken : t .taken ≡ length bytes
+  pub history : bytes ≡ map byteOf (t .flown) ++ t .waiting
+  pub waiting : s .waiting ≡ t .waiting
+  pub covers : (o : ℕ) → covering o (s .pieces) ≡ flyingAt o (t .flown)
+  pub inPieces : size (s .pieces) ≡ inFlight (t .flown)
+  pub ascends : Ascend (z .long) 0 (s .next) (s .pieces)
+  pub holds : (o : ℕ) → listed o (offs (s .pieces)) ≡ true → find o (s .pieces) ≡ take (length (find o (s .pieces))) (drop o (map byteOf (t .flown)))
+  pub next : s .next ≡ length (t .flown)
+  pub exactly : (o : ℕ) → ackedAt o (feed e t .flown) ≡ ackedAt o (t .flown) || (ltb o (length (t .flown)) && settledBy e (t .out) o)
+  pub acked : s .acked ≡ acknowledged (t .flown)
+  pub carries : Carry (map byteOf (feed e t .flown)) (s′ .pieces) (framesTold e)
+  pub keeps : (o : ℕ) → listed o (heldOffs (s .held)) ≡ true → listed o (heldOffs (s′ .held)) ≡ true →
+      (1 ≤ length (find o (s .pieces))) × (find o (s′ .pieces) ≡ find o (s .pieces))
+  pub flying : inFlight (t .flown) ≤ maxFlying
+  pub pieces : length (s .pieces) ≤ maxPieces

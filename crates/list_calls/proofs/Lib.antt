@@ -1,0 +1,2 @@
+-- What belongs to no one function: a law of what a line asked.
+pub mod Laws

@@ -1,0 +1,129 @@
+// The lines of a call list that ask the sender, a queuing or a reply (docs/CALLS.md, Calls): each is read, and its call is made over a record
+// that is held by value.
+use call_lines::connect_words;
+use call_lines::long_words;
+use call_lines::names::CONNECT;
+use call_lines::names::LONG;
+use call_lines::names::Named;
+use call_lines::names::SHORT;
+use call_lines::names::TURN;
+use call_lines::short_words;
+use call_lines::turn_words;
+use config::Profile;
+use numbered::Left;
+use record::Sender;
+use words::Read;
+use words::done;
+use words::hex;
+ghost use mathlib.Core.Path.{_≡_};
+ghost use Prim.Native.Nat.{_≤_};
+ghost use lib.ListN.{length, take};
+ghost use Rattle.list_calls.specs.Asked.{broken, connectAsked, shortAsked, turnAsked, longAsked, queueAsked, askedOf};
+
+// Bytes that a line can have as HEX: its 65,536 characters have no more pairs.
+const BYTES: usize = 32768;
+
+// What a line asked of the sender: whether the line was right, and what the call left.
+pub struct Asked {
+    pub ok: bool,
+    pub left: Left,
+}
+
+fn broken(s: Sender) -> Asked
+    ensures { λ r. ⌜ r ≡ broken s ⌝ }
+{
+    Asked {
+        ok: false,
+        left: Left {
+            refusal: 0,
+            next: s,
+        },
+    }
+}
+
+// n, or all of a slice where that is less.
+fn least(n: usize, a: &[u8]) -> usize
+    ensures { λ r. ⌜ r ≤ length (now (a .entry)) ⌝ }
+    ensures { λ r. ⌜ r ≡ length (take r (now (a .entry))) ⌝ }
+    ensures { λ r. ⌜ take r (now (a .entry)) ≡ take n (now (a .entry)) ⌝ }
+{
+    if n < a.len() { n } else { a.len() }
+}
+
+fn connect(line: &[u8], r: Read, p: Profile, s: Sender, area: &mut [u8]) -> Asked
+    ensures { λ q. ⌜ (q, now (area .exit)) ≡ connectAsked p s (now (area .entry)) (now (line .entry)) r ⌝ }
+{
+    let q = connect_words(line, r);
+    if !q.ok {
+        return broken(s);
+    }
+    let left = held::connect(p, s, area, q.heard, q.reply);
+    Asked { ok: true, left }
+}
+
+fn short(line: &[u8], r: Read, p: Profile, s: Sender, area: &mut [u8]) -> Asked
+    ensures { λ q. ⌜ (q, now (area .exit)) ≡ shortAsked p s (now (area .entry)) (now (line .entry)) r ⌝ }
+{
+    let q = short_words(line, r);
+    if !q.ok {
+        return broken(s);
+    }
+    let left = held::short_ack(p, s, area, q.heard, q.reply);
+    Asked { ok: true, left }
+}
+
+fn turn(line: &[u8], r: Read, p: Profile, s: Sender, area: &mut [u8]) -> Asked
+    ensures { λ q. ⌜ (q, now (area .exit)) ≡ turnAsked p s (now (area .entry)) (now (line .entry)) r ⌝ }
+{
+    let q = turn_words(line, r);
+    if !q.ok {
+        return broken(s);
+    }
+    let left = held::turn(p, s, area, q.heard, q.reply);
+    Asked { ok: true, left }
+}
+
+fn long(line: &[u8], r: Read, p: Profile, s: Sender, area: &mut [u8]) -> Asked
+    ensures { λ q. ⌜ (q, now (area .exit)) ≡ longAsked p s (now (area .entry)) (now (line .entry)) r ⌝ }
+{
+    let mut bytes = [0u8; BYTES];
+    let q = long_words(line, r, &mut bytes);
+    if !q.ok {
+        return broken(s);
+    }
+    let n = least(q.payload, &bytes);
+    let left = held::long_ack(p, s, area, q.heard, q.reply, &bytes[..n]);
+    Asked { ok: true, left }
+}
+
+fn queue(line: &[u8], r: Read, p: Profile, s: Sender, area: &mut [u8]) -> Asked
+    ensures { λ q. ⌜ (q, now (area .exit)) ≡ queueAsked p s (now (area .entry)) (now (line .entry)) r ⌝ }
+{
+    let mut bytes = [0u8; BYTES];
+    let q = hex(line, r, &mut bytes);
+    if !done(line, q) {
+        return broken(s);
+    }
+    let n = least(q.value as usize, &bytes);
+    let left = held::queue(p, s, area, &bytes[..n]);
+    Asked { ok: true, left }
+}
+
+// A queuing or a reply.
+pub fn ask(n: Named, line: &[u8], p: Profile, s: Sender, area: &mut [u8]) -> Asked
+    ensures { λ q. ⌜ (q, now (area .exit)) ≡ askedOf p s (now (area .entry)) (now (line .entry)) n ⌝ }
+{
+    if n.call == SHORT {
+        return short(line, n.read, p, s, area);
+    }
+    if n.call == LONG {
+        return long(line, n.read, p, s, area);
+    }
+    if n.call == TURN {
+        return turn(line, n.read, p, s, area);
+    }
+    if n.call == CONNECT {
+        return connect(line, n.read, p, s, area);
+    }
+    queue(line, n.read, p, s, area)
+}

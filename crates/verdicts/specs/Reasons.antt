@@ -1,0 +1,49 @@
+-- Document 01's refusals as tables: for each call the numbers that it may come back with, in the order in which they are checked, and the reason of each. Definitions only.
+use mathlib.Core.Path.{_≡_}
+use mathlib.Core.Logic.{_⊎_}
+use mathlib.Core.List.{List, [], _∷_, _++_}
+use mathlib.Core.Bool.{Bool, true, false, cond, not, _&&_}
+use Prim.Native.Nat.{ℕ, _+_, _*_}
+use lib.Dec.{ltb, eqb}
+use Rattle.config.specs.Ranges.{inRange, inOrder}
+use Rattle.config.specs.declared.Profile.{Profile}
+use Rattle.record.specs.declared.Sender.{Sender}
+use Rattle.soundness.specs.Soundness.{soundOk}
+use Rattle.replies.specs.declared.Heard.{Heard}
+use Rattle.refusals.specs.declared.Reply.{Reply}
+use Rattle.refusals.specs.Refusals.{kindOf, timeOk, heardOk, replyOk}
+use Rattle.limits.specs.Limits.{maxSlots, maxWaiting, maxTaken}
+
+-- a number, and whether its reason holds
+abbrev pub Reason : Type 0
+Reason = ℕ × Bool
+
+-- n is the number of the first reason that holds, 0 where none does
+abbrev pub First : List Reason → ℕ → Type 0
+First [] n = n ≡ 0
+First (r ∷ rs) n = ((r .1 ≡ true) × (n ≡ r .0)) ⊎ ((r .1 ≡ false) × First rs n)
+
+-- 1 to 4, of every call: `connect` says whether the call is a connect. 4: "A call other than connect comes before connect, or connect comes again"
+abbrev pub standingReasons : Profile → Sender → List ℕ → Bool → List Reason
+standingReasons p s a connect =
+    (1, not (inRange p)) ∷ (2, not (inOrder p)) ∷ (3, not (soundOk p s a)) ∷ (4, cond connect (s .link .connected) (not (s .link .connected))) ∷ []
+
+-- a lookup
+abbrev pub lookupReasons : Profile → Sender → List ℕ → List Reason
+lookupReasons p s a = standingReasons p s a false
+
+-- a queuing of n bytes. 8: "Waiting bytes would pass 16,384"; 9: "Bytes taken would pass 2^32 - 1"
+abbrev pub queueReasons : Profile → Sender → List ℕ → ℕ → List Reason
+queueReasons p s a n =
+    standingReasons p s a false
+    ++ ((8, ltb maxWaiting (s .counts .waiting + n)) ∷ (9, ltb maxTaken (s .counts .«next_offset» + s .counts .waiting + n)) ∷ [])
+
+-- a reply with a payload of n bytes. 7: "A long ack's payload is under 13 bytes"
+abbrev pub replyReasons : Profile → Sender → List ℕ → Heard → Reply → ℕ → List Reason
+replyReasons p s a h r n =
+    standingReasons p s a (eqb (kindOf r) 0)
+    ++ ((5, not (timeOk (s .link .«last_time») (h .time))) ∷ (6, not (heardOk h && replyOk r)) ∷ (7, eqb (kindOf r) 2 && ltb n 13) ∷ [])
+
+-- a burst into n bytes of output. 10: "The output is shorter than 64 times the long frame"
+abbrev pub burstReasons : Profile → Sender → List ℕ → ℕ → List Reason
+burstReasons p s a n = standingReasons p s a false ++ ((10, ltb n (maxSlots * p .«long_bytes»)) ∷ [])

@@ -1,0 +1,83 @@
+/* The C boundary: where a length is 0 the pointer may be NULL, and the answer is that to an empty buffer; every bool that a call writes is
+ * a byte 0 or 1, whatever lay there before. The last line counts the checks; the status is 1 where one failed. */
+#include "stations.h"
+
+static void same(const char *what, unsigned got, unsigned wanted) {
+    checks++;
+    if (got == wanted) return;
+    printf("boundary: %s: %u, not %u\n", what, got, wanted);
+    failures++;
+}
+
+/* The bytes of n bools, not read as bools. */
+static void bools(const char *what, const void *at, size_t n) {
+    const uint8_t *bytes_at = at;
+    for (size_t i = 0; i < n; i++) same(what, bytes_at[i] > 1, 0);
+}
+
+static void record_bools(const char *what, const struct vanitycrow_sender *s) {
+    const bool *single[] = {
+        &s->gear.aim_db.set, &s->gear.last_report_db.set, &s->gear.peer_class.echo, &s->gear.peer_class.doppler, &s->gear.cue,
+        &s->link.connected, &s->link.awaiting, &s->link.heard, &s->link.peer_wants_turn, &s->link.peer_wants_disc,
+    };
+    for (size_t i = 0; i < sizeof single / sizeof *single; i++) bools(what, single[i], 1);
+    bools(what, s->gear.tries.tried, VANITYCROW_LEVELS);
+    bools(what, s->gear.holds.hold_all, VANITYCROW_LEVELS);
+}
+
+static void written_bools(void) {
+    struct vanitycrow_sender s;
+    memset(&s, 0xFF, sizeof s);
+    vanitycrow_fresh(&s);
+    record_bools("a fresh record over bytes 255", &s);
+    record_bools("a record that is connected", &open_one.s);
+    record_bools("a record with pieces in flight", &flown_one.s);
+    memcpy(&tried, &open_one, sizeof tried);
+    struct vanitycrow_burst b = vanitycrow_data_burst(&tried.p, &tried.s, tried.area, VANITYCROW_AREA_BYTES, tried.out, OUT_BYTES);
+    same("a burst", b.refusal, 0);
+    bools("a burst's cue", &b.outgoing.cue, 1);
+    bools("a burst's td_ease", &b.outgoing.td_ease, 1);
+    struct vanitycrow_place here = vanitycrow_find(&tried.p, &tried.s, tried.area, VANITYCROW_AREA_BYTES, 0);
+    same("a piece", here.here, 1);
+    bools("a piece's place", &here.here, 1);
+}
+
+/* Each call with no work area at all: refused by 3, as with an empty one. */
+static void no_area(struct station *t, const struct arguments *g) {
+    same("connect, no area", vanitycrow_connect(&t->p, &t->s, NULL, 0, g->h, g->connect), 3);
+    same("queue, no area", vanitycrow_queue(&t->p, &t->s, NULL, 0, NULL, 0), 3);
+    same("short ack, no area", vanitycrow_short_ack(&t->p, &t->s, NULL, 0, g->h, g->ack), 3);
+    same("long ack, no area", vanitycrow_long_ack(&t->p, &t->s, NULL, 0, g->h, g->long_ack, NULL, 0), 3);
+    same("turn, no area", vanitycrow_turn(&t->p, &t->s, NULL, 0, g->h, g->turn), 3);
+    same("burst, no area", vanitycrow_data_burst(&t->p, &t->s, NULL, 0, NULL, 0).refusal, 3);
+    same("find, no area", vanitycrow_find(&t->p, &t->s, NULL, 0, 0).refusal, 3);
+}
+
+static void no_memory(void) {
+    struct station *t = &tried;
+    size_t n = VANITYCROW_AREA_BYTES;
+    given = usual_arguments();
+    given.area_len = 0;
+    expect_all("an empty work area", &open_one, &given, 3);
+    memcpy(t, &open_one, sizeof *t);
+    no_area(t, &given);
+    same("record and buffers, no area", (unsigned)memcmp(t, &open_one, sizeof *t), 0);
+    same("queue of nothing", vanitycrow_queue(&t->p, &t->s, t->area, n, NULL, 0), 0);
+    same("bytes that wait after it", t->s.counts.waiting, open_one.s.counts.waiting);
+    same("a long ack of nothing", vanitycrow_long_ack(&t->p, &t->s, t->area, n, given.h, given.long_ack, NULL, 0), 7);
+    same("a burst into nothing", vanitycrow_data_burst(&t->p, &t->s, t->area, n, NULL, 0).refusal, 10);
+    same("a burst into an empty output", vanitycrow_data_burst(&t->p, &t->s, t->area, n, t->out, 0).refusal, 10);
+    same("a link log of no call sign", vanitycrow_adif(NULL, 0, 0, 0, 0, t->out, OUT_BYTES).refusal, 20);
+    same("a link log into nothing", vanitycrow_adif((const uint8_t *)"A", 1, 0, 0, 0, NULL, 0).refusal, 22);
+}
+
+int main(void) {
+    if (!make_stations()) {
+        puts("boundary: the stations could not be made");
+        return 1;
+    }
+    written_bools();
+    no_memory();
+    printf("%u checks, %u failed\n", checks, failures);
+    return failures != 0;
+}
