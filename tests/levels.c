@@ -1,4 +1,5 @@
-/* What the original's `level_for` chooses, from standard input as `oracle/run levels` writes it, against vanitycrow_levels:
+/* levels SETS: what the original's `level_for` chooses under so many sets of thresholds, from standard input as `oracle/run levels` writes it, against
+ * vanitycrow_levels:
  *
  *     marks EFF_SNR THRESHOLDS MARGIN THRESHOLDS MARGIN    17 thresholds and the margin by their bits: the plain ones, then the effective
  *     for POWER TOP PICK_FAMILY ECHO DOPPLER LEVELS        the levels for reports 0 to 255 under these, a letter each, `a` for level 0
@@ -7,12 +8,14 @@
  * every range of one report; for a line in 20,011 every pair of a lowest and a highest. The last line counts; the status is 1 where one differs. */
 #include <inttypes.h>
 #include <stdio.h>
+#include <stdlib.h>
 #include <string.h>
 #include "usual.h"
 #include "vanitycrow.h"
 
 #define REPORTS 256
-#define EVERY_REPORT 1275 /* lines: those of five sets of thresholds */
+#define LINES_OF_A_SET 255 /* three power tables, 17 highest levels, four classes and one that is not heeded */
+#define EVERY_REPORT (5 * LINES_OF_A_SET)
 #define EVERY_PAIR 20011
 
 static struct vanitycrow_profile p, before;
@@ -101,7 +104,8 @@ static int read_line(void) {
     return 1;
 }
 
-int main(void) {
+int main(int argc, char **argv) {
+    unsigned long wanted = argc == 2 ? strtoul(argv[1], NULL, 10) : 0;
     char word[6];
     while (scanf("%5s", word) == 1) {
         int is_line = strcmp(word, "for") == 0;
@@ -112,5 +116,5 @@ int main(void) {
         if (is_line && !line_good()) return 1;
     }
     printf("%lu sets of thresholds, %lu listings alike\n", sets, answers);
-    return lines > 0 ? 0 : 1;
+    return sets > 0 && sets == wanted && lines == LINES_OF_A_SET * sets ? 0 : 1;
 }
