@@ -8,6 +8,7 @@ use float_bits::of_bits64;
 use numbered::Left;
 use numbered::LeftBurst;
 use profile_table::single_of;
+use reachable::levels_under;
 use record::Sender;
 use replies::Ack;
 use replies::ConnAck;
@@ -376,6 +377,50 @@ pub(crate) fn log(
         return failed(run);
     }
     log_call(q, run, t, out, bytes)
+}
+
+// A line about a range of reports: the channel's class, the lowest and the highest, and whether it was right.
+pub struct RangeLine {
+    pub class: ChanClass,
+    pub low: u8,
+    pub high: u8,
+    pub ok: bool,
+}
+
+fn range_words(line: &[u8], r: Read) -> RangeLine {
+    let echo = flag(line, r);
+    let doppler = flag(line, echo);
+    let low = whole(line, doppler);
+    let high = whole(line, low);
+    RangeLine {
+        class: ChanClass {
+            echo: echo.value == 1,
+            doppler: doppler.value == 1,
+        },
+        low: u8_of(low.value),
+        high: u8_of(high.value),
+        ok: done(line, high),
+    }
+}
+
+// The answer to such a line.
+fn levels_call(q: RangeLine, run: Run, t: &mut [u8]) -> Run {
+    let found = levels_under(run.p, q.class, q.low, q.high);
+    let refusal = found.refusal;
+    if refusal != 0 {
+        let n = transcript::answer(t, run.text, b"levels", refusal);
+        return with_text(run, n);
+    }
+    let n = transcript::reached::levels(t, run.text, found);
+    with_text(run, n)
+}
+
+pub(crate) fn levels(line: &[u8], r: Read, run: Run, t: &mut [u8]) -> Run {
+    let q = range_words(line, r);
+    if !q.ok {
+        return failed(run);
+    }
+    levels_call(q, run, t)
 }
 
 pub(crate) fn show(line: &[u8], r: Read, run: Run, area: &[u8], t: &mut [u8]) -> Run {

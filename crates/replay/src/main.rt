@@ -142,6 +142,10 @@ fn call(
     if r.ok {
         return calls::log(line, r, run, t, out, bytes);
     }
+    let r = word(line, b"levels");
+    if r.ok {
+        return calls::levels(line, r, run, t);
+    }
     look(line, run, area, t, bytes)
 }
 

@@ -11,6 +11,7 @@ ghost use Rattle.transcript.specs.Answers.{answerLine, pieceLine, logLin
 
 pub mod burst;
 pub mod lists;
+pub mod reached;
 pub mod state;
 
 // What a call answers, by its name and the refusal's number, 0 for none.
