@@ -17,7 +17,8 @@ use Rattle.config.proofs.ranges.Ranged.{ranged}
 use Rattle.levels.specs.Usable.{heeded}
 use Rattle.levels.proofs.usable.Laws.{level-for-lt}
 use Rattle.gear.specs.Goodput.{marksOf}
-use Rattle.reachable.specs.Reachable.{Reached, reachable, chosenBy, chosenUnder, places, listing, answer, rangeRefusal, profileRefusal, listingBy, listingUnder}
+use Rattle.reachable.specs.Reachable.{Reached, reachable, chosenBy, chosenUnder, places}
+use Rattle.reachable.specs.Reachable.{listing, answer, rangeRefusal, profileRefusal, listingBy, listingUnder}
 use Rattle.reachable.specs.Claim.{Lists, pairs, entries, Answered, ByClaim, UnderClaim, AgreeClaim}
 use Rattle.reachable.proofs.Laws.{lists}
 use Rattle.reachable.proofs.Refusals.{range-none, profile-none}
@@ -51,7 +52,12 @@ module _ (f : ℕ → ℕ) (low high k : ℕ) (h : high ≤ 255) (b : k ≡ 0 �
   none-of e = rw (ne-eqb k 0 e) (entries-listing k [])
 
   pub answered : Answered f low high k (answer k (reachable f low high))
-  answered = record { number = number-of; listed = λ e. subst (Lists f low high) (sym (listed-of e)) (lists f low high h (b e)); none = none-of }
+  answered =
+      record {
+        number = number-of;
+        listed = λ e. subst (Lists f low high) (sym (listed-of e)) (lists f low high h (b e));
+        none = none-of;
+      }
 
 -- ---- the two calls
 
@@ -73,11 +79,13 @@ marks-ok : (p : Profile) → inRange p ≡ true → marksOk (marksOf p) ≡ true
 unfolding inRange marksOf
 marks-ok p e = by (λ (m : Marks). marksOk m ≡ true) (p .«eff_snr») (λ z. all-at _ 5 e) (λ z. all-at _ 4 e)
 
-same-refusal : (p : Profile) (low high : ℕ) → inRange p ≡ true → inOrder p ≡ true → profileRefusal p low high ≡ rangeRefusal (marksOf p) (p .power) (p .«max_level») low high
+same-refusal : (p : Profile) (low high : ℕ) → inRange p ≡ true → inOrder p ≡ true
+    → profileRefusal p low high ≡ rangeRefusal (marksOf p) (p .power) (p .«max_level») low high
 unfolding profileRefusal rangeRefusal
 same-refusal p low high e d =
     let r = ranged p e in
-    let k = all-more _ _ (marks-ok p e) (all-more _ _ (le-leb (p .power) 2 (r .power)) (all-more _ _ (le-leb (p .«max_level») 16 (r .top)) all-none)) in
+    let t = all-more _ _ (le-leb (p .«max_level») 16 (r .top)) all-none in
+    let k = all-more _ _ (marks-ok p e) (all-more _ _ (le-leb (p .power) 2 (r .power)) t) in
     rw (e, d, k) refl
 
 pub agree : AgreeClaim

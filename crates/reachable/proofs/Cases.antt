@@ -14,7 +14,8 @@ use Rattle.reachable.specs.Reachable.{Reached, chosenBy, lowestOf, given
 
 -- level_for of P11, with echoes or without
 abbrev p11 : Bool → ℕ → ℕ
-p11 echo = chosenBy (record { «thresholds_db» = thresholds; «margin_db» = ofBits binary32 0 }) 0 (record { echo = echo; doppler = false }) 16
+p11 echo =
+    chosenBy (record { «thresholds_db» = thresholds; «margin_db» = ofBits binary32 0 }) 0 (record { echo = echo; doppler = false }) 16
 
 abbrev told : List Reached → List ℕ
 told [] = []
@@ -31,7 +32,9 @@ pub record Cases : Type 0 where
   -- with echoes only the long guard is left above MFSK, so there is 8, from 7 dB on
   pub echoes : told (reachable (p11 true) 26 32) ≡ 7 ∷ 26 ∷ 8 ∷ 31 ∷ []
   -- every byte
-  pub every : told (reachable (p11 false) 0 255) ≡ 0 ∷ 0 ∷ 1 ∷ 15 ∷ 2 ∷ 16 ∷ 3 ∷ 18 ∷ 4 ∷ 20 ∷ 5 ∷ 21 ∷ 6 ∷ 24 ∷ 7 ∷ 26 ∷ 9 ∷ 27 ∷ 10 ∷ 30 ∷ 11 ∷ 32 ∷ 12 ∷ 36 ∷ 13 ∷ 38 ∷ 14 ∷ 40 ∷ 15 ∷ 45 ∷ 16 ∷ 48 ∷ []
+  pub every : told (reachable (p11 false) 0 255)
+      ≡ 0 ∷ 0 ∷ 1 ∷ 15 ∷ 2 ∷ 16 ∷ 3 ∷ 18 ∷ 4 ∷ 20 ∷ 5 ∷ 21 ∷ 6 ∷ 24 ∷ 7 ∷ 26 ∷ 9 ∷ 27 ∷ 10 ∷ 30
+      ∷ 11 ∷ 32 ∷ 12 ∷ 36 ∷ 13 ∷ 38 ∷ 14 ∷ 40 ∷ 15 ∷ 45 ∷ 16 ∷ 48 ∷ []
 
 pub cases : Cases
 unfolding levelFor enough familyOk airDb entryAt snrFromQ ofBits ofInt add sub le lt isNan highest waveRank lowestOf given upto first

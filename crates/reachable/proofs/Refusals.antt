@@ -16,7 +16,8 @@ use Rattle.config.proofs.ranges.Ranged.{ranged}
 use Rattle.report.specs.declared.ChanClass.{ChanClass}
 use Rattle.levels.specs.Usable.{heeded}
 use Rattle.gear.specs.Goodput.{marksOf}
-use Rattle.reachable.specs.Reachable.{Reached, chosenBy, chosenUnder, reachable, listing, answer, orderRefusal, rangeRefusal, profileRefusal}
+use Rattle.reachable.specs.Reachable.{Reached, chosenBy, chosenUnder, reachable}
+use Rattle.reachable.specs.Reachable.{listing, answer, orderRefusal, rangeRefusal, profileRefusal}
 use Rattle.reachable.specs.declared.Listing.{Listing}
 
 -- ---- `level_for`'s own arguments

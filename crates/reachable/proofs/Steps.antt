@@ -27,7 +27,8 @@ map-same g h a zero f = refl
 map-same g h a (suc m) f = λ i. f a (omega arith) i ∷ map-same g h (a + 1) m (λ l k. f l (omega arith)) i
 
 -- h is g but at a + i
-set-map : (g h : ℕ → ℕ) (v a m i : ℕ) → i < m → v ≡ h (a + i) → ((l : ℕ) → (l ≡ a + i → ⊥) → g l ≡ h l) → set (map g (from a m)) i v ≡ map h (from a m)
+set-map : (g h : ℕ → ℕ) (v a m i : ℕ) → i < m → v ≡ h (a + i) → ((l : ℕ) → (l ≡ a + i → ⊥) → g l ≡ h l)
+    → set (map g (from a m)) i v ≡ map h (from a m)
 unfolding from
 set-map g h v a zero i k e f = absurd (omega arith)
 set-map g h v a (suc m) zero k e f =
@@ -56,14 +57,16 @@ map-none g v a zero f = refl
 map-none g v a (suc m) f = λ i. f a i ∷ map-none g v (a + 1) m f i
 
 -- what `level_for` gives is a level
-pub chosen : (m : Marks) (power : ℕ) (c : ChanClass) (top : ℕ) (db : Float) (q l : ℕ) → top < 17 → db ≡ snrFromQ q → l ≡ levelFor m power c top db → (l < 17) × (l ≡ chosenBy m power c top q)
+pub chosen : (m : Marks) (power : ℕ) (c : ChanClass) (top : ℕ) (db : Float) (q l : ℕ) → top < 17 → db ≡ snrFromQ q
+    → l ≡ levelFor m power c top db → (l < 17) × (l ≡ chosenBy m power c top q)
 chosen m power c top db q l h e d = (rw d (level-for-lt m power c top db h), d ∙ ap (levelFor m power c top) e)
 
 pub noted-none : (f : ℕ → ℕ) (q n : ℕ) → n ≤ q → replicate 17 noQ ≡ lowestFrom f q n
 unfolding upto
 noted-none f q n h = sym (map-none (lowestIn f q n) noQ 0 17 (λ l. first-end q n (λ k. eqb (f k) l) noQ h))
 
-pub noted : (f : ℕ → ℕ) (xs : List ℕ) (p q n l : ℕ) → p ≡ q + 1 → q < n → l < 17 → l ≡ f q → xs ≡ lowestFrom f p n → set xs l q ≡ lowestFrom f q n
+pub noted : (f : ℕ → ℕ) (xs : List ℕ) (p q n l : ℕ) → p ≡ q + 1 → q < n → l < 17 → l ≡ f q → xs ≡ lowestFrom f p n
+    → set xs l q ≡ lowestFrom f q n
 unfolding upto
 noted f xs p q n l s h b d e =
     ap (λ (ys : List ℕ). set ys l q) (e ∙ ap (λ (k : ℕ). lowestFrom f k n) s)
@@ -94,7 +97,8 @@ place xs n v e h =
     ∙ sym (append-snoc xs v (replicate (17 - (length xs + 1)) 0))
     ∙ ap (λ (m : ℕ). xs ++ (v ∷ []) ++ replicate m 0) t
 
-stored : (f : Reached → ℕ) (x : Reached) (ys : List ℕ) (done : List Reached) (n v : ℕ) → n ≡ length done → n < 17 → ys ≡ places (map f done) → v ≡ f x → set ys n v ≡ places (map f (done ++ (x ∷ [])))
+stored : (f : Reached → ℕ) (x : Reached) (ys : List ℕ) (done : List Reached) (n v : ℕ) → n ≡ length done → n < 17
+    → ys ≡ places (map f done) → v ≡ f x → set ys n v ≡ places (map f (done ++ (x ∷ [])))
 stored f x ys done n v e h p z =
     ap (λ (us : List ℕ). set us n v) p
     ∙ place (map f done) n v (e ∙ sym (length-map done f)) h
@@ -115,19 +119,31 @@ module _ (g : ℕ → ℕ) (level q : List ℕ) (n l : ℕ) (i : Filled g level 
       let x : Reached = record { level = l; q = g l } in
       record {
         done = i .done ++ (x ∷ []);
-        whole = i .whole ∙ ap (λ (xs : List Reached). i .done ++ xs) (given-more g l h (omega arith)) ∙ sym (append-snoc (i .done) x (given g (upto (l + 1) 17)));
+        whole = i .whole
+            ∙ ap (λ (xs : List Reached). i .done ++ xs) (given-more g l h (omega arith))
+            ∙ sym (append-snoc (i .done) x (given g (upto (l + 1) 17)));
         count = omega (arith, i .count, length-append (i .done) (x ∷ []));
         levels = stored (λ (y : Reached). y .level) x level (i .done) n l (i .count) b (i .levels) refl;
         qs = stored (λ (y : Reached). y .q) x q (i .done) n k (i .count) b (i .qs) e;
       }
 
   pub filled-miss : noQ ≤ g l → Filled g level q n (l + 1)
-  filled-miss k = record { done = i .done; whole = i .whole ∙ ap (λ (xs : List Reached). i .done ++ xs) (given-less g l h k); count = i .count; levels = i .levels; qs = i .qs }
+  filled-miss k =
+      record {
+        done = i .done;
+        whole = i .whole ∙ ap (λ (xs : List Reached). i .done ++ xs) (given-less g l h k);
+        count = i .count;
+        levels = i .levels;
+        qs = i .qs;
+      }
 
-pub filled-as : (g : ℕ → ℕ) (level level′ q q′ : List ℕ) (n n′ l : ℕ) → Filled g level q n l → level′ ≡ level → q′ ≡ q → n′ ≡ n → Filled g level′ q′ n′ l
-filled-as g level level′ q q′ n n′ l i a b c = record { done = i .done; whole = i .whole; count = c ∙ i .count; levels = a ∙ i .levels; qs = b ∙ i .qs }
+pub filled-as : (g : ℕ → ℕ) (level level′ q q′ : List ℕ) (n n′ l : ℕ) → Filled g level q n l → level′ ≡ level → q′ ≡ q → n′ ≡ n
+    → Filled g level′ q′ n′ l
+filled-as g level level′ q q′ n n′ l i a b c =
+    record { done = i .done; whole = i .whole; count = c ∙ i .count; levels = a ∙ i .levels; qs = b ∙ i .qs }
 
-pub filled-all : (g : ℕ → ℕ) (level q : List ℕ) (n l : ℕ) → Filled g level q n l → 17 ≤ l → record { refusal = 0; n = n; level = level; q = q } ≡ listing 0 (given g (upto 0 17))
+pub filled-all : (g : ℕ → ℕ) (level q : List ℕ) (n l : ℕ) → Filled g level q n l → 17 ≤ l
+    → record { refusal = 0; n = n; level = level; q = q } ≡ listing 0 (given g (upto 0 17))
 unfolding listing given
 filled-all g level q n l i h =
     let w : given g (upto 0 17) ≡ i .done = i .whole ∙ (rw (upto-none l 17 h) (append-nil (i .done))) in
@@ -140,7 +156,8 @@ unfolding given from
 given-same g h a zero f = refl
 given-same g h a (suc m) f =
     rw (f a (omega arith) (omega arith))
-    (ap (λ (xs : List Reached). cond (ltb (h a) noQ) (record { level = a; q = h a } ∷ xs) xs) (given-same g h (a + 1) m (λ l i j. f l (omega arith) (omega arith))))
+    (ap (λ (xs : List Reached). cond (ltb (h a) noQ) (record { level = a; q = h a } ∷ xs) xs)
+    (given-same g h (a + 1) m (λ l i j. f l (omega arith) (omega arith))))
 
 pub listed-noted : (g : ℕ → ℕ) (xs : List ℕ) → xs ≡ map g (upto 0 17) → given (λ l. getD xs l 0) (upto 0 17) ≡ given g (upto 0 17)
 unfolding upto

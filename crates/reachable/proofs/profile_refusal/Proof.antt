@@ -16,14 +16,20 @@ in-order-requires c κs = search needs
 
 returns-2 : tie.Need-returns-2
 unfolding inOrder
-returns-2 c = profile-order _ _ _ _ (c .before .before .before .in-range .ensures) _ (c .before .in-order .ensures) (c .before .before .if1 .left) (c .if2 .taken)
+returns-2 c =
+    let r = c .before .before in
+    profile-order _ _ _ _ (r .before .in-range .ensures) _ (c .before .in-order .ensures) (r .if1 .left) (c .if2 .taken)
 
 order-refusal-requires : tie.Need-order-refusal-requires
 order-refusal-requires c κs = search needs
 
 returns-3 : tie.Need-returns-3
 unfolding inOrder
-returns-3 c = profile-good _ _ _ _ (c .before .before .before .before .in-range .ensures) _ (c .before .before .in-order .ensures) (c .before .before .before .if1 .left) _ (c .before .if2 .left) (c .order-refusal .ensures)
+returns-3 c =
+    let s = c .before .before in
+    let r = s .before in
+    profile-good _ _ _ _ (r .before .in-range .ensures) _ (s .in-order .ensures) (r .if1 .left) _ (c .before .if2 .left)
+    (c .order-refusal .ensures)
 
 pub profile-refusal-spec : {M : Type 1} → statement M
 profile-refusal-spec =
