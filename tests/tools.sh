@@ -143,18 +143,20 @@ fn private() -> u8
     1
 }
 END
-for file in Lists Claim; do
+for file in Lists Page; do
     printf -- '-- Definitions only.\nabbrev pub of%s : Type 0\nof%s = Unit\n' $file $file >"$small/crates/demand/specs/$file.antt"
 done
 printf 'pub demand3 : Unit\ndemand3 = tt\n' >"$small/crates/demand/proofs/Theorem.antt"
 printf 'pub in-binary32 : Unit\nin-binary32 = tt\n\npub in-binary64 : Unit\nin-binary64 = tt\n\npub in-conversions : Unit\nin-conversions = tt\n' \
     >"$small/crates/rounding/proofs/Theorem.antt"
-mkdir -p "$small/crates/calendar/proofs" "$small/crates/adif/proofs"
+mkdir -p "$small/crates/calendar/proofs" "$small/crates/adif/proofs" "$small/crates/reachable/proofs"
+printf 'pub lists : Unit\nlists = tt\n' >"$small/crates/reachable/proofs/Laws.antt"
+printf 'pub by-claim : Unit\nby-claim = tt\n\npub under-claim : Unit\nunder-claim = tt\n\npub agree : Unit\nagree = tt\n' >"$small/crates/reachable/proofs/Answers.antt"
 printf 'pub date-back : Unit\ndate-back = tt\n\npub second-back : Unit\nsecond-back = tt\n' >"$small/crates/calendar/proofs/Laws.antt"
 printf 'pub read-back : Unit\nread-back = tt\n' >"$small/crates/adif/proofs/Laws.antt"
 "$small/tools/believed" --names >"$work/believed"
 "$small/tools/believed" --rest >"$work/rest"
-for name in Kind cited Parameter inside «IN_QUOTES» helper call ofLists ofClaim Whole Part; do
+for name in Kind cited Parameter inside «IN_QUOTES» helper call ofLists ofPage Whole Part; do
     grep -q "^ *$name (line" "$work/believed" || { cat "$work/believed"; echo "believed: not reached: $name"; exit 1; }
     tried=$((tried + 1))
 done
