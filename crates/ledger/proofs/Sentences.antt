@@ -12,7 +12,9 @@ use Rattle.laws.proofs.Picks.{test, and-second}
 use Rattle.limits.specs.Limits.{maxSlots}
 use Rattle.ledger.specs.Reply.{Reply}
 use Rattle.ledger.specs.Ledger.{Sender, dataBurst, oldOffs, newPieces, offs, wholes, hearAck, clearBurst, settles}
-use Rattle.ledger.specs.Plan.{Choice, planOf, parity, parityBits, offered, cap, stored, oneMore, room, roomFrom, wholeFrames, burstBitsSent}
+use Rattle.ledger.specs.Plan.{Choice, planOf, parity, parityBits, offered, cap, stored, oneMore, room, roomFrom}
+use Rattle.ledger.specs.Plan.{wholeFrames, burstBitsSent}
+use Rattle.ledger.specs.CallsCode.{turns, step}
 use Rattle.ledger.specs.Sizes.{Sizes}
 use Rattle.ledger.proofs.Planned.{parity-le, sent-bits, wholeFrames-le}
 
@@ -35,12 +37,14 @@ module _ (z : Sizes) (k : Choice) (s : Sender) where
       let i′ : w ≤ roomFrom z k s f (suc r) = rw e at i in
       test (eqb w (suc r))
       (λ d. rw (eqb-true w (suc r) d)
-      (and-second (ltb (parity z k s + r) (cap k) && ltb (stored z k s + r) maxSlots && k .inBurst (parityBits z k s (parity z k s) + suc r * k .slot)) _ e))
+      (and-second
+      (ltb (parity z k s + r) (cap k) && ltb (stored z k s + r) maxSlots && k .inBurst (parityBits z k s (parity z k s) + suc r * k .slot)) _ e))
       (λ d. roomFrom-bits f (suc r) w (omega (arith, eqb-false w (suc r) d)) i′))
       (λ e. absurd (let i′ : w ≤ r = rw e at i in omega arith))
 
-  -- `parity_bits + (room + 1) * slot <= max_bits`: beyond "one frame goes, however long", no frame of a whole piece passes the level's most bits
-  pub fresh-max-bits : 1 ≤ wholeFrames z k s → (1 ≤ parity z k s) ⊎ (2 ≤ wholeFrames z k s) → k .inMaxBits (burstBitsSent (dataBurst (planOf z k s) s .sent)) ≡ true
+  -- `parity_bits + (room + 1) * slot <= max_bits`: beyond "one frame goes, however long", whole pieces stay within the level's most bits
+  pub fresh-max-bits : 1 ≤ wholeFrames z k s → (1 ≤ parity z k s) ⊎ (2 ≤ wholeFrames z k s) →
+      k .inMaxBits (burstBitsSent (dataBurst (planOf z k s) s .sent)) ≡ true
   fresh-max-bits h c =
       let i : wholeFrames z k s ≤ roomFrom z k s maxSlots 0 =
       test (eqb (parity z k s) 0)
@@ -55,12 +59,13 @@ pub not-awaited : (top : ℕ) (r : Reply) (keep : Bool) (s : Sender) → s .awai
 unfolding hearAck
 not-awaited top r keep s e = rw e
 
--- "An unmatched burst number settles nothing": the unsent rest stays, as the held list does
-pub unmatched-rest : (top : ℕ) (r : Reply) (keep : Bool) (s : Sender) → settles r s ≡ false → hearAck top r keep s .rest ≡ s .rest
+-- "An unmatched burst number settles nothing": the held list and the unsent rest stay
+pub unmatched-keeps : (top : ℕ) (r : Reply) (keep : Bool) (s : Sender) → settles r s ≡ false →
+    (hearAck top r keep s .held ≡ s .held) × (hearAck top r keep s .rest ≡ s .rest)
 unfolding hearAck clearBurst
-unmatched-rest top r keep s e = rw e (test (s .awaited) (λ d. rw d) (λ d. rw d))
+unmatched-keeps top r keep s e = rw e (test (s .awaited) (λ d. (rw d, rw d)) (λ d. (rw d, rw d)))
 
--- and after a turn too
-pub turn-rest : (s : Sender) → clearBurst s .rest ≡ s .rest
+-- and so they do at a turn, `on_ack` with another number
+pub turn-keeps : (z : Sizes) (s : Sender) → (step z turns s .held ≡ s .held) × (step z turns s .rest ≡ s .rest)
 unfolding clearBurst
-turn-rest s = refl
+turn-keeps z s = (refl, refl)

@@ -20,7 +20,16 @@ ghost use Rattle.refusals.specs.declared.Reply.the-variants as R;
 ghost use Rattle.numbered.specs.Numbered.{answerNumber, burstNumber, findNumber};
 ghost use Rattle.adif.specs.Adif.{logOf};
 ghost use Rattle.reachable.specs.Reachable.{listingUnder};
-ghost use Rattle.station.specs.Exported.{left, leftBurst};
+ghost use Rattle.station.specs.Exported.{left, leftBurst, kept};
+
+// Stores the next record, unless a number refuses the call: then nothing is written.
+fn keep(s: &mut Sender, refusal: u8, next: Sender)
+    ensures { λ _. ⌜ now (s .exit) ≡ kept (now (s .entry)) refusal next ⌝ }
+{
+    if refusal == 0 {
+        *s = next;
+    }
+}
 
 // The record of a new sender.
 #[no_mangle]
@@ -37,10 +46,7 @@ pub extern "C" fn vanitycrow_queue(p: &Profile, s: &mut Sender, a: &mut [u8], by
     ensures { λ r. ⌜ (left r (now (s .exit)), now (a .exit)) ≡ answerNumber (queueOf (now (p .entry)) (now (s .entry)) (now (a .entry)) (now (bytes .entry))) ⌝ }
 {
     let q = numbered::queue(*p, *s, a, bytes);
-    if 0 < q.refusal {
-        return q.refusal;
-    }
-    *s = q.next;
+    keep(s, q.refusal, q.next);
     q.refusal
 }
 
@@ -56,10 +62,7 @@ pub extern "C" fn vanitycrow_connect(
     ensures { λ q. ⌜ (left q (now (s .exit)), now (a .exit)) ≡ answerNumber (receiveOf (now (p .entry)) (now (s .entry)) (now (a .entry)) h (R.ConnAck r) []) ⌝ }
 {
     let q = numbered::connect(*p, *s, a, h, r);
-    if 0 < q.refusal {
-        return q.refusal;
-    }
-    *s = q.next;
+    keep(s, q.refusal, q.next);
     q.refusal
 }
 
@@ -75,10 +78,7 @@ pub extern "C" fn vanitycrow_short_ack(
     ensures { λ q. ⌜ (left q (now (s .exit)), now (a .exit)) ≡ answerNumber (receiveOf (now (p .entry)) (now (s .entry)) (now (a .entry)) h (R.Ack r) []) ⌝ }
 {
     let q = numbered::short_ack(*p, *s, a, h, r);
-    if 0 < q.refusal {
-        return q.refusal;
-    }
-    *s = q.next;
+    keep(s, q.refusal, q.next);
     q.refusal
 }
 
@@ -95,10 +95,7 @@ pub extern "C" fn vanitycrow_long_ack(
     ensures { λ q. ⌜ (left q (now (s .exit)), now (a .exit)) ≡ answerNumber (receiveOf (now (p .entry)) (now (s .entry)) (now (a .entry)) h (R.LongAck r) (now (payload .entry))) ⌝ }
 {
     let q = numbered::long_ack(*p, *s, a, h, r, payload);
-    if 0 < q.refusal {
-        return q.refusal;
-    }
-    *s = q.next;
+    keep(s, q.refusal, q.next);
     q.refusal
 }
 
@@ -114,10 +111,7 @@ pub extern "C" fn vanitycrow_turn(
     ensures { λ q. ⌜ (left q (now (s .exit)), now (a .exit)) ≡ answerNumber (receiveOf (now (p .entry)) (now (s .entry)) (now (a .entry)) h (R.Turn r) []) ⌝ }
 {
     let q = numbered::turn(*p, *s, a, h, r);
-    if 0 < q.refusal {
-        return q.refusal;
-    }
-    *s = q.next;
+    keep(s, q.refusal, q.next);
     q.refusal
 }
 
@@ -132,10 +126,7 @@ pub extern "C" fn vanitycrow_data_burst(
     ensures { λ r. ⌜ (leftBurst r (now (s .exit)), (now (a .exit), now (out .exit))) ≡ burstNumber (burstCall (now (p .entry)) (now (s .entry)) (now (a .entry)) (now (out .entry))) ⌝ }
 {
     let q = numbered::data_burst(*p, *s, a, out);
-    if 0 < q.burst.refusal {
-        return q.burst;
-    }
-    *s = q.next;
+    keep(s, q.burst.refusal, q.next);
     q.burst
 }
 
