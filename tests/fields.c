@@ -1,5 +1,6 @@
 /* Every limit of document 01 through the C interface, field by field: accepted on the limit and just inside, refused by its number just outside; and after each refused
- * call every byte of profile, record, work area and output is as before. The last line counts the checks; the status is 1 where one failed. */
+ * call every byte of profile, record, work area and output is as before, and all of them on pages that may only be read. The last line counts the checks; the status
+ * is 1 where one failed. */
 #include <math.h>
 #include <stdio.h>
 #include <string.h>
@@ -521,6 +522,21 @@ static void order_of_refusals(void) {
     given = usual_arguments();
 }
 
+/* Each call was refused by each of its numbers, and by no other, on pages that may only be read. */
+static unsigned every_number(void) {
+    static const uint8_t last[CALLS] = {[CONNECT] = 6, [QUEUE] = 4, [SHORT_ACK] = 6, [LONG_ACK] = 7, [TURN] = 6, [BURST] = 4, [FIND] = 4};
+    unsigned calls = 0;
+    for (int c = 0; c < CALLS; c++)
+        for (uint8_t number = 1; number < COUNT(read_only[c]); number++) {
+            int wanted = number <= last[c] || (c == QUEUE && (number == 8 || number == 9)) || (c == BURST && number == 10);
+            calls += read_only[c][number];
+            if (wanted == (read_only[c][number] > 0)) continue;
+            printf("fields: %s, %u times refused by %u\n", call_names[c], read_only[c][number], (unsigned)number);
+            failures++;
+        }
+    return calls;
+}
+
 int main(void) {
     given = usual_arguments();
     if (!make_stations()) {
@@ -550,6 +566,7 @@ int main(void) {
     output_lengths();
     level_ranges();
     order_of_refusals();
-    printf("fields: %u checks, %u failed\n", checks, failures);
+    unsigned again = every_number();
+    printf("fields: %u checks, %u failed; %u calls refused on pages that may only be read\n", checks, failures, again);
     return failures ? 1 : 0;
 }

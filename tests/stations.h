@@ -1,21 +1,24 @@
-/* Three senders at known points of their lives, and calls on copies of them: the answer is compared, and which bytes changed. */
+/* Three senders at known points of their lives, and calls on copies of them: the answer is compared, and which bytes changed. A refused call is made a second time on
+ * pages that may only be read. */
 #ifndef STATIONS_H
 #define STATIONS_H
 #include <stdio.h>
 #include <string.h>
+#include <sys/mman.h>
 #include "defined.h"
 #include "usual.h"
 #include "vanitycrow.h"
 
 #define PAST 64 /* bytes after the work area */
+#define PAGES 65536 /* bytes: whole pages on any machine */
 #define OUT_BYTES (VANITYCROW_MAX_SLOTS * 512 + 1)
 
 enum call { CONNECT, QUEUE, SHORT_ACK, LONG_ACK, TURN, BURST, FIND, CALLS };
 static const char *const call_names[CALLS] = {"connect", "queue", "short ack", "long ack", "turn", "burst", "find"};
 
-/* A sender with everything that is lent to its calls, and bytes between that no call may touch. */
+/* A sender with everything that is lent to its calls, and bytes between that no call may touch: alone on its pages. */
 struct station {
-    uint8_t gap0[64];
+    _Alignas(PAGES) uint8_t gap0[64];
     struct vanitycrow_profile p;
     uint8_t gap1[64];
     struct vanitycrow_sender s;
@@ -42,6 +45,7 @@ static struct station subject; /* what the checks change */
 static struct arguments given; /* what the calls get */
 static struct station tried;
 static unsigned checks, failures;
+static unsigned read_only[CALLS][VANITYCROW_SHORT_OUTPUT + 1]; /* calls by number that were refused on pages that may only be read */
 static const uint8_t bytes[VANITYCROW_MAX_WAITING + 1];
 
 static struct arguments usual_arguments(void) {
@@ -76,6 +80,15 @@ static int kept_bytes(const struct station *old, const struct station *new, int 
            memcmp(old->gap3, new->gap3, sizeof old->gap3) == 0 && memcmp(old->gap4, new->gap4, sizeof old->gap4) == 0;
 }
 
+/* Makes a call on a copy whose pages may only be read, as it is refused: a write would end the program. */
+static int refused_unwritten(enum call c, const struct station *t, const struct arguments *g, uint8_t number) {
+    memcpy(&tried, t, sizeof tried);
+    if (mprotect(&tried, sizeof tried, PROT_READ) != 0) return 0;
+    uint8_t got = make_call(c, &tried, g);
+    read_only[c][number]++;
+    return mprotect(&tried, sizeof tried, PROT_READ | PROT_WRITE) == 0 && got == number && kept_bytes(t, &tried, 1);
+}
+
 /* Makes a call on a copy. */
 static void expect(const char *what, enum call c, const struct station *t, const struct arguments *g, uint8_t number) {
     memcpy(&tried, t, sizeof tried);
@@ -83,6 +96,7 @@ static void expect(const char *what, enum call c, const struct station *t, const
     checks++;
     if (got != number) printf("fields: %s: %s answers %u, not %u\n", what, call_names[c], (unsigned)got, (unsigned)number);
     else if (!kept_bytes(t, &tried, got != 0)) printf("fields: %s: %s, answered by %u, changed bytes\n", what, call_names[c], (unsigned)got);
+    else if (number && !refused_unwritten(c, t, g, number)) printf("fields: %s: %s on pages that may only be read\n", what, call_names[c]);
     else return;
     failures++;
 }

@@ -40,6 +40,7 @@ const USAGE: &str = "usage:
   oracle levels SEED COUNT                   the original's level_for under COUNT random sets of thresholds, as tests/levels.c reads it
   oracle bench                               nanoseconds of the original's on_ack in Goodput: the median, the quartiles
   oracle speed                               times of the original and of the port side by side (only with the feature port)
+  oracle records SEED COUNT                  COUNT sound records that no list reaches, a call on each, through both (the feature port)
   oracle compare PROGRAM SECONDS SEED [KIND] PROGRAM, which reads a list and writes its transcript, against the original";
 
 fn read_list(name: &str) -> Result<Vec<u8>, String> {
@@ -90,6 +91,8 @@ fn run(args: &[&str]) -> Result<(), String> {
         }
         #[cfg(feature = "port")]
         ["speed"] => speed::speed(),
+        #[cfg(feature = "port")]
+        ["records", seed, count] => speed::records::records(number(seed)?, number(count)?),
         ["audit"] => audit::audit(1, 4000, 80),
         ["audit", seed, lists, calls] => audit::audit(number(seed)?, number(lists)?, count(calls)?),
         ["compare", program, seconds, seed] => compare::compare(program, number(seconds)?, number(seed)?, None),
