@@ -192,7 +192,7 @@ struct vanitycrow_last_burst {
     size_t n;
 };
 
-/* The record that a station holds. The bytes between its fields have no meaning: an accepted call may leave anything there, a refused one keeps them.
+/* The record that a station holds. The bytes between its fields have no meaning: an accepted call may leave anything there, a refused one writes nothing.
  * Two records are compared field by field. */
 struct vanitycrow_sender {
     struct vanitycrow_gear gear;

@@ -1,6 +1,7 @@
 -- DEMAND 3 ON ONE PAGE: after every list of calls, refused ones included, no byte is lost, doubled or altered. Definitions only.
--- To believe beside it: Lists.antt (a call, what it leaves, what the tally is told of it); of crates/ledger Calls.antt (lists of calls), Tally.antt (the tally), Reply.antt (which
--- bits an ack sets) and Claim.antt (what is said of an offset); of crates/record View.antt (`view`: what record and work area show). docs/LISTING.md says more.
+-- To believe beside it: Lists.antt (a call, what it leaves, what the tally is told of it); of crates/ledger Calls.antt (lists of calls),
+-- Tally.antt (the tally), Reply.antt (which bits an ack sets) and Claim.antt (what is said of an offset); of crates/record View.antt
+-- (`view`: what record and work area show). docs/LISTING.md says more.
 use mathlib.Core.Path.{_≡_}
 use mathlib.Core.Logic.{_⊎_}
 use mathlib.Core.List.{List, [], _∷_, _++_, map}
@@ -39,11 +40,13 @@ Hold bytes (q ∷ qs) = (1 ≤ len q) × (q .bytes ≡ take (len q) (drop (q .of
 
 -- After a list of calls: `bytes` are those queued, in order; t is the tally; s is what record and work area show.
 pub record Accounts (bytes : List ℕ) (t : Tally) (s : L.Sender) : Type 0 where
-  -- Of the tally alone: taken = waiting + in flight + acknowledged, each byte in exactly one: the bytes queued, in order, are the flown ones, acknowledged or not, and then the waiting
+  -- Of the tally alone: taken = waiting + in flight + acknowledged, each byte in exactly one: the bytes queued, in order, are the flown
+  -- ones, acknowledged or not, and then the waiting
   pub sum : t .taken ≡ length (t .waiting) + inFlight (t .flown) + acknowledged (t .flown)
   pub taken : t .taken ≡ length bytes
   pub order : bytes ≡ map byteOf (t .flown) ++ t .waiting
-  -- Of the sender: the waiting bytes in order; each offset in flight in one piece and no other in any; in the pieces the bytes taken; the count acknowledged; the next offset
+  -- Of the sender: the waiting bytes in order; each offset in flight in one piece and no other in any; in the pieces the bytes taken; the
+  -- count acknowledged; the next offset
   pub waiting : s .waiting ≡ t .waiting
   pub covers : (o : ℕ) → covering o (s .pieces) ≡ flyingAt o (t .flown)
   pub holds : Hold bytes (s .pieces)
@@ -95,7 +98,8 @@ anyWhole [] = false
 anyWhole (f ∷ fs) = eqb (f .held) (f .bits) || anyWhole fs
 
 module _ (p : Profile) (n : ℕ) (is : List Call) where
-  -- record and work area after the calls `is`, from a fresh record and n zeros; what they show; the tally of the calls; the bytes queued, in order
+  -- record and work area after the calls `is`, from a fresh record and n zeros; what they show; the tally of the calls; the bytes queued,
+  -- in order
   abbrev pub c : State
   c = run (next p) is (freshStart n)
 
@@ -120,15 +124,17 @@ module _ (p : Profile) (n : ℕ) (is : List Call) where
     pub record Sends : Type 0 where
       -- the output has the answer's frames, each with the bytes taken at its full offset, and nothing else
       pub frames : Taken bytes (framesAnswered (answer .frames))
-      pub output : burstCall p (c .0) (c .1) out .1 .1 ≡ overwrite out 0 (framesOfTaken (frameBytes p (c .0 .gear .level)) bytes (framesAnswered (answer .frames)))
+      pub output : burstCall p (c .0) (c .1) out .1 .1
+          ≡ overwrite out 0 (framesOfTaken (frameBytes p (c .0 .gear .level)) bytes (framesAnswered (answer .frames)))
       -- where any byte flies or waits it has a frame
       pub some : 1 ≤ inFlight (t .flown) + length (t .waiting) → 1 ≤ answer .frames .n
       -- two frames or more, or parity: its seconds on air are within its allowance
       pub air : (2 ≤ answer .frames .n) ⊎ (anyIncrement leaves ≡ true)
           → le (onAir p (c .0 .gear .level) answer) (allowance p (c .0 .gear) (not (anyWhole leaves)) (answer .cue)) ≡ true
 
--- THE CLAIM: of every profile, every length of the work area, every list of calls, every further call and every burst. That a profile has six rate ends at most, and that a byte
--- is below 256 (`Given`), is what the types [u32; 6] and [u8] say. Refusal 3 never comes under a profile that is not refused, with 49,152 bytes or more
+-- THE CLAIM: of every profile, every length of the work area, every list of calls, every further call and every burst. That a profile has
+-- six rate ends at most, and that a byte is below 256 (`Given`), is what the types [u32; 6] and [u8] say. Refusal 3 never comes under a
+-- profile that is not refused, with 49,152 bytes or more
 abbrev pub DemandThree : Type 0
 DemandThree = (p : Profile) → length (p .codes .ends) ≤ 6 → (n : ℕ) (is : List Call) → Along (next p) Given is (freshStart n)
     → Accounts (bytes p n is) (t p n is) (s p n is)

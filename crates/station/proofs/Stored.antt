@@ -26,7 +26,8 @@ use Rattle.sender.proofs.Refused.{queue-verdict, receive-verdict, burst-verdict
 use Rattle.numbered.specs.declared.Left.{Left}
 use Rattle.numbered.specs.declared.LeftBurst.{LeftBurst}
 use Rattle.numbered.specs.Numbered.{answerNumber, burstNumber}
-use Rattle.station.specs.Exported.{left, leftBurst, kept}
+use Rattle.station.specs.Exported.{left, leftBurst}
+use Rattle.station.specs.ExportedCode.{kept}
 
 -- ---- `keep`
 

@@ -20,7 +20,8 @@ ghost use Rattle.refusals.specs.declared.Reply.the-variants as R;
 ghost use Rattle.numbered.specs.Numbered.{answerNumber, burstNumber, findNumber};
 ghost use Rattle.adif.specs.Adif.{logOf};
 ghost use Rattle.reachable.specs.Reachable.{listingUnder};
-ghost use Rattle.station.specs.Exported.{left, leftBurst, kept};
+ghost use Rattle.station.specs.Exported.{left, leftBurst};
+ghost use Rattle.station.specs.ExportedCode.{kept};
 
 // Stores the next record, unless a number refuses the call: then nothing is written.
 fn keep(s: &mut Sender, refusal: u8, next: Sender)
