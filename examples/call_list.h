@@ -233,15 +233,15 @@ static inline void lines_lists(FILE *f, const struct vanitycrow_sender *s, const
     fputc('\n', f);
 }
 
-/* The lines of `state`, field by field out of the record. */
-static inline void list_state(struct call_list l, const struct vanitycrow_sender *s, const uint8_t *area) {
+/* The lines of `state`, field by field out of the record; burst seconds of 0 stand for the profile's. */
+static inline void list_state(struct call_list l, const struct vanitycrow_profile *p, const struct vanitycrow_sender *s, const uint8_t *area) {
     const struct vanitycrow_link *k = &s->link;
     const struct vanitycrow_counts *c = &s->counts;
     FILE *f = l.transcript;
     if (!l.calls) return;
     fputs("state\n", l.calls);
     fprintf(f, "state %zu %zu", s->gear.level, s->gear.target);
-    word_f64(f, k->connected, s->gear.burst_s);
+    word_f64(f, k->connected, s->gear.burst_s == 0 ? p->lengths.max_burst_s : s->gear.burst_s);
     fprintf(f, " %d %d %u %u", k->connected, k->awaiting, (unsigned)k->session, (unsigned)k->burst_id);
     if (k->heard) fprintf(f, " %u", (unsigned)k->peer_heard);
     else fputs(" none", f);

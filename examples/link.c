@@ -76,11 +76,11 @@ static uint8_t exchange(double time) {
     struct vanitycrow_burst b = vanitycrow_data_burst(&p, &sender, area, sizeof area, out, sizeof out);
     size_t size = b.outgoing.code <= 4 ? p.short_bytes : p.long_bytes;
     list_burst(list, &b, out, size);
-    list_state(list, &sender, area);
+    list_state(list, &p, &sender, area);
     if (b.refusal) return b.refusal;
     uint64_t bitmap = arrive(&b.outgoing, size);
     uint8_t refusal = b.outgoing.frames.n <= 6 ? short_ack(h, b.outgoing.number, bitmap, db) : long_ack(h, b.outgoing.number, bitmap, db);
-    list_state(list, &sender, area);
+    list_state(list, &p, &sender, area);
     return refusal;
 }
 

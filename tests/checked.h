@@ -135,7 +135,7 @@ static void after(struct run *r, enum kind k, uint8_t answer, uint8_t expected, 
     most(&r->seen.most_pieces, r->s->counts.pieces);
     most(&r->seen.most_flying, r->s->counts.flying);
     most(&r->seen.most_held, r->s->at_peer.n);
-    list_state(r->list, r->s, r->area.bytes);
+    list_state(r->list, r->p, r->s, r->area.bytes);
 }
 
 static void connect_call(struct run *r, uint32_t wild) {
