@@ -275,9 +275,10 @@ pub fn range_words(line: &[u8], r: Read) -> RangeLine
     ensures { λ q. ⌜ q ≡ rangeLine (now (line .entry)) r ⌝ }
 {
     let k = class_words(line, r);
+    let class = k.class;
     let high = whole(line, k.read);
     RangeLine {
-        class: k.class,
+        class: class,
         low: k.slot,
         high: u8_of(high.value),
         ok: done(line, high),

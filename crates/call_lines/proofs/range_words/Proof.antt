@@ -19,10 +19,8 @@ done-requires c κs = search needs
 returns : tie.Need-returns
 unfolding rangeLine
 returns c =
-    let p3 = c .before in
-    let p2 = p3 .before in
-    let p1 = p2 .before in
-    rw (p3 .done .ensures, p2 .u8-of .ensures, p1 .whole .ensures, p1 .before .class-words .ensures)
+    let p2 = c .before .before in
+    rw (c .done .ensures, c .before .u8-of .ensures, p2 .whole .ensures, p2 .before .before .class-words .ensures)
 
 pub range-words-spec : {M : Type 1} → statement M
 range-words-spec = tie.close (tie.spec class-words-requires whole-requires u8-of-requires done-requires returns)
