@@ -102,7 +102,7 @@ static void expect(const char *what, enum call c, const struct station *t, const
 }
 
 /* Asks for the levels within reach, over a copy: no byte may change. */
-static void expect_levels(const char *what, const struct station *t, uint8_t low, uint8_t high, uint8_t number) {
+static inline void expect_levels(const char *what, const struct station *t, uint8_t low, uint8_t high, uint8_t number) {
     memcpy(&tried, t, sizeof tried);
     uint8_t got = vanitycrow_levels(&tried.p, (struct vanitycrow_class){false, false}, low, high).refusal;
     checks++;
