@@ -1,4 +1,4 @@
-/* The sender of an HF station: six calls over one record and one work area, a lookup, and the link log.
+/* The sender of an HF station: six calls over one record and one work area, a lookup, the link log, and the levels within reach.
  *
  * Link with libstation.a (`rt staticlib station`). A sender is a struct vanitycrow_sender and a work area of VANITYCROW_AREA_BYTES
  * bytes, all zero at first; vanitycrow_fresh makes the record. Each call changes both, and nothing else may. One profile serves a sender
@@ -18,9 +18,9 @@ extern "C" {
 #endif
 
 /* The version of this interface (CHANGELOG.md). */
-#define VANITYCROW_VERSION "0.3.0"
+#define VANITYCROW_VERSION "0.4.0"
 #define VANITYCROW_VERSION_MAJOR 0
-#define VANITYCROW_VERSION_MINOR 3
+#define VANITYCROW_VERSION_MINOR 4
 #define VANITYCROW_VERSION_PATCH 0
 
 #define VANITYCROW_AREA_BYTES 49152
@@ -44,6 +44,7 @@ enum {
     VANITYCROW_QUEUE_FULL = 8,           /* more than VANITYCROW_MAX_WAITING bytes would wait */
     VANITYCROW_ALL_TAKEN = 9,            /* more than 2^32 - 1 bytes would be taken in all */
     VANITYCROW_SHORT_OUTPUT = 10,        /* the output is shorter than VANITYCROW_MAX_SLOTS long frames */
+    VANITYCROW_BAD_RANGE = 19,           /* the lowest report is above the highest */
     VANITYCROW_BAD_CALL_SIGN = 20,       /* not 1 to 12 capitals, digits and slashes */
     VANITYCROW_BAD_LINK_TIME = 21,       /* past VANITYCROW_LAST_SECOND, or the end before the start */
     VANITYCROW_SHORT_ADIF = 22           /* the output is shorter than VANITYCROW_ADIF_BYTES */
@@ -263,6 +264,10 @@ struct vanitycrow_place { uint8_t refusal; bool here; size_t start; size_t len; 
 /* len characters of a record, 0 where it is refused. */
 struct vanitycrow_logged { uint8_t refusal; size_t len; };
 
+/* n levels, ascending, each with the lowest report that gives it: level[0] and q[0] to level[n - 1] and q[n - 1]. The places behind
+ * are 0, and n is 0 where the call is refused. */
+struct vanitycrow_listing { uint8_t refusal; size_t n; uint8_t level[VANITYCROW_LEVELS]; uint8_t q[VANITYCROW_LEVELS]; };
+
 /* ---- calls: p the profile, s the record, a the work area of a_len bytes */
 
 /* Makes *s the record of a new sender, whatever it was. */
@@ -300,6 +305,10 @@ struct vanitycrow_place vanitycrow_find(const struct vanitycrow_profile *p, cons
  * call is the far station's call sign, on and off the link's first and last second since 1970 in UTC, acked the bytes acknowledged (counts.bytes_acked).
  * Needs no sender. Refusals 20 21 22. */
 struct vanitycrow_logged vanitycrow_adif(const uint8_t *call, size_t call_len, uint64_t on, uint64_t off, uint32_t acked, uint8_t *out, size_t n);
+
+/* The levels that a sender under this profile can choose for a report known only within a range: report q is q - 24 dB, low and high are
+ * its lowest and highest value, class_ is the channel's class as reported. Needs no sender. Refusals 1 2 19. */
+struct vanitycrow_listing vanitycrow_levels(const struct vanitycrow_profile *p, struct vanitycrow_class class_, uint8_t low, uint8_t high);
 
 #ifdef __cplusplus
 }

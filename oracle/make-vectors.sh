@@ -1,5 +1,5 @@
 #!/bin/sh
-# Writes the generated part of vectors/ anew, and the transcripts of all of it but vectors/changes.
+# Writes the generated part of vectors/ anew, and the transcripts of all of it but the `log` lists of vectors/changes.
 # Each list is named KIND-CALLS-SEED after the arguments that make it.
 set -eu
 here=$(cd "$(dirname "$0")" && pwd)
@@ -35,6 +35,8 @@ vectors profiles 24 3 4 5 8
 vectors lines 5 0 18 25 37 64 89 131 133 143 145 169 184 188 196 197 210 234 241 245 259 263 265 279 296 299 302 309 369 \
     389 392
 
-for list in "$vectors"/*.calls; do
+"$here/run" generate 12 1 180 levels >"$vectors/changes/levels-180-12.calls"
+
+for list in "$vectors"/*.calls "$vectors"/changes/levels-*.calls "$here/../examples/levels.calls"; do
     "$here/run" transcript "$list" >"${list%.calls}.transcript"
 done

@@ -78,9 +78,11 @@ static void check_fields(const struct field *f, size_t n, uint8_t number, check_
 
 /* ---- the profile: refusals 1 and 2 */
 
-/* All calls, of a sender that is not connected and of one that is. */
+/* All calls, of a sender that is not connected and of one that is; and the levels within reach, of a range and of none. */
 static void profile_check(const char *what, uint8_t number) {
     struct vanitycrow_profile p = subject.p;
+    expect_levels(what, &subject, 0, 255, number);
+    expect_levels(what, &subject, 255, 0, number ? number : 19);
     memcpy(&subject, &fresh_one, sizeof subject);
     subject.p = p;
     expect_all(what, &subject, &given, number);
@@ -487,6 +489,13 @@ static void output_lengths(void) {
     given = usual_arguments();
 }
 
+/* Every pair of a lowest and a highest report. */
+static void level_ranges(void) {
+    memcpy(&subject, &fresh_one, sizeof subject);
+    for (unsigned low = 0; low < 256; low++)
+        for (unsigned high = 0; high < 256; high++) expect_levels("reports", &subject, (uint8_t)low, (uint8_t)high, low > high ? 19 : 0);
+}
+
 /* All is wrong with a long ack; one thing after another is put right. */
 static void order_of_refusals(void) {
     replied = LONG_ACK;
@@ -555,6 +564,7 @@ int main(void) {
     payload_lengths();
     queue_lengths();
     output_lengths();
+    level_ranges();
     order_of_refusals();
     unsigned again = every_number();
     printf("fields: %u checks, %u failed; %u calls refused on pages that may only be read\n", checks, failures, again);

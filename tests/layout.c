@@ -31,6 +31,7 @@ typedef struct vanitycrow_outgoing Outgoing;
 typedef struct vanitycrow_burst Burst;
 typedef struct vanitycrow_place Place;
 typedef struct vanitycrow_logged Logged;
+typedef struct vanitycrow_listing Listing;
 
 /* The type of a field or of its elements; size_t is uint64_t here. */
 #define KIND(x) \
@@ -115,6 +116,8 @@ static void reply_and_answer_lines(void) {
     F(Place, refusal); F(Place, here); F(Place, start); F(Place, len);
     S(Logged);
     F(Logged, refusal); F(Logged, len);
+    S(Listing);
+    F(Listing, refusal); F(Listing, n); F(Listing, level); F(Listing, q);
 }
 
 int main(void) {

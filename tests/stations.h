@@ -101,6 +101,16 @@ static void expect(const char *what, enum call c, const struct station *t, const
     failures++;
 }
 
+/* Asks for the levels within reach, over a copy: no byte may change. */
+static inline void expect_levels(const char *what, const struct station *t, uint8_t low, uint8_t high, uint8_t number) {
+    memcpy(&tried, t, sizeof tried);
+    uint8_t got = vanitycrow_levels(&tried.p, (struct vanitycrow_class){false, false}, low, high).refusal;
+    checks++;
+    if (got == number && memcmp(t, &tried, sizeof tried) == 0) return;
+    printf("fields: %s: levels of %u to %u: %u, not %u, or bytes changed\n", what, (unsigned)low, (unsigned)high, (unsigned)got, (unsigned)number);
+    failures++;
+}
+
 /* Makes all seven calls; where they are not refused by `number`, those out of turn are by 4. */
 static void expect_all(const char *what, const struct station *t, const struct arguments *g, uint8_t number) {
     for (int c = 0; c < CALLS; c++) {

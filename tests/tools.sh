@@ -149,7 +149,9 @@ done
 printf 'pub demand3 : Unit\ndemand3 = tt\n' >"$small/crates/demand/proofs/Theorem.antt"
 printf 'pub in-binary32 : Unit\nin-binary32 = tt\n\npub in-binary64 : Unit\nin-binary64 = tt\n\npub in-conversions : Unit\nin-conversions = tt\n' \
     >"$small/crates/rounding/proofs/Theorem.antt"
-mkdir -p "$small/crates/verdicts/proofs" "$small/crates/calendar/proofs" "$small/crates/adif/proofs"
+mkdir -p "$small/crates/verdicts/proofs" "$small/crates/calendar/proofs" "$small/crates/adif/proofs" "$small/crates/reachable/proofs"
+printf 'pub lists : Unit\nlists = tt\n' >"$small/crates/reachable/proofs/Laws.antt"
+printf 'pub by-claim : Unit\nby-claim = tt\n\npub under-claim : Unit\nunder-claim = tt\n\npub agree : Unit\nagree = tt\n' >"$small/crates/reachable/proofs/Answers.antt"
 for law in queue reply burst lookup; do
     printf 'pub %s-first : Unit\n%s-first = tt\n\n' $law $law
 done >"$small/crates/verdicts/proofs/Order.antt"

@@ -48,12 +48,13 @@ fn first_difference(ours: &[u8], theirs: &[u8]) -> (usize, String, String) {
     (n + 1, line(&a), line(&b))
 }
 
-pub fn compare(program: &str, seconds: u64, seed: u64) -> Result<(), String> {
+/// Lists of `kind`, or of all but `levels`.
+pub fn compare(program: &str, seconds: u64, seed: u64, kind: Option<&'static str>) -> Result<(), String> {
     let until = Instant::now() + Duration::from_secs(seconds);
     let mut progress = Progress::new();
     let (mut lists, mut calls, mut lines) = (0u64, 0u64, 0u64);
     while lists == 0 || Instant::now() < until {
-        let kind = generate::kind_of(seed, lists, true);
+        let kind = kind.unwrap_or_else(|| generate::kind_of(seed, lists, true));
         let length = [10, 40, 120, 300][(lists % 4) as usize];
         let items = generate::list(seed, lists, length, kind);
         let list = text(&items);

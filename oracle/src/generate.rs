@@ -4,14 +4,15 @@
 use std::cell::RefCell;
 
 use crate::harness::{AREA_BYTES, Answer, Burst, Harness, LAST_SECOND, WAITING_MOST};
+use crate::levels;
 use crate::list::{AREA_MOST, Call, Item, LONGEST_LINE, OUT_MOST, text};
-use crate::profile::{DBS, EFF_THRESHOLDS, FRAME_BYTES, Profile, THRESHOLDS, on, payload_of};
+use crate::profile::{DBS, EFF_THRESHOLDS, FRAME_BYTES, LEVELS, ON, POWER, Profile, THRESHOLDS, Value, on, payload_of};
 use crate::profiles;
 use crate::rng::Rng;
 
-/// What a list is about. `lines` is last: its lists may end in an error.
-pub const KINDS: [&str; 10] = [
-    "usual", "ladder", "harq", "merge", "many", "extreme", "hostile", "limits", "profiles", "lines",
+/// What a list is about. Lists of `lines` may end in an error. `levels` is mixed with no other.
+pub const KINDS: [&str; 11] = [
+    "usual", "ladder", "harq", "merge", "many", "extreme", "hostile", "limits", "profiles", "lines", "levels",
 ];
 
 /// How the far station answers.
@@ -823,6 +824,69 @@ fn profiles_list(r: &mut Rng, index: u64, calls: usize) {
     }
 }
 
+/// A profile for the levels within reach; some are refused.
+fn levels_profile(r: &mut Rng) -> Profile {
+    let places = profiles::number_places();
+    match r.below(8) {
+        0 => profiles::usual(r),
+        1 => profiles::extreme(r),
+        2 => profiles::swapped(r),
+        3 => {
+            let (place, side) = (r.pick(&places), r.below(profiles::SIDES));
+            profiles::limit(r, place, side)
+        }
+        _ => {
+            let mut p = levels::profile(r);
+            p.values[POWER][0] = Value::Choice(r.below(3) as usize);
+            p.values[LEVELS][0] = Value::Whole(r.within(0, 16));
+            p.values[ON][on::PICK_FAMILY] = Value::Flag(!r.once_in(4));
+            p
+        }
+    }
+}
+
+/// A lowest and a highest report: now and then the other way round, or too wide.
+fn reports(r: &mut Rng) -> (u64, u64) {
+    let most = r.pick(&[60, 80, 255]);
+    let (a, b) = (r.within(0, most), r.within(0, most));
+    match r.below(10) {
+        0 => (a, a),
+        1 => (a + 1, a),
+        2 => (a.max(b), a.min(b)),
+        3 => (a, r.pick(&[255, 256, 300, u64::MAX])),
+        4 => (r.pick(&[254, 255, 256, u64::MAX]), r.pick(&[254, 255, 256, u64::MAX])),
+        _ => (a.min(b), a.max(b)),
+    }
+}
+
+/// Ranges of reports, before and after the connect, with a work area that is too short too.
+fn levels_list(r: &mut Rng, calls: usize) {
+    let each = 12;
+    for _ in 0..(calls / each).max(1) {
+        let profile = levels_profile(r);
+        let mut d = Driver::new(r, profile, Far::Honest);
+        while d.calls() < each {
+            match d.r.below(24) {
+                0 if d.valid() => d.connect(),
+                1 => {
+                    let n = d.r.pick(&[0, AREA_BYTES - 1, AREA_BYTES]);
+                    d.call(Call::Area(n));
+                }
+                _ => {
+                    let (low, high) = reports(d.r);
+                    let (echo, doppler) = (d.r.once_in(3), d.r.once_in(4));
+                    d.call(Call::Levels {
+                        echo,
+                        doppler,
+                        low,
+                        high,
+                    });
+                }
+            }
+        }
+    }
+}
+
 /// Lines in every spelling that the rules allow, and at the end, as a rule,
 /// one that they don't.
 fn lines(r: &mut Rng, calls: usize) -> Vec<Item> {
@@ -1002,6 +1066,10 @@ pub fn list(seed: u64, index: u64, calls: usize, kind: &str) -> Vec<Item> {
             return made();
         }
         "lines" => return lines(r, calls),
+        "levels" => {
+            levels_list(r, calls);
+            return made();
+        }
         _ => unreachable!("kinds are checked"),
     };
     let mut d = Driver::new(r, profile, far);

@@ -1,6 +1,7 @@
 //! One sender of the original with the refusals of document 01 around it.
 
 use crate::active::{self, Numbers};
+use crate::levels;
 use crate::link::frame::{AckInfo, Frame, Kind, Tiny, caps, flags};
 use crate::link::report::ChanClass;
 use crate::link::station::{Awaiting, Station, wave_rank};
@@ -44,6 +45,13 @@ pub enum Answer {
     Refused(u8),
     Burst(Burst),
     Piece(Option<Vec<u8>>),
+    /// Levels, ascending, each with its lowest report.
+    Levels(Vec<(usize, u8)>),
+}
+
+/// A report of a call list: what is too wide is 255.
+fn report(n: u64) -> u8 {
+    n.min(255) as u8
 }
 
 #[derive(Clone)]
@@ -87,13 +95,16 @@ impl Harness {
         self.station.awaiting == Awaiting::Ack
     }
 
-    /// The number by which document 01 turns the call down.
+    /// The number by which document 01, or 02, turns the call down.
     pub fn refuses(&self, call: &Call) -> Option<u8> {
         if matches!(call, Call::State | Call::Area(_) | Call::Out(_)) {
             return None;
         }
         if self.refusal.is_some() {
             return self.refusal;
+        }
+        if let Call::Levels { low, high, .. } = *call {
+            return (report(low) > report(high)).then_some(19);
         }
         if self.area < AREA_BYTES {
             return Some(3);
@@ -179,7 +190,7 @@ impl Harness {
                     return Some(10);
                 }
             }
-            Call::Piece(_) | Call::State | Call::Area(_) | Call::Out(_) => {}
+            Call::Piece(_) | Call::Levels { .. } | Call::State | Call::Area(_) | Call::Out(_) => {}
         }
         None
     }
@@ -276,6 +287,15 @@ impl Harness {
             Call::Piece(offset) => {
                 let piece = u32::try_from(offset).ok().and_then(|o| s.inflight.get(&o).cloned());
                 return Answer::Piece(piece);
+            }
+            Call::Levels {
+                echo,
+                doppler,
+                low,
+                high,
+            } => {
+                let class = ChanClass { echo, doppler };
+                return Answer::Levels(levels::within(&self.profile, class, report(low), report(high)));
             }
             Call::State => {}
             Call::Area(n) => self.area = n,

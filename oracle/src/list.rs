@@ -53,6 +53,12 @@ pub enum Call {
     },
     Burst,
     Piece(u64),
+    Levels {
+        echo: bool,
+        doppler: bool,
+        low: u64,
+        high: u64,
+    },
     State,
     Area(u64),
     Out(u64),
@@ -211,6 +217,12 @@ fn read_call(words: &[&[u8]]) -> Option<Call> {
         },
         b"burst" => Call::Burst,
         b"piece" => Call::Piece(w.n()?),
+        b"levels" => Call::Levels {
+            echo: w.flag()?,
+            doppler: w.flag()?,
+            low: w.n()?,
+            high: w.n()?,
+        },
         b"state" => Call::State,
         b"area" => Call::Area(w.n().filter(|&n| n <= AREA_MOST)?),
         b"out" => Call::Out(w.n().filter(|&n| n <= OUT_MOST)?),
@@ -412,6 +424,12 @@ impl fmt::Display for Call {
             }
             Call::Burst => write!(f, "burst"),
             Call::Piece(offset) => write!(f, "piece {offset}"),
+            Call::Levels {
+                echo,
+                doppler,
+                low,
+                high,
+            } => write!(f, "levels {} {} {low} {high}", *echo as u8, *doppler as u8),
             Call::State => write!(f, "state"),
             Call::Area(n) => write!(f, "area {n}"),
             Call::Out(n) => write!(f, "out {n}"),

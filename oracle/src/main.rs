@@ -14,6 +14,7 @@ mod fec;
 mod gear;
 mod generate;
 mod harness;
+mod levels;
 mod link;
 mod list;
 mod phy;
@@ -36,10 +37,11 @@ const USAGE: &str = "usage:
   oracle generate SEED LISTS CALLS [KIND]    LISTS call lists of about CALLS calls each
   oracle audit [SEED LISTS CALLS]            demand 3 and the sound record on generated lists
   oracle gear SEED COUNT                     COUNT decisions of the original's gear, as crates/gear_cases reads them
+  oracle levels SEED COUNT                   the original's level_for under COUNT random sets of thresholds, as tests/levels.c reads it
   oracle bench                               nanoseconds of the original's on_ack in Goodput: the median, the quartiles
   oracle speed                               times of the original and of the port side by side (only with the feature port)
   oracle records SEED COUNT                  COUNT sound records that no list reaches, a call on each, through both (the feature port)
-  oracle compare PROGRAM SECONDS SEED        PROGRAM, which reads a list and writes its transcript, against the original";
+  oracle compare PROGRAM SECONDS SEED [KIND] PROGRAM, which reads a list and writes its transcript, against the original";
 
 fn read_list(name: &str) -> Result<Vec<u8>, String> {
     let mut text = Vec::new();
@@ -82,6 +84,7 @@ fn run(args: &[&str]) -> Result<(), String> {
             Some(kind),
         )?),
         ["gear", seed, replies] => put(&gear::gear(number(seed)?, number(replies)?.clamp(1, 1_000_000))),
+        ["levels", seed, sets] => levels::levels(number(seed)?, number(sets)?, put),
         ["bench"] => {
             let [low, median, high] = bench::bench();
             put(format!("{median:.1} {low:.1} {high:.1}\n").as_bytes())
@@ -92,7 +95,11 @@ fn run(args: &[&str]) -> Result<(), String> {
         ["records", seed, count] => speed::records::records(number(seed)?, number(count)?),
         ["audit"] => audit::audit(1, 4000, 80),
         ["audit", seed, lists, calls] => audit::audit(number(seed)?, number(lists)?, count(calls)?),
-        ["compare", program, seconds, seed] => compare::compare(program, number(seconds)?, number(seed)?),
+        ["compare", program, seconds, seed] => compare::compare(program, number(seconds)?, number(seed)?, None),
+        ["compare", program, seconds, seed, kind] => {
+            let kind = generate::kind_named(kind)?;
+            compare::compare(program, number(seconds)?, number(seed)?, Some(kind))
+        }
         _ => Err(USAGE.to_string()),
     }
 }

@@ -597,7 +597,7 @@ fn airtime_in_milliseconds() {
 
 #[test]
 fn lists_come_back_from_their_text() {
-    for (index, kind) in generate::KINDS.into_iter().enumerate().take(9) {
+    for (index, kind) in generate::KINDS.into_iter().filter(|&kind| kind != "lines").enumerate() {
         let items = generate::list(3, index as u64, 30, kind);
         let again = generate::list(3, index as u64, 30, kind);
         let list = text(&items);

@@ -36,6 +36,7 @@ fn name(call: &Call) -> &'static str {
         Call::Turn { .. } => "turn",
         Call::Burst => "burst",
         Call::Piece(_) => "piece",
+        Call::Levels { .. } => "levels",
         Call::State => "state",
         Call::Area(_) => "area",
         Call::Out(_) => "out",
@@ -130,6 +131,10 @@ pub fn answer(out: &mut String, h: &mut Harness, call: &Call) -> Answer {
     let _ = match &answer {
         Answer::Ok => writeln!(out, "{name} ok"),
         Answer::Refused(number) => writeln!(out, "{name} refused {number}"),
+        Answer::Levels(found) => {
+            let words: String = found.iter().map(|(level, q)| format!(" {level}:{q}")).collect();
+            writeln!(out, "levels ok{words}")
+        }
         Answer::Piece(None) => writeln!(out, "piece none"),
         Answer::Piece(Some(bytes)) => writeln!(out, "piece {}", hex(bytes)),
         Answer::Burst(b) => {

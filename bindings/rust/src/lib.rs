@@ -6,8 +6,8 @@
 pub mod raw;
 
 pub use raw::{
-    Ack, Air, AtPeer, ChanClass, Codes, ConnAck, Counts, Frames, Gear, Heard, HoldTimes, Holds, LastBurst, Lengths, Link, LongAck, Marks, MaybeDb,
-    MaybeLevel, Outgoing, Profile, Reports, Sender, Tries, Turn,
+    Ack, Air, AtPeer, ChanClass, Codes, ConnAck, Counts, Frames, Gear, Heard, HoldTimes, Holds, LastBurst, Lengths, Link, Listing, LongAck, Marks,
+    MaybeDb, MaybeLevel, Outgoing, Profile, Reports, Sender, Tries, Turn,
 };
 
 /// The version of this interface, that of include/vanitycrow.h.
@@ -34,6 +34,7 @@ pub enum Refusal {
     QueueFull = 8,
     AllTaken = 9,
     ShortOutput = 10,
+    BadRange = 19,
     BadCallSign = 20,
     BadLinkTime = 21,
     ShortAdif = 22,
@@ -60,6 +61,7 @@ fn told(number: u8) -> Result<(), Refusal> {
         8 => Err(QueueFull),
         9 => Err(AllTaken),
         10 => Err(ShortOutput),
+        19 => Err(BadRange),
         20 => Err(BadCallSign),
         21 => Err(BadLinkTime),
         22 => Err(ShortAdif),
@@ -73,6 +75,20 @@ pub fn adif<'a>(call: &[u8], on: u64, off: u64, acked: u32, out: &'a mut [u8]) -
     // SAFETY: pointers and lengths are those of live borrows that don't overlap.
     let logged = unsafe { raw::vanitycrow_adif(call.as_ptr(), call.len(), on, off, acked, out.as_mut_ptr(), out.len()) };
     told(logged.refusal).map(|()| &out[..logged.len])
+}
+
+impl Listing {
+    /// Each level with the lowest report that gives it, ascending by level.
+    pub fn entries(&self) -> impl Iterator<Item = (u8, u8)> + '_ {
+        self.level.iter().copied().zip(self.q.iter().copied()).take(self.n)
+    }
+}
+
+/// The levels that a sender under `profile` can choose for a report from `low` to `high` (report q is q - 24 dB) over a channel of this class.
+pub fn levels(profile: &Profile, class: ChanClass, low: u8, high: u8) -> Result<Listing, Refusal> {
+    // SAFETY: the pointer is that of a live borrow, and nothing is written.
+    let listing = unsafe { raw::vanitycrow_levels(profile, class, low, high) };
+    told(listing.refusal).map(|()| listing)
 }
 
 /// A sender with its profile and its work area.

@@ -144,6 +144,7 @@ plain! {
     struct Burst { refusal: u8, outgoing: Outgoing, }
     struct Place { refusal: u8, here: bool, start: usize, len: usize, }
     struct Logged { refusal: u8, len: usize, }
+    struct Listing { refusal: u8, n: usize, level: [u8; 17], q: [u8; 17], }
 }
 
 extern "C" {
@@ -157,4 +158,5 @@ extern "C" {
     pub fn vanitycrow_data_burst(p: *const Profile, s: *mut Sender, a: *mut u8, a_len: usize, out: *mut u8, n: usize) -> Burst;
     pub fn vanitycrow_find(p: *const Profile, s: *const Sender, a: *const u8, a_len: usize, off: u32) -> Place;
     pub fn vanitycrow_adif(call: *const u8, call_len: usize, on: u64, off: u64, acked: u32, out: *mut u8, n: usize) -> Logged;
+    pub fn vanitycrow_levels(p: *const Profile, class: ChanClass, low: u8, high: u8) -> Listing;
 }

@@ -17,6 +17,7 @@ use Rattle.call_lines.specs.declared.ShortLine.{ShortLine}
 use Rattle.call_lines.specs.declared.LongLine.{LongLine}
 use Rattle.call_lines.specs.declared.LinkLine.{LinkLine}
 use Rattle.call_lines.specs.declared.TurnLine.{TurnLine}
+use Rattle.call_lines.specs.declared.RangeLine.{RangeLine}
 
 -- a number too wide for its field is the largest
 abbrev pub fieldByte : ℕ → ℕ
@@ -139,3 +140,10 @@ logLineRead room chars r =
       acked = acked .value;
       ok = isDone chars acked && ltb (acked .value) 4294967296;
     }
+
+-- `levels` ECHO DOPPLER LOW HIGH: LOW stands behind the class as a SLOT does
+unfoldable pub rangeLine : List ℕ → Read → RangeLine
+rangeLine chars r =
+    let k : ClassWords = classWords chars r in
+    let high : Read = readAs decimalOf chars (k .read) in
+    record { class = k .class; low = k .slot; high = fieldByte (high .value); ok = isDone chars high }

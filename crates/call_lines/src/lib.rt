@@ -20,7 +20,7 @@ ghost use mathlib.Core.Path.{_≡_};
 ghost use lib.ListN.{length};
 ghost use Rattle.words.specs.Words.{hexInto};
 ghost use Rattle.words.specs.Lines.{charsOf, nextWord};
-ghost use Rattle.call_lines.specs.CallLines.{fieldByte, heardFirst, classWords, wishWords, burstWords, connectLine, shortLine, turnLine, longWishes, longLine, logLineRead};
+ghost use Rattle.call_lines.specs.CallLines.{fieldByte, heardFirst, classWords, wishWords, burstWords, connectLine, shortLine, turnLine, longWishes, longLine, logLineRead, rangeLine};
 
 pub mod names;
 
@@ -259,5 +259,28 @@ pub fn link_words(line: &[u8], r: Read, bytes: &mut [u8]) -> LinkLine
         end: end.value,
         acked: acked.value,
         ok: done(line, acked) & (acked.value < 4294967296),
+    }
+}
+
+// A line about a range of reports: the channel's class, the lowest and the highest, and whether it was right.
+pub struct RangeLine {
+    pub class: ChanClass,
+    pub low: u8,
+    pub high: u8,
+    pub ok: bool,
+}
+
+// LOW stands behind the class as a SLOT does.
+pub fn range_words(line: &[u8], r: Read) -> RangeLine
+    ensures { λ q. ⌜ q ≡ rangeLine (now (line .entry)) r ⌝ }
+{
+    let k = class_words(line, r);
+    let class = k.class;
+    let high = whole(line, k.read);
+    RangeLine {
+        class: class,
+        low: k.slot,
+        high: u8_of(high.value),
+        ok: done(line, high),
     }
 }

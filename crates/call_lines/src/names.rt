@@ -29,6 +29,8 @@ pub const AREA: u8 = 10;
 
 pub const OUT: u8 = 11;
 
+pub const LEVELS: u8 = 12;
+
 // A line's call, and how far the line was read.
 pub struct Named {
     pub call: u8,
@@ -84,5 +86,6 @@ pub fn call_of(line: &[u8]) -> Named
     let n = or(n, line, b"log", LOG);
     let n = or(n, line, b"state", STATE);
     let n = or(n, line, b"area", AREA);
-    or(n, line, b"out", OUT)
+    let n = or(n, line, b"out", OUT);
+    or(n, line, b"levels", LEVELS)
 }

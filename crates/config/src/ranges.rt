@@ -127,7 +127,8 @@ fn thresholds_ok(m: Marks) -> bool
     true
 }
 
-fn marks_ok(m: Marks) -> bool
+// Thresholds and margin in their range.
+pub fn marks_ok(m: Marks) -> bool
     ensures { λ r. ⌜ r ≡ marksOk m ⌝ }
 {
     thresholds_ok(m) & db_ok(m.margin_db)

@@ -3,15 +3,18 @@ use crate::OUT_BYTES;
 use crate::buffer::least;
 use adif::Logged;
 use call_lines::LinkLine;
+use call_lines::RangeLine;
 use call_lines::link_words;
 use call_lines::names::AREA;
 use call_lines::names::LOG;
 use call_lines::names::Named;
 use call_lines::names::OUT;
+use call_lines::range_words;
 use config::Profile;
 use list_calls::Asked;
 use numbered::Burst;
 use numbered::LeftBurst;
+use reachable::levels_under;
 use record::Sender;
 use station::vanitycrow_adif;
 use words::Input;
@@ -169,6 +172,26 @@ fn log(line: &[u8], r: Read, run: Run, t: &mut [u8]) -> Run {
         return failed(run);
     }
     log_call(q, run, t, &bytes)
+}
+
+// The answer to a line about a range of reports.
+fn levels_call(q: RangeLine, p: Profile, run: Run, t: &mut [u8]) -> Run {
+    let found = levels_under(p, q.class, q.low, q.high);
+    let refusal = found.refusal;
+    if refusal != 0 {
+        let n = transcript::answer(t, run.text, b"levels", refusal);
+        return with_text(run, n);
+    }
+    let n = transcript::reached::levels(t, run.text, found);
+    with_text(run, n)
+}
+
+pub(crate) fn levels(line: &[u8], r: Read, run: Run, p: Profile, t: &mut [u8]) -> Run {
+    let q = range_words(line, r);
+    if !q.ok {
+        return failed(run);
+    }
+    levels_call(q, p, run, t)
 }
 
 // usual: the profile's max_burst_s.

@@ -7,6 +7,7 @@ use buffer::flush;
 use buffer::least;
 use buffer::room;
 use call_lines::names::BURST;
+use call_lines::names::LEVELS;
 use call_lines::names::NO_CALL;
 use call_lines::names::Named;
 use call_lines::names::PIECE;
@@ -97,6 +98,9 @@ fn look(
     if n.call == STATE {
         let usual = profile_of(v).lengths.max_burst_s;
         return calls::show(line, n.read, run, usual, s, area, t);
+    }
+    if n.call == LEVELS {
+        return calls::levels(line, n.read, run, profile_of(v), t);
     }
     calls::aside(n, line, run, t)
 }

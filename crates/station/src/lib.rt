@@ -1,15 +1,17 @@
 // The thin layer: a station program holds one record, and each call of the sender changes it. The calls are exported, for C to link: a slice goes
-// as a pointer and a length. No call requires anything; the profile is read where it lies. The link log needs no record.
+// as a pointer and a length. No call requires anything; the profile is read where it lies. The link log and the levels within reach need no record.
 use adif::Logged;
 use config::Profile;
 use numbered::Burst;
 use numbered::Place;
+use reachable::Listing;
 use record::Sender;
 use replies::Ack;
 use replies::ConnAck;
 use replies::Heard;
 use replies::LongAck;
 use replies::Turn;
+use report::ChanClass;
 ghost use mathlib.Core.Path.{_≡_};
 ghost use mathlib.Core.List.{[]};
 ghost use Rattle.record.specs.Fresh.{fresh};
@@ -17,6 +19,7 @@ ghost use Rattle.sender.specs.Calls.{queueOf, receiveOf, findOf, pieceOf, burst
 ghost use Rattle.refusals.specs.declared.Reply.the-variants as R;
 ghost use Rattle.numbered.specs.Numbered.{answerNumber, burstNumber, findNumber};
 ghost use Rattle.adif.specs.Adif.{logOf};
+ghost use Rattle.reachable.specs.Reachable.{listingUnder};
 ghost use Rattle.station.specs.Exported.{left, leftBurst};
 ghost use Rattle.station.specs.ExportedCode.{kept};
 
@@ -155,4 +158,12 @@ pub extern "C" fn vanitycrow_adif(
     ensures { λ r. ⌜ (r, now (out .exit)) ≡ logOf (now (call .entry)) on off acked (now (out .entry)) ⌝ }
 {
     adif::log_link(call, on, off, acked, out)
+}
+
+// The levels that a sender under this profile can choose for a report from `low` to `high` over a channel of this class.
+#[no_mangle]
+pub extern "C" fn vanitycrow_levels(p: &Profile, class: ChanClass, low: u8, high: u8) -> Listing
+    ensures { λ r. ⌜ r ≡ listingUnder (now (p .entry)) class low high ⌝ }
+{
+    reachable::levels_under(*p, class, low, high)
 }

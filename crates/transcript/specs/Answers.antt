@@ -8,8 +8,9 @@ use Rattle.laws.specs.Bytes.{part}
 use Rattle.laws.specs.Span.{upto}
 use Rattle.text.specs.Buffer.{each}
 use Rattle.laws.specs.Text.{text}
-use Rattle.text.specs.Words.{numberWord, flagWord, hex}
+use Rattle.text.specs.Words.{numberWord, flagWord, hex, afterColon}
 use Rattle.limits.specs.Limits.{maxSlots}
+use Rattle.reachable.specs.declared.Listing.{Listing}
 use Rattle.outgoing.specs.declared.Frames.{Frames}
 use Rattle.outgoing.specs.declared.Outgoing.{Outgoing}
 
@@ -47,6 +48,17 @@ pieceLine bytes = text "piece" ++ hex bytes ++ text "\n"
 -- `log ok TEXT`: the record's characters as they stand
 abbrev pub logLine : List ℕ → List ℕ
 logLine chars = text "log ok " ++ chars ++ text "\n"
+
+-- LEVEL:Q
+abbrev pub levelWord : ℕ → ℕ → List ℕ
+levelWord level q = numberWord level ++ afterColon q
+
+abbrev pub levelEntry : Listing → ℕ → List ℕ
+levelEntry found i = levelWord (getD (found .level) i 0) (getD (found .q) i 0)
+
+-- `levels ok LEVEL:Q ..`, of the places that are used
+unfoldable pub levelsLine : Listing → List ℕ
+levelsLine found = text "levels ok" ++ each (levelEntry found) (upto 0 (min (found .n) 17)) ++ text "\n"
 
 -- `error LINE`
 abbrev pub errorLine : ℕ → List ℕ

@@ -8,6 +8,7 @@ ghost use Rattle.laws.specs.Text.{text};
 ghost use Rattle.transcript.specs.Answers.{answerLine, pieceLine, logLine, errorLine};
 
 pub mod burst;
+pub mod reached;
 
 // What a call answers, by its name and the refusal's number, 0 for none.
 pub fn answer(t: &mut [u8], n: usize, name: &[u8], refusal: u8) -> usize

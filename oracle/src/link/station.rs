@@ -295,6 +295,11 @@ impl Station {
         self.on_ack(self.burst_id, bitmap, false, snr_db, now);
     }
 
+    /// The original's `level_for`.
+    pub fn level_at(&self, snr_db: f32) -> usize {
+        self.level_for(snr_db)
+    }
+
     /// The original's `data_burst`. What it only counts is dropped.
     pub fn send(&mut self) -> Outgoing {
         let burst = self.data_burst();

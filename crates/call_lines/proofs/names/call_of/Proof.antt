@@ -43,16 +43,23 @@ slice-aggregate-or-6 c = search needs
 or-requires-6 : tie.Need-or-requires-6
 or-requires-6 c κs = search needs
 
+slice-aggregate-or-7 : tie.Need-slice-aggregate-or-7
+slice-aggregate-or-7 c = search needs
+
+or-requires-7 : tie.Need-or-requires-7
+or-requires-7 c κs = search needs
+
 returns : tie.Need-returns
 unfolding callOf
 returns c =
-    let p6 = c .before .before in
+    let p7 = c .before .before in
+    let p6 = p7 .before .before in
     let p5 = p6 .before .before in
     let p4 = p5 .before .before in
     let p3 = p4 .before .before in
     let p2 = p3 .before .before in
     let p1 = p2 .before .before in
-    rw (c .or6 .ensures, p6 .or5 .ensures, p5 .or4 .ensures, p4 .or3 .ensures, p3 .or2 .ensures, p2 .or .ensures, p1 .asking .ensures)
+    rw (c .or7 .ensures, p7 .or6 .ensures, p6 .or5 .ensures, p5 .or4 .ensures, p4 .or3 .ensures, p3 .or2 .ensures, p2 .or .ensures, p1 .asking .ensures)
 
 pub call-of-spec : {M : Type 1} → statement M
 call-of-spec =
@@ -71,4 +78,6 @@ call-of-spec =
     or-requires-5
     slice-aggregate-or-6
     or-requires-6
+    slice-aggregate-or-7
+    or-requires-7
     returns)
