@@ -1,5 +1,5 @@
 // The lines of a call list that ask the sender, a queuing or a reply (docs/CALLS.md, Calls): each is read, and its call is made over a record
-// that is held by value.
+// that is held by value. The module `answers` has these with their answers, a burst and the question for a piece.
 use call_lines::connect_words;
 use call_lines::long_words;
 use call_lines::names::CONNECT;
@@ -19,6 +19,8 @@ ghost use mathlib.Core.Path.{_≡_};
 ghost use Prim.Native.Nat.{_≤_};
 ghost use lib.ListN.{length, take};
 ghost use Rattle.list_calls.specs.Asked.{broken, connectAsked, shortAsked, turnAsked, longAsked, queueAsked, askedOf};
+
+pub mod answers;
 
 // Bytes that a line can have as HEX: its 65,536 characters have no more pairs.
 const BYTES: usize = 32768;
@@ -42,7 +44,7 @@ fn broken(s: Sender) -> Asked
 }
 
 // n, or all of a slice where that is less.
-fn least(n: usize, a: &[u8]) -> usize
+pub(crate) fn least(n: usize, a: &[u8]) -> usize
     ensures { λ r. ⌜ r ≤ length (now (a .entry)) ⌝ }
     ensures { λ r. ⌜ r ≡ length (take r (now (a .entry))) ⌝ }
     ensures { λ r. ⌜ take r (now (a .entry)) ≡ take n (now (a .entry)) ⌝ }
@@ -110,7 +112,7 @@ fn queue(line: &[u8], r: Read, p: Profile, s: Sender, area: &mut [u8]) -> Asked
 }
 
 // A queuing or a reply.
-pub fn ask(n: Named, line: &[u8], p: Profile, s: Sender, area: &mut [u8]) -> Asked
+pub(crate) fn ask(n: Named, line: &[u8], p: Profile, s: Sender, area: &mut [u8]) -> Asked
     ensures { λ q. ⌜ (q, now (area .exit)) ≡ askedOf p s (now (area .entry)) (now (line .entry)) n ⌝ }
 {
     if n.call == SHORT {

@@ -1,4 +1,4 @@
-// The calls of a list that change no work area, and a burst, with their answers (docs/CALLS.md, Calls).
+// The calls of a list with their answers (docs/CALLS.md, Calls).
 use crate::OUT_BYTES;
 use crate::buffer::least;
 use adif::Logged;
@@ -11,9 +11,7 @@ use call_lines::names::Named;
 use call_lines::names::OUT;
 use call_lines::range_words;
 use config::Profile;
-use list_calls::Asked;
-use numbered::Burst;
-use numbered::LeftBurst;
+use list_calls::answers::say;
 use reachable::levels_under;
 use record::Sender;
 use station::vanitycrow_adif;
@@ -53,92 +51,39 @@ pub(crate) fn with_text(mut run: Run, n: usize) -> Run {
     run
 }
 
-// The answer to a queuing or a reply, by the first word of its line.
-pub(crate) fn answered(line: &[u8], r: Read, run: Run, ok: bool, refusal: u8, t: &mut [u8]) -> Run {
-    if !ok {
-        return failed(run);
-    }
-    let to = least(r.at, line);
-    let n = transcript::answer(t, run.text, &line[..to], refusal);
-    with_text(run, n)
+// What a line left.
+fn left(mut run: Run, ok: bool, n: usize) -> Run {
+    run.ok = ok;
+    run.text = n;
+    run
 }
 
-// and the record that it left.
-pub(crate) fn after(line: &[u8], r: Read, run: Run, q: Asked, t: &mut [u8]) -> Step {
-    let left = q.left;
-    let s = left.next;
-    let run = answered(line, r, run, q.ok, left.refusal, t);
-    Step { run, s }
-}
-
-// A frame's size at the level of the record.
-fn frame_size(p: Profile, level: usize) -> usize {
-    if level < 17 {
-        return p.frame_bytes(level) as usize;
-    }
-    0
-}
-
-// The answer to a burst, whose frames stand in the output.
-fn burst_text(t: &mut [u8], n: usize, b: Burst, size: usize, out: &[u8]) -> usize {
-    let refusal = b.refusal;
-    if refusal != 0 {
-        return transcript::answer(t, n, b"burst", refusal);
-    }
-    transcript::burst::burst(t, n, b.outgoing, size, out)
-}
-
-fn burst_call(run: Run, p: Profile, s: Sender, area: &mut [u8], out: &mut [u8]) -> LeftBurst {
-    let lent = least(run.area, area);
-    let most = least(run.out, out);
-    held::data_burst(p, s, &mut area[..lent], &mut out[..most])
-}
-
-fn level_of(s: Sender) -> usize {
-    let g = s.gear;
-    g.level
-}
-
-pub(crate) fn burst(run: Run, p: Profile, s: Sender, area: &mut [u8], t: &mut [u8]) -> Step {
-    let mut out = [0u8; OUT_BYTES];
-    let size = frame_size(p, level_of(s));
-    let b = burst_call(run, p, s, area, &mut out);
-    let s = b.next;
-    let n = burst_text(t, run.text, b.burst, size, &out);
-    let run = with_text(run, n);
-    Step { run, s }
-}
-
-// The answer to the question for a piece.
-fn piece_text(at: u64, n: usize, p: Profile, s: Sender, area: &[u8], t: &mut [u8]) -> usize {
-    let off = (at % 4294967296) as u32;
-    let found = held::find(p, s, area, off);
-    let refusal = found.refusal;
-    if refusal != 0 {
-        return transcript::answer(t, n, b"piece", refusal);
-    }
-    if found.here & (at < 4294967296) {
-        return transcript::piece(t, n, held::piece(p, s, area, off));
-    }
-    transcript::no_piece(t, n)
-}
-
-pub(crate) fn piece(
+// A burst, the question for a piece, a queuing or a reply.
+pub(crate) fn asked(
+    n: Named,
     line: &[u8],
-    r: Read,
     run: Run,
-    p: Profile,
     s: Sender,
-    area: &[u8],
+    area: &mut [u8],
     t: &mut [u8],
-) -> Run {
-    let q = whole(line, r);
-    if !done(line, q) {
-        return failed(run);
-    }
+    v: &[u64; 147],
+) -> Step {
+    let mut out = [0u8; OUT_BYTES];
     let lent = least(run.area, area);
-    let n = piece_text(q.value, run.text, p, s, &area[..lent], t);
-    with_text(run, n)
+    let most = least(run.out, &out);
+    let q = say(
+        n,
+        line,
+        v,
+        s,
+        &mut area[..lent],
+        &mut out[..most],
+        t,
+        run.text,
+    );
+    let run = left(run, q.ok, q.text);
+    let s = q.next;
+    Step { run, s }
 }
 
 // The answer to a link's line; its record stands in the output.

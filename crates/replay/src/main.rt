@@ -6,13 +6,11 @@ mod input;
 use buffer::flush;
 use buffer::least;
 use buffer::room;
-use call_lines::names::BURST;
 use call_lines::names::LEVELS;
 use call_lines::names::NO_CALL;
 use call_lines::names::Named;
 use call_lines::names::PIECE;
 use call_lines::names::STATE;
-use call_lines::names::TURN;
 use call_lines::names::call_of;
 use calls::Run;
 use calls::Step;
@@ -20,7 +18,6 @@ use calls::failed;
 use calls::with_text;
 use input::next_line;
 use limits::AREA_BYTES;
-use list_calls::ask;
 use profile_table::LINES;
 use profile_table::listed::profile_line;
 use profile_table::profile_of;
@@ -92,9 +89,6 @@ fn look(
     t: &mut [u8],
     v: &[u64; 147],
 ) -> Run {
-    if n.call == PIECE {
-        return calls::piece(line, n.read, run, profile_of(v), s, area, t);
-    }
     if n.call == STATE {
         let usual = profile_of(v).lengths.max_burst_s;
         return calls::show(line, n.read, run, usual, s, area, t);
@@ -105,31 +99,13 @@ fn look(
     calls::aside(n, line, run, t)
 }
 
-// A queuing or a reply.
-fn asked(
-    n: Named,
-    line: &[u8],
-    run: Run,
-    s: Sender,
-    area: &mut [u8],
-    t: &mut [u8],
-    v: &[u64; 147],
-) -> Step {
-    let lent = least(run.area, area);
-    let q = ask(n, line, profile_of(v), s, &mut area[..lent]);
-    calls::after(line, n.read, run, q, t)
-}
-
 fn call(line: &[u8], run: Run, s: Sender, area: &mut [u8], t: &mut [u8], v: &[u64; 147]) -> Step {
     let n = call_of(line);
-    if (n.call == BURST) & done(line, n.read) {
-        return calls::burst(run, profile_of(v), s, area, t);
-    }
-    if (n.call == NO_CALL) | (n.call > TURN) {
+    if (n.call == NO_CALL) | (n.call > PIECE) {
         let run = look(n, line, run, s, area, t, v);
         return Step { run, s };
     }
-    asked(n, line, run, s, area, t, v)
+    calls::asked(n, line, run, s, area, t, v)
 }
 
 // A remark, or an empty line.
