@@ -6,12 +6,13 @@ use mathlib.Core.Bool.{Bool, true, false}
 use mathlib.Core.List.{List, [], _∷_}
 use lib.ListN.{length, replicate}
 use Rattle.ledger.specs.Reply.{shortAck, longAck}
-use Rattle.ledger.specs.Ledger.{Piece, len, split, mergeInflight, queue, dataBurst, hearAck, settleBurst, clearBurst, Held, Sent, Sender, sentOffs}
-use Rattle.ledger.specs.Tally.{Tally, inFlight, acknowledged, start, queued, sentOut, heard, noneOutstanding}
+use Rattle.ledger.specs.Ledger.{Piece, len, split, mergeInflight, requeue, dataBurst, hearAck, settleBurst, clearBurst, Held, Sent, Sender, sentOffs}
+use Rattle.ledger.specs.Queue.{enqueue, flies, begins}
+use Rattle.ledger.specs.Tally.{Tally, waits, inFlight, acknowledged, start, queued, sentOut, heard, noneOutstanding}
 use Rattle.ledger.specs.Plan.{parity, room}
 use Rattle.ledger.specs.Calls.{run, tally}
 use Rattle.ledger.specs.Sizes.{Sizes}
-use Rattle.ledger.specs.CallsCode.{Move, bursts, queues, hears, turns, step, moveTold}
+use Rattle.ledger.specs.CallsCode.{Move, bursts, queues, hears, turns, step, moveTold, freshStation}
 use Rattle.ledger.specs.LedgerCode.{freshLedger}
 
 -- offset and length of each piece
@@ -68,18 +69,18 @@ plan payload parity room number =
 -- that is not awaited; a short level; a turn; an ack that is not awaited
 calls : List Move
 calls =
-    queues (replicate 200 5) ∷ plan 30 0 4 1 ∷ hears (shortAck 1 10) true ∷ plan 30 2 2 2 ∷ hears (shortAck 2 7) true ∷ hears (shortAck 2 63) false
+    queues 3 (replicate 200 5) ∷ plan 30 0 4 1 ∷ hears (shortAck 1 10) true ∷ plan 30 2 2 2 ∷ hears (shortAck 2 7) true ∷ hears (shortAck 2 63) false
     ∷ plan 8 0 3 3 ∷ turns ∷ hears (shortAck 3 7) false ∷ []
 
-after-calls : spans (run (step sizes) calls freshLedger .pieces) ≡ 150 ∷ 8 ∷ 158 ∷ 8 ∷ 166 ∷ 8 ∷ 174 ∷ 6 ∷ []
-unfolding calls dataBurst hearAck settleBurst clearBurst queue
+after-calls : spans (run (step sizes) calls freshStation .sender .pieces) ≡ 150 ∷ 8 ∷ 158 ∷ 8 ∷ 166 ∷ 8 ∷ 174 ∷ 6 ∷ []
+unfolding calls dataBurst hearAck settleBurst clearBurst requeue enqueue flies
 after-calls = refl
 
 abbrev counts : Tally → List ℕ
-counts t = t .taken ∷ length (t .waiting) ∷ inFlight (t .flown) ∷ acknowledged (t .flown) ∷ []
+counts t = t .taken ∷ length (waits t) ∷ inFlight (t .flown) ∷ acknowledged (t .flown) ∷ []
 
-after-tally : counts (tally (step sizes) (moveTold sizes) calls freshLedger start) ≡ 200 ∷ 20 ∷ 30 ∷ 150 ∷ []
-unfolding calls dataBurst hearAck settleBurst clearBurst queue queued sentOut heard noneOutstanding
+after-tally : counts (tally (step sizes) (moveTold sizes) calls freshStation start) ≡ 200 ∷ 20 ∷ 30 ∷ 150 ∷ []
+unfolding calls dataBurst hearAck settleBurst clearBurst requeue enqueue flies begins queued sentOut heard noneOutstanding
 after-tally = refl
 
 -- ---- a burst's frames, and the held list
@@ -94,31 +95,31 @@ sentRows (f ∷ fs) = f .off ∷ f .bits ∷ f .held ∷ sentRows fs
 
 -- four frames of 30, of which the second and fourth arrive, the others held or not; then a burst
 abbrev twice : Bool → Move → Sender
-twice keep c = run (step sizes) (queues (replicate 200 5) ∷ plan 30 0 4 1 ∷ hears (shortAck 1 10) keep ∷ c ∷ []) freshLedger
+twice keep c = run (step sizes) (queues 3 (replicate 200 5) ∷ plan 30 0 4 1 ∷ hears (shortAck 1 10) keep ∷ c ∷ []) freshStation .sender
 
 -- parity first, then new pieces; of two held one goes, and the other is the unsent rest
 parity-first : sentRows (twice true (plan 30 1 2 2) .sent) ≡ 0 ∷ 1440 ∷ 4320 ∷ 120 ∷ 2880 ∷ 2880 ∷ 150 ∷ 2880 ∷ 2880 ∷ []
-unfolding dataBurst hearAck settleBurst clearBurst queue
+unfolding dataBurst hearAck settleBurst clearBurst requeue enqueue flies
 parity-first = refl
 
 rest-left : heldRows (twice true (plan 30 1 2 2) .rest) ≡ 60 ∷ 2880 ∷ []
-unfolding dataBurst hearAck settleBurst clearBurst queue
+unfolding dataBurst hearAck settleBurst clearBurst requeue enqueue flies
 rest-left = refl
 
 -- the oldest pieces, then new ones
 oldest-first : sentOffs (twice false (plan 30 0 3 2) .sent) ≡ 0 ∷ 60 ∷ 120 ∷ []
-unfolding dataBurst hearAck settleBurst clearBurst queue
+unfolding dataBurst hearAck settleBurst clearBurst requeue enqueue flies
 oldest-first = refl
 
 -- after an ack that has the second frame alone, the peer holds the unsent rest, then what it missed
 held-then : heldRows (hearAck 11520 (shortAck 2 2) true (twice true (plan 30 1 2 2)) .held) ≡ 60 ∷ 2880 ∷ 0 ∷ 4320 ∷ 150 ∷ 2880 ∷ []
-unfolding dataBurst hearAck settleBurst clearBurst queue
+unfolding dataBurst hearAck settleBurst clearBurst requeue enqueue flies
 held-then = refl
 
 -- after an ack of another burst the held list and the unsent rest stay
 unmatched : (heldRows (hearAck 11520 (shortAck 1 2) true (twice true (plan 30 1 2 2)) .held) ≡ 0 ∷ 2880 ∷ 60 ∷ 2880 ∷ [])
     × (heldRows (hearAck 11520 (shortAck 1 2) true (twice true (plan 30 1 2 2)) .rest) ≡ 60 ∷ 2880 ∷ [])
-unfolding dataBurst hearAck settleBurst clearBurst queue
+unfolding dataBurst hearAck settleBurst clearBurst requeue enqueue flies
 unmatched = (refl, refl)
 
 -- an ack of a burst with no frame keeps the held list, whatever it says

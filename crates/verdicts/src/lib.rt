@@ -3,6 +3,8 @@ use area::room::queue_refusal;
 use config::Profile;
 use config::ranges::in_order;
 use config::ranges::in_range;
+use limits::MAX_CLASS;
+use limits::MAX_MESSAGES;
 use limits::MAX_SLOTS;
 use record::Counts;
 use record::Sender;
@@ -18,12 +20,12 @@ use soundness::is_sound;
 ghost use mathlib.Core.Path.{_≡_};
 ghost use mathlib.Core.Bool.{true};
 ghost use Prim.Native.Nat.{_+_, _≤_};
-ghost use Rattle.verdicts.specs.Verdicts.{passed, firstOf, standing as standingOf, replyVerdict, roomVerdict, outputVerdict};
+ghost use Rattle.verdicts.specs.Verdicts.{passed, firstOf, standingWith, replyVerdict, roomVerdict, outputVerdict};
 ghost use Rattle.limits.specs.Limits.{maxTaken};
 
-// Refusals 1 to 4. `connect`: the call is a connect.
-pub fn standing(p: Profile, s: Sender, a: &[u8], connect: bool) -> Verdict
-    ensures { λ r. ⌜ r ≡ standingOf p s (now (a .entry)) connect ⌝ }
+// Refusals 1 to 4. `listed`: the messages are sound; `connect`: the call is a connect.
+pub fn standing(p: Profile, s: Sender, a: &[u8], listed: bool, connect: bool) -> Verdict
+    ensures { λ r. ⌜ r ≡ standingWith p s (now (a .entry)) listed connect ⌝ }
 {
     let k = s.link;
     if !in_range(p) {
@@ -31,6 +33,9 @@ pub fn standing(p: Profile, s: Sender, a: &[u8], connect: bool) -> Verdict
     }
     if !in_order(p.short_bytes, p.long_bytes) {
         return Verdict::ShortOverLong;
+    }
+    if !listed {
+        return Verdict::Unsound;
     }
     if !is_sound(p, s, a) {
         return Verdict::Unsound;
@@ -41,13 +46,16 @@ pub fn standing(p: Profile, s: Sender, a: &[u8], connect: bool) -> Verdict
     Verdict::Accepted
 }
 
-// 8 and 9, of n bytes more, where 1 to 4 gave v.
-pub fn queue_verdict(v: Verdict, c: Counts, n: usize) -> Verdict
+// 11, 8, 9 and 12, of n bytes more as one message of this class, where m messages wait and 1 to 4 gave v.
+pub fn queue_verdict(v: Verdict, c: Counts, m: usize, class: u8, n: usize) -> Verdict
     requires { ⌜ (passed v ≡ true → c .«next_offset» + c .waiting ≤ maxTaken) ⌝ }
-    ensures { λ r. ⌜ r ≡ firstOf v (roomVerdict c n) ⌝ }
+    ensures { λ r. ⌜ r ≡ firstOf v (roomVerdict c m class n) ⌝ }
 {
     if number(v) != 0 {
         return v;
+    }
+    if MAX_CLASS < class {
+        return Verdict::BadClass;
     }
     let q = queue_refusal(c.waiting, c.next_offset + c.waiting, n);
     if q == 8 {
@@ -55,6 +63,9 @@ pub fn queue_verdict(v: Verdict, c: Counts, n: usize) -> Verdict
     }
     if q == 9 {
         return Verdict::AllTaken;
+    }
+    if (0 < n) & (MAX_MESSAGES <= m) {
+        return Verdict::TooManyMessages;
     }
     Verdict::Accepted
 }

@@ -1,0 +1,48 @@
+// The record of a station: the sender, and the messages of which bytes wait (document 02, Change 1). What a queuing that is not refused leaves.
+use byte_copy::insert_in;
+use messages::Messages;
+use messages::insert;
+use messages::place;
+use record::Sender;
+ghost use mathlib.Core.Path.{_≡_};
+ghost use Prim.Native.Nat.{_+_, _≤_, _<_};
+ghost use lib.ListN.{length};
+ghost use Rattle.limits.specs.Limits.{maxMessages, maxWaiting};
+ghost use Rattle.record.specs.View.{store, storeArea};
+ghost use Rattle.queuing.specs.Station.{freshStation, queuedIn};
+ghost use Rattle.queuing.specs.StationCode.{Fit};
+
+#[repr(C)]
+pub struct Station {
+    pub sender: Sender,
+    pub messages: Messages,
+}
+
+// The record of a new station.
+pub fn fresh() -> Station
+    ensures { λ r. ⌜ r ≡ freshStation ⌝ }
+{
+    let sender = record::fresh();
+    let messages = messages::none();
+    Station { sender, messages }
+}
+
+// Bytes to send, as one message of this class: behind those of its class and of lower ones. No bytes make no message.
+pub fn enqueue(t: Station, a: &mut [u8], class: u8, bytes: &[u8]) -> Station
+    requires { ⌜ Fit t (now a) (length (now bytes)) ⌝ }
+    ensures { λ r. ⌜ (r, now (a .exit)) ≡ queuedIn class (now (bytes .entry)) t (now (a .entry)) ⌝ }
+{
+    let n = bytes.len();
+    if n == 0 {
+        return t;
+    }
+    let c = t.sender.counts;
+    let at = place(t.messages, class);
+    let first = c.flying as usize;
+    let end = first + c.waiting as usize;
+    insert_in(a, first + at.bytes, end, bytes);
+    let mut next = t;
+    next.messages = insert(t.messages, at.row, n as u16, class);
+    next.sender.counts.waiting = c.waiting + n as u32;
+    next
+}
