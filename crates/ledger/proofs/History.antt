@@ -12,9 +12,9 @@ use Rattle.laws.proofs.Lists.{map-map, map-id, map-append}
 use Rattle.ledger.specs.Reply.{Reply}
 use Rattle.ledger.specs.Ledger.{Frame}
 use Rattle.ledger.specs.Tally.{unacked, byteOf, acknowledge, Flown, acknowledgeAll, acknowledgedBy, Outstanding, nothing, outstanding, Tally, Event, feed, queuedIn, queued, sentOut, heard, turn, noneOutstanding, silent, took, reply, went, furthest, start}
-use Rattle.ledger.specs.Queue.{Message, messageBytes, goes, behind, rest, message, count, flies, begins, Ascending}
+use Rattle.ledger.specs.Queue.{Message, messageBytes, goes, behind, rest, message, count, ofClass, flies, begins, Ascending}
 use Rattle.ledger.specs.Calls.{tally, history}
-use Rattle.ledger.proofs.Queue.{Ready, bytes-append, count-append, count-flies, rest-flies, good-flies, ready-enqueue, order-enqueue, rest-enqueue, count-enqueue}
+use Rattle.ledger.proofs.Queue.{Ready, bytes-append, count-append, of-append, begins-behind, of-enqueue, rest-flies, good-flies, ready-enqueue, order-enqueue, rest-enqueue, count-enqueue}
 
 bytes-unacked : (bs : List ℕ) → map byteOf (unacked bs) ≡ bs
 bytes-unacked bs = map-map byteOf _ bs ∙ map-id bs
@@ -41,10 +41,11 @@ pub record Told (ms : List Message) (t : Tally) : Type 0 where
   pub order : Ascending 0 (behind (t .queue .begun) (t .queue .messages))
   pub taken : t .taken ≡ length (messageBytes ms)
   pub each : (p : Message → Bool) → count p ms ≡ count p (t .began) + count p (behind (t .queue .begun) (t .queue .messages))
+  pub earliest : (c : ℕ) → ofClass c ms ≡ ofClass c (t .began) ++ ofClass c (behind (t .queue .begun) (t .queue .messages))
   pub history : map byteOf (t .flown) ++ rest (t .queue) ≡ messageBytes (t .began)
 
 start-told : Told [] start
-start-told = record { ready = λ f. let z : _≡_ {A = ℕ} 0 1 = cc in absurd (omega arith); order = tt; taken = refl; each = λ p. refl; history = refl }
+start-told = record { ready = λ f. let z : _≡_ {A = ℕ} 0 1 = cc in absurd (omega arith); order = tt; taken = refl; each = λ p. refl; earliest = λ c. refl; history = refl }
 
 message-bytes : (c : ℕ) (bs : List ℕ) → messageBytes (message c bs) ≡ bs
 message-bytes c [] = refl
@@ -54,7 +55,7 @@ message-bytes c (b ∷ bs) = append-nil (b ∷ bs)
 same : (ms : List Message) (t u : Tally) → u .taken ≡ t .taken → u .queue ≡ t .queue → u .began ≡ t .began → map byteOf (u .flown) ≡ map byteOf (t .flown) → Told ms t → Told (ms ++ []) u
 same ms t u e₁ e₂ e₃ e₄ k =
     rw append-nil
-    (record { ready = rw e₂ (k .ready); order = rw e₂ (k .order); taken = e₁ ∙ k .taken; each = λ p. rw (e₂, e₃) (k .each p); history = rw (e₂, e₃, e₄) (k .history) })
+    (record { ready = rw e₂ (k .ready); order = rw e₂ (k .order); taken = e₁ ∙ k .taken; each = λ p. rw (e₂, e₃) (k .each p); earliest = λ c. rw (e₂, e₃) (k .earliest c); history = rw (e₂, e₃, e₄) (k .history) })
 
 fed : (e : Event) (ms : List Message) (t : Tally) → Told ms t → Told (ms ++ queuedIn e) (feed e t)
 unfolding queued sentOut heard noneOutstanding
@@ -65,6 +66,10 @@ fed (took c bs) ms t k =
       order = order-enqueue c (t .queue) bs (k .order);
       taken = omega (arith, k .taken, ap length (bytes-append ms (message c bs)), length-append (messageBytes ms) (messageBytes (message c bs)), ap length (message-bytes c bs));
       each = λ p. omega (arith, k .each p, count-append p ms (message c bs), count-enqueue c (t .queue) p bs (k .ready));
+      earliest = λ d.
+          of-append d ms (message c bs) ∙ ap (λ (x : List Message). x ++ ofClass d (message c bs)) (k .earliest d)
+          ∙ append-assoc (ofClass d (t .began)) (ofClass d (behind (t .queue .begun) (t .queue .messages))) (ofClass d (message c bs))
+          ∙ ap (λ (x : List Message). ofClass d (t .began) ++ x) (sym (of-enqueue c (t .queue) d bs (k .ready) (k .order)));
       history = rw (rest-enqueue c (t .queue) bs (k .ready)) (k .history);
     }
 fed (reply r) ms t k = same ms t (heard r t) refl refl refl (bytes-answered r (t .out) (t .flown)) k
@@ -79,7 +84,15 @@ fed (went n fs) ms t k =
       ready = g .0;
       order = g .1;
       taken = k .taken;
-      each = λ p. omega (arith, k .each p, count-append p (t .began) (begins j (t .queue)), count-flies p j (t .queue));
+      each = λ p.
+          omega (arith, k .each p, count-append p (t .began) (begins j (t .queue)), ap (count p) (begins-behind j (t .queue)),
+          count-append p (begins j (t .queue)) (behind (flies j (t .queue) .begun) (flies j (t .queue) .messages)));
+      earliest = λ c.
+          let late = behind (flies j (t .queue) .begun) (flies j (t .queue) .messages) in
+          k .earliest c ∙ ap (λ (x : List Message). ofClass c (t .began) ++ ofClass c x) (sym (begins-behind j (t .queue)))
+          ∙ ap (λ (x : List Message). ofClass c (t .began) ++ x) (of-append c (begins j (t .queue)) late)
+          ∙ sym (append-assoc (ofClass c (t .began)) (ofClass c (begins j (t .queue))) (ofClass c late))
+          ∙ ap (λ (x : List Message). x ++ ofClass c late) (sym (of-append c (t .began) (begins j (t .queue))));
       history =
           ap (λ (x : List ℕ). x ++ rest (flies j (t .queue))) (map-append byteOf (t .flown) (unacked went) ∙ ap (λ (x : List ℕ). fl ++ x) (bytes-unacked went))
           ∙ append-assoc fl went (rest (flies j (t .queue))) ∙ ap (λ (x : List ℕ). fl ++ x) (rest-flies j (t .queue))

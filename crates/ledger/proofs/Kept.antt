@@ -113,7 +113,7 @@ module _ (z : Sizes) where
           number = so .number;
         }
 
-  clear-sound : (s : Sender) → Sound z s → Sound z (clearBurst s)
+  pub clear-sound : (s : Sender) → Sound z s → Sound z (clearBurst s)
   unfolding clearBurst
   clear-sound s so =
       record {
@@ -133,7 +133,7 @@ module _ (z : Sizes) where
         number = so .number;
       }
 
-  queue-sound : (c : ℕ) (bs w : List ℕ) (s : Sender) → Allowed z (queues c bs) s → length w ≡ length (s .waiting) + length bs → Sound z s → Sound z (requeue w s)
+  pub queue-sound : (c : ℕ) (bs w : List ℕ) (s : Sender) → Allowed z (queues c bs) s → length w ≡ length (s .waiting) + length bs → Sound z s → Sound z (requeue w s)
   unfolding requeue
   queue-sound c bs w s al l so =
       record {
@@ -152,6 +152,13 @@ module _ (z : Sizes) where
         sum = omega (arith, so .sum);
         number = so .number;
       }
+
+  pub ack-sound : (r : Reply) (keep : Bool) (s : Sender) → Sound z s → Sound z (hearAck (z .top) r keep s)
+  unfolding hearAck
+  ack-sound r keep s so =
+      by (λ (x : Sender). Sound z x) (s .awaited)
+      (λ w. either (λ (x : Sender). Sound z x) (settles r s) _ _ (settle-sound r keep s so) (clear-sound s so))
+      (λ w. so)
 
   pub fresh-sound : Sound z freshLedger
   fresh-sound =
@@ -174,30 +181,25 @@ module _ (z : Sizes) where
 
   module _ (zr : SizeRange z) where
     -- EVERY ACCEPTED CALL KEEPS `Sound`
-    pub core-sound : (c : Move) (st : Station) → Allowed z c (st .sender) → Sound z (st .sender) → st .sender .waiting ≡ goes (st .queue) → Sound z (step z c st .sender)
-    unfolding hearAck
-    core-sound idle st al so sh = so
-    core-sound (queues c bs) st al so sh = queue-sound c bs (goes (enqueue c bs (st .queue))) (st .sender) al (rw sh (length-enqueue c (st .queue) bs)) so
-    core-sound (hears r keep) st al so sh =
-        let s = st .sender in
-        by (λ (x : Sender). Sound z x) (s .awaited)
-        (λ w. either (λ (x : Sender). Sound z x) (settles r s) _ _ (settle-sound r keep s so) (clear-sound s so))
-        (λ w. so)
-    core-sound turns st al so sh = clear-sound (st .sender) so
-    core-sound (bursts g) st al so sh = burst-sound z zr (st .sender) g so al
+    sender-sound : (c : Move) (st : Station) → Allowed z c (st .sender) → Sound z (st .sender) → st .sender .waiting ≡ goes (st .queue) → Sound z (step z c st .sender)
+    sender-sound idle st al so sh = so
+    sender-sound (queues c bs) st al so sh = queue-sound c bs (goes (enqueue c bs (st .queue))) (st .sender) al (rw sh (length-enqueue c (st .queue) bs)) so
+    sender-sound (hears r keep) st al so sh = ack-sound r keep (st .sender) so
+    sender-sound turns st al so sh = clear-sound (st .sender) so
+    sender-sound (bursts g) st al so sh = burst-sound z zr (st .sender) g so al
 
     -- the waiting bytes are the messages'
-    core-shows : (c : Move) (st : Station) → st .sender .waiting ≡ goes (st .queue) → step z c st .sender .waiting ≡ goes (step z c st .queue)
+    sender-shows : (c : Move) (st : Station) → st .sender .waiting ≡ goes (st .queue) → step z c st .sender .waiting ≡ goes (step z c st .queue)
     unfolding hearAck settleBurst clearBurst requeue dataBurst
-    core-shows idle st sh = sh
-    core-shows (queues c bs) st sh = refl
-    core-shows (hears r keep) st sh =
+    sender-shows idle st sh = sh
+    sender-shows (queues c bs) st sh = refl
+    sender-shows (hears r keep) st sh =
         by (λ (x : Sender). x .waiting ≡ goes (st .queue)) (st .sender .awaited) (λ _. either (λ (x : Sender). x .waiting ≡ goes (st .queue)) (settles r (st .sender)) _ _ sh sh) (λ _. sh)
-    core-shows turns st sh = sh
-    core-shows (bursts g) st sh = let k = size (newPieces g (st .sender)) in ap (drop k) sh ∙ sym (goes-flies k (st .queue))
+    sender-shows turns st sh = sh
+    sender-shows (bursts g) st sh = let k = size (newPieces g (st .sender)) in ap (drop k) sh ∙ sym (goes-flies k (st .queue))
 
     pub step-sound : (c : Move) (st : Station) → Allowed z c (st .sender) → SoundStation z st → SoundStation z (step z c st)
-    step-sound c st al so = record { sound = core-sound c st al (so .sound) (so .shows); shows = core-shows c st (so .shows) }
+    step-sound c st al so = record { sound = sender-sound c st al (so .sound) (so .shows); shows = sender-shows c st (so .shows) }
 
   -- ---- agreement
 

@@ -65,6 +65,7 @@ module _ (z : Sizes) (zr : SizeRange z) (st : Station) (t : Tally) (ss : SoundSt
         waiting = sym (ag .waiting);
         queue = sym e;
         order = hi .order;
+        earliest = hi .earliest;
         covers = λ o. covers-once (z .long) (s .next) o (s .pieces) (t .flown) (so .ascend) (ag .flown);
         inPieces = sym f;
         ascends = so .ascend;

@@ -8,7 +8,7 @@ use lib.ListN.{length, take, drop}
 use Rattle.laws.specs.Lists.{listed}
 use Rattle.limits.specs.Limits.{maxFlying, maxPieces}
 use Rattle.ledger.specs.Ledger.{Piece, Frame, Sender, size, find, offs, heldOffs}
-use Rattle.ledger.specs.Queue.{Message, Queue, messageBytes, behind, rest, count, Ascending}
+use Rattle.ledger.specs.Queue.{Message, Queue, messageBytes, behind, rest, count, ofClass, Ascending}
 use Rattle.ledger.specs.Tally.{Tally, waits, Event, byteOf, inFlight, acknowledged, feed, framesTold}
 use Rattle.ledger.specs.Claim.{covering, flyingAt, ackedAt, settledBy}
 use Rattle.ledger.specs.CoverCode.{Ascend}
@@ -29,6 +29,7 @@ pub record LedgerClaim (z : Sizes) (ms : List Message) (s : Sender) (q : Queue) 
   pub waiting : s .waiting ≡ waits t
   pub queue : q ≡ t .queue
   pub order : Ascending 0 (behind (t .queue .begun) (t .queue .messages))
+  pub earliest : (c : ℕ) → ofClass c ms ≡ ofClass c (t .began) ++ ofClass c (behind (t .queue .begun) (t .queue .messages))
   pub covers : (o : ℕ) → covering o (s .pieces) ≡ flyingAt o (t .flown)
   pub inPieces : size (s .pieces) ≡ inFlight (t .flown)
   pub ascends : Ascend (z .long) 0 (s .next) (s .pieces)
