@@ -34,10 +34,7 @@ pub fn standing(p: Profile, s: Sender, a: &[u8], listed: bool, connect: bool) ->
     if !in_order(p.short_bytes, p.long_bytes) {
         return Verdict::ShortOverLong;
     }
-    if !listed {
-        return Verdict::Unsound;
-    }
-    if !is_sound(p, s, a) {
+    if !(listed & is_sound(p, s, a)) {
         return Verdict::Unsound;
     }
     if (k.connected & connect) | (!k.connected & !connect) {

@@ -1,13 +1,13 @@
 -- `verdicts::standing` meets its contract.
 use denote.Ref.{now}
-use mathlib.Core.Bool.{false, not}
+use mathlib.Core.Bool.{Bool, false, not, _&&_}
 use mathlib.Core.Path.{_≡_, refl, sym, ap, _∙_}
 use borrow.Author.Tests.{not-false}
 use Rattle.laws.proofs.Picks.{cond-yes, cond-no}
 use Rattle.config.specs.Ranges.{inRange, inOrder}
 use Rattle.config.proofs.ranges.Ranged.{ranged}
 use Rattle.soundness.specs.Soundness.{soundOk}
-use Rattle.verdicts.specs.Verdicts.{standing}
+use Rattle.verdicts.specs.Verdicts.{standingWith}
 use borrow.Author.Needs.{needs}
 use Rattle.verdicts.proofs.standing.Statement.{statement}
 use Rattle.verdicts.proofs.standing.Tie as tie
@@ -19,36 +19,37 @@ two : (c : tie.Else2) → not (inOrder (c .before .before .before .before .befor
 unfolding inOrder
 two c = sym (ap not (c .before .in-order .ensures)) ∙ c .if2 .left
 
-three : (c : tie.Else3) → let s = c .before .before .before .before .before .before .before .before in not (soundOk (s .args .p) (s .args .s) (now (s .args .a))) ≡ false
-three c = sym (ap not (c .before .is-sound .ensures)) ∙ c .if3 .left
+three : (c : tie.Else3) → let s = c .before .before .before .before .before .before .before .before in not (s .args .listed && soundOk (s .args .p) (s .args .s) (now (s .args .a))) ≡ false
+three c =
+    sym (ap (λ (b : Bool). not (c .before .before .before .before .before .before .before .before .args .listed && b)) (c .before .is-sound .ensures)) ∙ c .if3 .left
 
 in-range-requires : tie.Need-in-range-requires
 in-range-requires c κs = search needs
 
 returns : tie.Need-returns
-unfolding standing
+unfolding standingWith
 returns c = cond-yes _ _ _ _ (sym (ap not (c .before .in-range .ensures)) ∙ c .if1 .taken) refl
 
 in-order-requires : tie.Need-in-order-requires
 in-order-requires c κs = search needs
 
 returns-2 : tie.Need-returns-2
-unfolding standing inOrder
+unfolding standingWith inOrder
 returns-2 c = cond-no _ _ _ _ (one (c .before .before)) (cond-yes _ _ _ _ (sym (ap not (c .before .in-order .ensures)) ∙ c .if2 .taken) refl)
 
 is-sound-requires : tie.Need-is-sound-requires
 is-sound-requires c κs = ranged _ (not-false _ (one (c .before .before)))
 
 returns-3 : tie.Need-returns-3
-unfolding standing
-returns-3 c = cond-no _ _ _ _ (one (c .before .before .before .before)) (cond-no _ _ _ _ (two (c .before .before)) (cond-yes _ _ _ _ (sym (ap not (c .before .is-sound .ensures)) ∙ c .if3 .taken) refl))
+unfolding standingWith
+returns-3 c = cond-no _ _ _ _ (one (c .before .before .before .before)) (cond-no _ _ _ _ (two (c .before .before)) (cond-yes _ _ _ _ (sym (ap (λ (b : Bool). not (c .before .before .before .before .before .before .before .args .listed && b)) (c .before .is-sound .ensures)) ∙ c .if3 .taken) refl))
 
 returns-4 : tie.Need-returns-4
-unfolding standing
+unfolding standingWith
 returns-4 c = cond-no _ _ _ _ (one (c .before .before .before .before .before .before .before)) (cond-no _ _ _ _ (two (c .before .before .before .before .before)) (cond-no _ _ _ _ (three (c .before .before .before)) (cond-yes _ _ _ _ (c .if4 .taken) refl)))
 
 returns-5 : tie.Need-returns-5
-unfolding standing
+unfolding standingWith
 returns-5 c = cond-no _ _ _ _ (one (c .before .before .before .before .before .before .before)) (cond-no _ _ _ _ (two (c .before .before .before .before .before)) (cond-no _ _ _ _ (three (c .before .before .before)) (cond-no _ _ _ _ (c .if4 .left) refl)))
 
 pub standing-spec : {M : Type 1} → statement M
