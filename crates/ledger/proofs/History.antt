@@ -14,7 +14,7 @@ use Rattle.ledger.specs.Ledger.{Frame}
 use Rattle.ledger.specs.Tally.{unacked, byteOf, acknowledge, Flown, acknowledgeAll, acknowledgedBy, Outstanding, nothing, outstanding, Tally, Event, feed, queuedIn, queued, sentOut, heard, turn, noneOutstanding, silent, took, reply, went, furthest, start}
 use Rattle.ledger.specs.Queue.{Message, messageBytes, goes, behind, rest, message, count, ofClass, flies, begins, Ascending}
 use Rattle.ledger.specs.Calls.{tally, history}
-use Rattle.ledger.proofs.Queue.{Ready, bytes-append, count-append, of-append, begins-behind, of-enqueue, rest-flies, good-flies, ready-enqueue, order-enqueue, rest-enqueue, count-enqueue}
+use Rattle.ledger.proofs.Queue.{Ready, bytes-append, count-append, of-append, begins-behind, of-enqueue, rest-flies, ready-flies, order-flies, ready-enqueue, order-enqueue, rest-enqueue, count-enqueue}
 
 bytes-unacked : (bs : List ℕ) → map byteOf (unacked bs) ≡ bs
 bytes-unacked bs = map-map byteOf _ bs ∙ map-id bs
@@ -76,13 +76,12 @@ fed (reply r) ms t k = same ms t (heard r t) refl refl refl (bytes-answered r (t
 fed turn ms t k = same ms t (noneOutstanding t) refl refl refl refl k
 fed (went n fs) ms t k =
     let j = furthest fs - length (t .flown) in
-    let g = good-flies j (t .queue) (k .order) in
     let fl = map byteOf (t .flown) in
     let went = take j (goes (t .queue)) in
     rw append-nil
     (record {
-      ready = g .0;
-      order = g .1;
+      ready = ready-flies j (t .queue);
+      order = order-flies j (t .queue) (k .order);
       taken = k .taken;
       each = λ p.
           omega (arith, k .each p, count-append p (t .began) (begins j (t .queue)), ap (count p) (begins-behind j (t .queue)),

@@ -2,21 +2,23 @@
 -- Assumes nothing.
 use Prim.Native.Nat.{ℕ, suc, _+_, _-_, _≤_, _<_}
 use mathlib.Core.Path.{_≡_, refl, sym, ap, ap₂, _∙_}
-use mathlib.Core.Bool.{Bool, true, false}
+use mathlib.Core.Bool.{Bool, true, false, _&&_}
 use mathlib.Core.List.{List, [], _∷_, _++_, append-assoc}
 use native.Mathlib.Omega.{arith}
 use lib.ListN.{length, take, drop, length-append, length-drop, length-map, take-append-drop}
 use lib.Seq.{take-at, drop-at, length-take-le}
-use lib.Dec.{leb, eqb}
-use Rattle.laws.proofs.Picks.{by, by₂}
+use lib.Dec.{leb, ltb, eqb}
+use borrow.Author.Tests.{lt-ltb, ltb-true}
+use Rattle.laws.proofs.Picks.{by, by₂, and-second}
 use Rattle.limits.specs.Limits.{maxMessages}
 use Rattle.ledger.specs.Queue.{Message, Queue, messageBytes, goes, insert, first, behind, enqueue, fliesFrom, flies}
-use Rattle.ledger.proofs.Queue.{goes-flies}
+use Rattle.ledger.proofs.Queue.{Ready, goes-flies, ready-enqueue, ready-flies}
 use Rattle.messages.specs.declared.Messages.{Messages}
 use Rattle.messages.specs.declared.Position.{Position}
-use Rattle.messages.specs.Messages.{Entry, entryOf, entriesIn, storeEntries, total, placeIn, insertRow, Line, flownFrom, flown, storeLine, messagesOf, queueIn, entriesOf, storeQueue}
-use Rattle.messages.specs.Sound.{Sized}
-use Rattle.messages.proofs.Entries.{length-entries, length-insert}
+use Rattle.messages.specs.Messages.{Entry, entryOf, entriesIn, storeEntries, total, begunIn, messagesOf, queueIn, entriesOf, storeQueue}
+use Rattle.messages.specs.MessagesCode.{placeIn, insertRow, Line, flownFrom, flown, storeLine}
+use Rattle.messages.specs.SoundCode.{Sized}
+use Rattle.messages.proofs.Entries.{length-entries, length-insert, entries-kept, with-begun}
 use Rattle.messages.proofs.Placed.{insertEntry, placed, row-placed}
 use Rattle.messages.proofs.Stored.{entries-stored}
 
@@ -106,13 +108,27 @@ length-flies k b (m ∷ ms) =
 
 -- ---- the record and the waiting bytes
 
+length-messages : (es : List Entry) (w : List ℕ) → length (messagesOf es w) ≡ length es
+length-messages [] w = refl
+length-messages (e ∷ es) w = ap suc (length-messages es (drop (e .left) w))
+
+-- A MESSAGE THAT HAS BEGUN IS THERE
+pub ready-shown : (m : Messages) (w : List ℕ) → Ready (queueIn m w)
+unfolding queueIn
+ready-shown m w = λ f. let h = ltb-true 0 (m .n) (and-second (m .begun) _ f) in omega (arith, length-messages (entriesIn m) w, length-entries m 0 (m .n))
+
+begun-some : (b : Bool) (n : ℕ) → (b ≡ true → 1 ≤ n) → (b && ltb 0 n) ≡ b
+begun-some true n r = lt-ltb 0 n (r refl)
+begun-some false n r = refl
+
 -- WHAT IS STORED IS SHOWN
-pub queue-stored : (q : Queue) (m : Messages) → Sized m → length (q .messages) ≤ maxMessages → queueIn (storeQueue q m) (goes q) ≡ q
+pub queue-stored : (q : Queue) (m : Messages) → Sized m → Ready q → length (q .messages) ≤ maxMessages → queueIn (storeQueue q m) (goes q) ≡ q
 unfolding queueIn storeQueue storeEntries
-queue-stored q m s h =
+queue-stored q m s r h =
     let es = entriesOf (q .messages) in
-    ap (λ (ms : List Message). record { begun = q .begun; messages = ms })
-    (ap (λ (xs : List Entry). messagesOf xs (goes q)) (entries-stored m s (q .begun) es (omega (arith, length-map (q .messages) entry))) ∙ messages-entries (q .messages))
+    let n = length-map (q .messages) entry in
+    ap₂ (λ (b : Bool) (ms : List Message). record { begun = b; messages = ms }) (begun-some (q .begun) (length es) (λ f. omega (arith, n, r f)))
+    (ap (λ (xs : List Entry). messagesOf xs (goes q)) (entries-stored m s (q .begun) es (omega (arith, n))) ∙ messages-entries (q .messages))
 
 module _ (m : Messages) (w : List ℕ) (sum : total (entriesIn m) ≡ length w) where
   -- the waiting bytes are the queue's, in its order
@@ -120,9 +136,14 @@ module _ (m : Messages) (w : List ℕ) (sum : total (entriesIn m) ≡ length w) 
   unfolding queueIn
   shown = bytes-messages (entriesIn m) w sum
 
-  pub entries-shown : entriesOf (queueIn m w .messages) ≡ entriesIn m
+  entries-shown : entriesOf (queueIn m w .messages) ≡ entriesIn m
   unfolding queueIn
   entries-shown = entries-messages (entriesIn m) w (omega arith)
+
+  -- what is shown is stored, but for the flag where there is no message
+  pub shown-stores : storeQueue (queueIn m w) m ≡ record { left = m .left; class = m .class; n = m .n; begun = begunIn m }
+  unfolding queueIn storeQueue
+  shown-stores = ap (λ (es : List Entry). storeEntries (begunIn m) es m) entries-shown ∙ entries-kept m (begunIn m)
 
   module _ (c b : ℕ) (bs : List ℕ) where
     abbrev p : Position
@@ -131,34 +152,39 @@ module _ (m : Messages) (w : List ℕ) (sum : total (entriesIn m) ≡ length w) 
     abbrev new : Message
     new = record { class = c; bytes = b ∷ bs }
 
-    same : found new 0 0 (m .begun) (queueIn m w .messages) ≡ p
-    same = ap (placeIn c 0 0 (m .begun)) entries-shown
+    at-begun : p ≡ placeIn c 0 0 (begunIn m) (entriesIn m)
+    unfolding placeIn
+    at-begun = with-begun (placeIn c 0 0) refl m
+
+    same : found new 0 0 (begunIn m) (queueIn m w .messages) ≡ p
+    same = ap (placeIn c 0 0 (begunIn m)) entries-shown ∙ sym at-begun
 
     -- A QUEUING: the bytes go in where `place` says, and `insert` there stores what the ledger's queue then is
     pub goes-place : goes (enqueue c (b ∷ bs) (queueIn m w)) ≡ take (p .bytes) w ++ ((b ∷ bs) ++ drop (p .bytes) w)
     unfolding enqueue queueIn
     goes-place =
-        bytes-goes new (queueIn m w .messages) [] 0 0 (m .begun) refl
+        bytes-goes new (queueIn m w .messages) [] 0 0 (begunIn m) refl
         ∙ ap₂ (λ (x : Position) (v : List ℕ). putBytes (x .bytes) (b ∷ bs) v) same shown
 
     insert-entries : insertRow (p .row) (entry new) (entriesIn m) ≡ entriesOf (enqueue c (b ∷ bs) (queueIn m w) .messages)
     unfolding enqueue queueIn
     insert-entries =
-        row-placed (entry new) (entriesIn m) [] 0 0 (m .begun) refl ∙ ap (placed (entry new) (m .begun)) (sym entries-shown) ∙ sym (entries-placed new (m .begun) (queueIn m w .messages))
+        ap (λ (x : Position). insertRow (x .row) (entry new) (entriesIn m)) at-begun
+        ∙ row-placed (entry new) (entriesIn m) [] 0 0 (begunIn m) refl ∙ ap (placed (entry new) (begunIn m)) (sym entries-shown) ∙ sym (entries-placed new (begunIn m) (queueIn m w .messages))
 
     abbrev inserted : Messages
-    inserted = storeEntries (m .begun) (insertRow (p .row) (entry new) (entriesIn m)) m
+    inserted = storeEntries (begunIn m) (insertRow (p .row) (entry new) (entriesIn m)) m
 
     pub insert-stores : inserted ≡ storeQueue (enqueue c (b ∷ bs) (queueIn m w)) m
     unfolding enqueue queueIn storeQueue
-    insert-stores = ap (λ (es : List Entry). storeEntries (m .begun) es m) insert-entries
+    insert-stores = ap (λ (es : List Entry). storeEntries (begunIn m) es m) insert-entries
 
     pub insert-shows : Sized m → m .n < maxMessages → queueIn inserted (take (p .bytes) w ++ ((b ∷ bs) ++ drop (p .bytes) w)) ≡ enqueue c (b ∷ bs) (queueIn m w)
     insert-shows z room =
         let q = enqueue c (b ∷ bs) (queueIn m w) in
         let few : length (q .messages) ≤ maxMessages =
         omega (arith, length-map (q .messages) entry, ap length insert-entries, length-insert (p .row) (entry new) (entriesIn m), length-entries m 0 (m .n)) in
-        ap₂ queueIn insert-stores (sym goes-place) ∙ queue-stored q m z few
+        ap₂ queueIn insert-stores (sym goes-place) ∙ queue-stored q m z (ready-enqueue c (queueIn m w) (b ∷ bs) (ready-shown m w)) few
 
   -- A BURST: the first k waiting bytes go, and `fly` stores what the ledger's queue then is
   pub goes-fly : (k : ℕ) → goes (flies k (queueIn m w)) ≡ drop k w
@@ -168,12 +194,12 @@ module _ (m : Messages) (w : List ℕ) (sum : total (entriesIn m) ≡ length w) 
   unfolding flown flies queueIn storeQueue
   fly-stores k =
       ap (λ (x : Line). storeLine x m)
-      (ap (flownFrom k (m .begun)) (sym entries-shown) ∙ sym (line-flies k (m .begun) (queueIn m w .messages)))
+      (with-begun (flownFrom k) refl m ∙ ap (flownFrom k (begunIn m)) (sym entries-shown) ∙ sym (line-flies k (begunIn m) (queueIn m w .messages)))
 
   pub fly-shows : Sized m → m .n ≤ maxMessages → (k : ℕ) → queueIn (flown k m) (drop k w) ≡ flies k (queueIn m w)
   unfolding flies queueIn
   fly-shows z most k =
       let q = flies k (queueIn m w) in
       let few : length (q .messages) ≤ maxMessages =
-      omega (arith, length-map (q .messages) entry, length-flies k (m .begun) (queueIn m w .messages), length-map (queueIn m w .messages) entry, ap length entries-shown, length-entries m 0 (m .n)) in
-      ap₂ queueIn (fly-stores k) (sym (goes-fly k)) ∙ queue-stored q m z few
+      omega (arith, length-map (q .messages) entry, length-flies k (begunIn m) (queueIn m w .messages), length-map (queueIn m w .messages) entry, ap length entries-shown, length-entries m 0 (m .n)) in
+      ap₂ queueIn (fly-stores k) (sym (goes-fly k)) ∙ queue-stored q m z (ready-flies k (queueIn m w)) few

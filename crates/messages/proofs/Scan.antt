@@ -10,7 +10,8 @@ use lib.Dec.{leb, ltb, eqb}
 use borrow.Author.Tests.{le-leb, lt-leb, eq-eqb, ne-eqb, ltb-true, ltb-false}
 use Rattle.limits.specs.Limits.{maxClass}
 use Rattle.messages.specs.declared.Messages.{Messages}
-use Rattle.messages.specs.Messages.{Entry, entriesFrom, total, entriesOk, placeIn, goneIn}
+use Rattle.messages.specs.Messages.{Entry, entriesFrom, total, entriesOk}
+use Rattle.messages.specs.MessagesCode.{placeIn, goneIn}
 use Rattle.messages.proofs.Entries.{entries-step, entries-none}
 
 -- the entries from row i on
@@ -26,9 +27,9 @@ module _ (m : Messages) (n i : ℕ) (h : i < n) where
   abbrev c : ℕ
   c = getD (m .class) i 0
 
-  pub ok-turn : (low : ℕ) (b : Bool) → entriesOk low b (rest m n i) ≡ (ltb 0 l && (leb c maxClass && (leb low c && entriesOk (cond b 0 c) false (rest m n (i + 1)))))
+  pub ok-turn : entriesOk (rest m n i) ≡ (ltb 0 l && (leb c maxClass && entriesOk (rest m n (i + 1))))
   unfolding entriesOk
-  ok-turn low b = ap (entriesOk low b) (entries-step m i n h)
+  ok-turn = ap entriesOk (entries-step m i n h)
 
   pub total-turn : total (rest m n i) ≡ l + total (rest m n (i + 1))
   unfolding total
@@ -64,9 +65,9 @@ module _ (m : Messages) (n i : ℕ) (h : i < n) where
 -- ---- the end
 
 module _ (m : Messages) (n i : ℕ) (h : n ≤ i) where
-  pub ok-end : (low : ℕ) (b : Bool) → entriesOk low b (rest m n i) ≡ not b
+  pub ok-end : entriesOk (rest m n i) ≡ true
   unfolding entriesOk
-  ok-end low b = ap (entriesOk low b) (entries-none m i n h)
+  ok-end = ap entriesOk (entries-none m i n h)
 
   pub total-end : total (rest m n i) ≡ 0
   unfolding total

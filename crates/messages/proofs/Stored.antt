@@ -12,7 +12,7 @@ use Rattle.laws.proofs.Bytes.{length-over, over-cat, over-front, set-over}
 use Rattle.limits.specs.Limits.{maxMessages}
 use Rattle.messages.specs.declared.Messages.{Messages}
 use Rattle.messages.specs.Messages.{Entry, entryOf, entriesFrom, entriesIn, lefts, classes, storeEntries}
-use Rattle.messages.specs.Sound.{Sized}
+use Rattle.messages.specs.SoundCode.{Sized}
 
 at-over : (l : List ℕ) (i x : ℕ) (xs : List ℕ) → i < length l → getD (overwrite l i (x ∷ xs)) i 0 ≡ x
 at-over l i x xs h =

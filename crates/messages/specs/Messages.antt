@@ -1,15 +1,13 @@
--- The record's messages as a list of entries, and what the code does with them (document 02, Change 1). Definitions only.
-use Prim.Native.Nat.{ℕ, zero, suc, _+_, _-_}
-use mathlib.Core.Bool.{Bool, true, false, cond, not, _&&_, _||_}
-use mathlib.Core.List.{List, [], _∷_, _++_, map}
+-- The record's messages as a list of entries, and the queue that they show (document 02, Change 1). Definitions only.
+use Prim.Native.Nat.{ℕ, zero, suc, _+_}
+use mathlib.Core.Bool.{Bool, true, false, _&&_}
+use mathlib.Core.List.{List, [], _∷_, map}
 use lib.Dec.{leb, ltb, eqb}
 use lib.ListN.{length, getD, take, drop, replicate}
 use Rattle.laws.specs.Bytes.{overwrite}
 use Rattle.limits.specs.Limits.{maxClass, maxMessages}
 use Rattle.ledger.specs.Queue.{Message, Queue}
 use Rattle.messages.specs.declared.Messages.{Messages}
-use Rattle.messages.specs.declared.Position.{Position}
-use Rattle.messages.specs.declared.Gone.{Gone}
 
 abbrev pub noMessages : Messages
 noMessages = record { left = replicate maxMessages 0; class = replicate maxMessages 0; n = 0; begun = false }
@@ -64,53 +62,6 @@ messagesOk w m = leb (m .n) maxMessages && (entriesOk (entriesIn m) && eqb (tota
 -- whether a message has begun: the first, where there is one
 abbrev pub begunIn : Messages → Bool
 begunIn m = m .begun && ltb 0 (m .n)
-
--- ---- a queuing
-
--- where a message of class c goes: behind the begun one, and behind those of its class and of lower ones
-unfoldable pub placeIn : ℕ → ℕ → ℕ → Bool → List Entry → Position
-placeIn c row bytes b [] = record { row = row; bytes = bytes }
-placeIn c row bytes b (e ∷ es) = cond (b || leb (e .class) c) (placeIn c (row + 1) (bytes + e .left) false es) (record { row = row; bytes = bytes })
-
-abbrev pub insertRow : ℕ → Entry → List Entry → List Entry
-insertRow row e es = take row es ++ (e ∷ drop row es)
-
--- ---- a burst
-
--- k waiting bytes begin to fly: the messages that go whole, the bytes left of the one behind them, and whether it has begun
-unfoldable pub goneIn : ℕ → ℕ → Bool → List Entry → Gone
-goneIn k rows b [] = record { rows = rows; left = 0; begun = false }
-goneIn k rows b (e ∷ es) =
-    cond (eqb k 0) (record { rows = rows; left = e .left; begun = b })
-    (cond (leb (e .left) k) (goneIn (k - e .left) (rows + 1) false es)
-    (record { rows = rows; left = e .left - k; begun = true }))
-
--- the first entry has `left` bytes left
-abbrev pub withLeft : ℕ → List Entry → List Entry
-withLeft left [] = []
-withLeft left (e ∷ es) = entryOf left (e .class) ∷ es
-
-abbrev pub cutTo : ℕ → ℕ → List Entry → List Entry
-cutTo rows left es = withLeft left (drop rows es)
-
--- entries, and whether the first has begun
-pub record Line : Type 0 where
-  pub begun : Bool
-  pub entries : List Entry
-
--- what is left where k waiting bytes begin to fly
-abbrev pub flownFrom : ℕ → Bool → List Entry → Line
-flownFrom k b [] = record { begun = false; entries = [] }
-flownFrom k b (e ∷ es) =
-    cond (eqb k 0) (record { begun = b; entries = e ∷ es })
-    (cond (leb (e .left) k) (flownFrom (k - e .left) false es)
-    (record { begun = true; entries = entryOf (e .left - k) (e .class) ∷ es }))
-
-abbrev pub storeLine : Line → Messages → Messages
-storeLine x m = storeEntries (x .begun) (x .entries) m
-
-unfoldable pub flown : ℕ → Messages → Messages
-flown k m = storeLine (flownFrom k (m .begun) (entriesIn m)) m
 
 -- ---- the queue that a record and the waiting bytes show, and the record that holds a queue
 

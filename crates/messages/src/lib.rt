@@ -4,7 +4,8 @@ use limits::MAX_MESSAGES;
 ghost use mathlib.Core.Path.{_≡_};
 ghost use Prim.Native.Nat.{_≤_, _<_};
 ghost use Rattle.limits.specs.Limits.{maxMessages};
-ghost use Rattle.messages.specs.Messages.{noMessages, begunIn, entryOf, entriesIn, storeEntries, messagesOk, placeIn, insertRow, goneIn, cutTo, flown};
+ghost use Rattle.messages.specs.Messages.{noMessages, begunIn, entryOf, entriesIn, storeEntries, messagesOk};
+ghost use Rattle.messages.specs.MessagesCode.{placeIn, insertRow, goneIn, cutTo, flown};
 
 // n messages, each with its class and the bytes of it that wait. `begun`: bytes of the first have begun to fly; with no message it says nothing.
 #[repr(C)]

@@ -2,9 +2,9 @@
 use denote.Ref.{now}
 use Rattle.laws.specs.Bytes.{overwrite, part}
 use Rattle.laws.proofs.Bytes.{length-over, length-part, part-same, over-cat}
-use Prim.Native.Nat.{ℕ, _+_, _-_, _≤_, _<_}
+use Prim.Native.Nat.{ℕ, _+_, _-_, _≤_}
 use mathlib.Core.Path.{_≡_, sym, ap, ap₂, _∙_}
-use mathlib.Core.List.{List, [], _∷_, _++_}
+use mathlib.Core.List.{List}
 use native.Mathlib.Omega.{arith}
 use lib.ListN.{length, take, replicate, length-replicate}
 use borrow.Author.Needs.{needs}

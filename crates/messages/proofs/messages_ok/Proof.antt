@@ -1,7 +1,7 @@
 -- `messages::messages_ok` meets its contract.
 use Rattle.limits.specs.Limits.{maxClass, maxMessages}
 use lib.Dec.{leb, ltb}
-use mathlib.Core.Bool.{true, false, cond, _&&_}
+use mathlib.Core.Bool.{true, _&&_}
 use Prim.Native.Nat.{_*_}
 use native.Mathlib.Nat.{sub-zero, zero-add, add-zero}
 use borrow.Author.Tests.{lt-ltb, le-ltb, le-leb, lt-leb}
@@ -16,11 +16,11 @@ use Rattle.messages.proofs.messages_ok.Statement.{statement}
 use Rattle.messages.proofs.messages_ok.Tie as tie
 
 abbrev Inv-loop : tie.InvT-loop
-Inv-loop waiting m n begun₀ low₀ sum₀ i₀ begun low sum i =
-    (i ≤ n) × (sum ≤ 65535 * i) × (entriesOk 0 (m .begun) (entriesIn m) ≡ entriesOk low begun (rest m n i)) × (total (entriesIn m) ≡ sum + total (rest m n i))
+Inv-loop waiting m n sum₀ i₀ sum i =
+    (i ≤ n) × (sum ≤ 65535 * i) × (entriesOk (entriesIn m) ≡ entriesOk (rest m n i)) × (total (entriesIn m) ≡ sum + total (rest m n i))
 
 abbrev μ-loop : tie.MeasureT-loop
-μ-loop waiting m n begun₀ low₀ sum₀ i₀ begun low sum i = n - i
+μ-loop waiting m n sum₀ i₀ sum i = n - i
 
 returns : tie.Need-returns Inv-loop μ-loop
 unfolding messagesOk
@@ -30,10 +30,8 @@ returns c = simp (lt-leb _ _ (c .if1 .taken))
 turned : (d : tie.In-loop Inv-loop μ-loop) →
     let a = d .before .before .before .args in
     let i = d .before .loop .i in
-    entriesOk 0 (a .t1 .begun) (entriesIn (a .t1))
-    ≡ (ltb 0 (getD (a .t1 .left) i 0) && (leb (getD (a .t1 .class) i 0) maxClass
-    && (leb (d .before .loop .low) (getD (a .t1 .class) i 0) && entriesOk (cond (d .before .loop .begun) 0 (getD (a .t1 .class) i 0)) false (rest (a .t1) (a .t1 .n) (i + 1)))))
-turned d = let a = d .before .before .before .args in d .before .loop .inv .2 ∙ ok-turn (a .t1) (a .t1 .n) (d .before .loop .i) (d .loop-test .taken) _ _
+    entriesOk (entriesIn (a .t1)) ≡ (ltb 0 (getD (a .t1 .left) i 0) && (leb (getD (a .t1 .class) i 0) maxClass && entriesOk (rest (a .t1) (a .t1 .n) (i + 1))))
+turned d = let a = d .before .before .before .args in d .before .loop .inv .2 ∙ ok-turn (a .t1) (a .t1 .n) (d .before .loop .i) (d .loop-test .taken)
 
 few : (d : tie.At-loop Inv-loop μ-loop) → leb (d .before .before .args .t1 .n) maxMessages ≡ true
 few d = le-leb _ _ (d .before .if1 .left)
@@ -64,16 +62,6 @@ returns-3 c =
     let z : 0 < getD (d .before .before .before .args .t1 .left) (d .before .loop .i) 0 = omega arith in
     simp (few (d .before), turned d, lt-ltb _ _ z, lt-leb _ _ (c .if3 .taken))
 
-returns-4 : tie.Need-returns-4 Inv-loop μ-loop
-unfolding messagesOk
-returns-4 c =
-    let d = c .before .before .before .before .before in
-    let z : 0 < getD (d .before .before .before .args .t1 .left) (d .before .loop .i) 0 = omega arith in
-    simp (few (d .before), turned d, lt-ltb _ _ z, le-leb _ _ (c .before .if3 .left), lt-leb _ _ (c .if4 .taken))
-
-lowest-requires : tie.Need-lowest-requires Inv-loop μ-loop
-lowest-requires c κs = search needs
-
 wide-requires : tie.Need-wide-requires Inv-loop μ-loop
 wide-requires c κs = search needs
 
@@ -88,31 +76,24 @@ loop-less c = search needs
 
 loop-again : tie.Need-loop-again Inv-loop μ-loop
 loop-again c =
-    let e = c .before .before in
-    let d = e .before .before .before .before .before in
+    let e = c .before in
+    let d = e .before .before .before .before in
     let a = d .before .before .before .args in
     let i = d .before .loop .i in
     let z : 0 < getD (a .t1 .left) i 0 = omega arith in (
       omega arith,
       omega (arith, c .wide .ensures),
-      turned d ∙ simp (lt-ltb _ _ z, le-leb _ _ (e .before .if3 .left), le-leb _ _ (e .if4 .left), c .before .lowest .ensures),
+      turned d ∙ simp (lt-ltb _ _ z, le-leb _ _ (e .if3 .left)),
       omega (arith, c .wide .ensures, d .before .loop .inv .3, total-turn (a .t1) (a .t1 .n) i (d .loop-test .taken)),
     )
 
-returns-5 : tie.Need-returns-5 Inv-loop μ-loop
+returns-4 : tie.Need-returns-4 Inv-loop μ-loop
 unfolding messagesOk
-returns-5 c =
-    let p = c .before .before in
+returns-4 c =
+    let p = c .before in
     let a = p .before .before .args in
-    simp (few p, p .loop .inv .2, ok-end (a .t1) (a .t1 .n) (p .loop .i) (c .before .loop-test .left), c .if5 .taken)
-
-returns-6 : tie.Need-returns-6 Inv-loop μ-loop
-unfolding messagesOk
-returns-6 c =
-    let p = c .before .before in
-    let a = p .before .before .args in
-    let end = c .before .loop-test .left in
-    simp (few p, p .loop .inv .2, p .loop .inv .3, ok-end (a .t1) (a .t1 .n) (p .loop .i) end, total-end (a .t1) (a .t1 .n) (p .loop .i) end, add-zero, c .if5 .left)
+    let end = c .loop-test .left in
+    simp (few p, p .loop .inv .2, p .loop .inv .3, ok-end (a .t1) (a .t1 .n) (p .loop .i) end, total-end (a .t1) (a .t1 .n) (p .loop .i) end, add-zero)
 
 pub messages-ok-spec : {M : Type 1} → statement M
 messages-ok-spec =
@@ -127,12 +108,9 @@ messages-ok-spec =
     element-copy-out-c
     returns-2
     returns-3
-    returns-4
-    lowest-requires
     wide-requires
     add-sum
     add-i
     loop-less
     loop-again
-    returns-5
-    returns-6)
+    returns-4)
