@@ -1,5 +1,5 @@
 -- What a station's record and work area show, and what a queuing leaves of them (document 02, Change 1). Definitions only.
-use mathlib.Core.List.{List}
+use mathlib.Core.List.{List, [], _∷_}
 use Prim.Native.Nat.{ℕ}
 use Rattle.ledger.specs.Station as L
 use Rattle.ledger.specs.Station.{takeIn}
@@ -23,6 +23,7 @@ viewStation t a = record { sender = view (t .sender) a; queue = queueIn (t .mess
 unfoldable pub storeStation : L.Station → Station → Station
 storeStation l t = record { sender = store (l .sender) (t .sender); messages = storeQueue (l .queue) (t .messages) }
 
--- record and work area after bytes of class c are queued
+-- record and work area after bytes of class c are queued; "a queuing of no bytes makes no message": then both stay as they are
 unfoldable pub queuedIn : ℕ → List ℕ → Station → List ℕ → Station × List ℕ
-queuedIn c bytes t a = let after = takeIn c bytes (viewStation t a) in (storeStation after t, storeArea (after .sender) a)
+queuedIn c [] t a = (t, a)
+queuedIn c (b ∷ bs) t a = let after = takeIn c (b ∷ bs) (viewStation t a) in (storeStation after t, storeArea (after .sender) a)
