@@ -96,29 +96,41 @@ module _ (p : Profile) (t : Station) (a : List ℕ) where
         (11, ltb maxClass class) ∷ (8, ltb maxWaiting (counts .waiting + n)) ∷ (9, ltb maxTaken (counts .«next_offset» + counts .waiting + n))
         ∷ (12, ltb 0 n && ltb maxMessages (t .messages .n + 1)) ∷ []
 
-    last : Verdict
+    abbrev last : Verdict
     last = cond (ltb 0 n && leb maxMessages (t .messages .n)) TooManyMessages Accepted
+
+    abbrev fullOr : Verdict → Verdict
+    fullOr v =
+        let q = queueRefusal (counts .waiting) (counts .«next_offset» + counts .waiting) n in
+        cond (eqb q 8) QueueFull (cond (eqb q 9) AllTaken v)
 
     last-first : First ((12, ltb 0 n && ltb maxMessages (t .messages .n + 1)) ∷ []) (numberOf last)
     last-first =
         subst (λ (b : Bool). First ((12, ltb 0 n && b) ∷ []) (numberOf last)) (one-more (t .messages .n))
         (tested 12 (ltb 0 n && leb maxMessages (t .messages .n)) TooManyMessages Accepted [] refl refl)
 
-    room-first : (class : ℕ) → First (roomReasons class) (numberOf (roomVerdict counts (t .messages .n) class n))
-    unfolding roomVerdict
-    room-first class =
+    -- 8 and 9, and 12 behind them
+    full-first : First ((8, ltb maxWaiting (counts .waiting + n)) ∷ (9, ltb maxTaken (counts .«next_offset» + counts .waiting + n))
+        ∷ (12, ltb 0 n && ltb maxMessages (t .messages .n + 1)) ∷ []) (numberOf (fullOr last))
+    full-first =
         let w = counts .waiting in
         let k = counts .«next_offset» + counts .waiting in
         let said : ℕ → Verdict = λ (q : ℕ). cond (eqb q 8) QueueFull (cond (eqb q 9) AllTaken last) in
-        tested 11 (ltb maxClass class) BadClass (said (queueRefusal w k n)) _ refl
-        (test (ltb maxWaiting (w + n))
+        test (ltb maxWaiting (w + n))
         (λ x. inl (x, ap (λ (q : ℕ). numberOf (said q)) (full w k n (ltb-true _ _ x))))
         (λ x. inr (
           x,
           test (ltb maxTaken (k + n))
               (λ y. inl (y, ap (λ (q : ℕ). numberOf (said q)) (over w k n (ltb-false _ _ x) (ltb-true _ _ y))))
-              (λ y. inr (y, subst (First _) (sym (ap (λ (q : ℕ). numberOf (said q)) (room w k n (ltb-false _ _ x) (ltb-false _ _ y)))) last-first)),
-        )))
+              (λ y. inr (y, subst (First ((12, ltb 0 n && ltb maxMessages (t .messages .n + 1)) ∷ [])) (sym (ap (λ (q : ℕ). numberOf (said q)) (room w k n (ltb-false _ _ x) (ltb-false _ _ y)))) last-first)),
+        ))
+
+    room-first : (class : ℕ) → First (roomReasons class) (numberOf (roomVerdict counts (t .messages .n) class n))
+    unfolding roomVerdict
+    room-first class =
+        tested 11 (ltb maxClass class) BadClass (fullOr last)
+        ((8, ltb maxWaiting (counts .waiting + n)) ∷ (9, ltb maxTaken (counts .«next_offset» + counts .waiting + n))
+        ∷ (12, ltb 0 n && ltb maxMessages (t .messages .n + 1)) ∷ []) refl full-first
 
     pub queue-first : (class : ℕ) → First (queueReasons p t a class n) (numberOf (queueVerdict p t a class n))
     unfolding queueVerdict

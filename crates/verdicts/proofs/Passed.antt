@@ -118,12 +118,12 @@ module _ (p : Profile) (t : Station) (a : List ℕ) where
       (λ y. room w k n (ltb-false _ _ x) (ltb-false _ _ y))),
       λ o. leb-false maxMessages (t .messages .n) (sym (ap (λ (b : Bool). b && leb maxMessages (t .messages .n)) (le-leb 1 n o)) ∙ h₃ .0))
 
-  pub record Queues (class n : ℕ) : Type 0 where
+  pub record Queues (k n : ℕ) : Type 0 where
     pub one : inRange p ≡ true
     pub two : inOrder p ≡ true
     pub sound : soundOk p s a ≡ true
     pub listed : Listed
-    pub class : class ≤ maxClass
+    pub class : k ≤ maxClass
     pub room : queueRefusal (s .counts .waiting) (s .counts .«next_offset» + s .counts .waiting) n ≡ 0
     pub row : 1 ≤ n → t .messages .n < maxMessages
 

@@ -42,7 +42,7 @@ is-sound-requires c κs = ranged _ (not-false _ (one (c .before .before)))
 
 returns-3 : tie.Need-returns-3
 unfolding standingWith
-returns-3 c = cond-no _ _ _ _ (one (c .before .before .before .before)) (cond-no _ _ _ _ (two (c .before .before)) (cond-yes _ _ _ _ (sym (ap (λ (b : Bool). not (c .before .before .before .before .before .before .before .args .listed && b)) (c .before .is-sound .ensures)) ∙ c .if3 .taken) refl))
+returns-3 c = cond-no _ _ _ _ (one (c .before .before .before .before)) (cond-no _ _ _ _ (two (c .before .before)) (cond-yes _ _ _ _ (sym (ap (λ (b : Bool). not (c .before .before .before .before .before .before .before .before .args .listed && b)) (c .before .is-sound .ensures)) ∙ c .if3 .taken) refl))
 
 returns-4 : tie.Need-returns-4
 unfolding standingWith
