@@ -1,6 +1,6 @@
 -- A queuing is one insertion among the waiting bytes and one among the messages, and the ledger's.
 -- Assumes nothing.
-use mathlib.Core.Path.{_≡_, refl, sym, ap, ap₂, _∙_}
+use mathlib.Core.Path.{_≡_, refl, sym, ap, ap₂, subst, _∙_}
 use mathlib.Core.List.{List, [], _∷_, _++_, append-assoc}
 use Prim.Native.Nat.{ℕ, _+_, _-_, _≤_}
 use native.Mathlib.Nat.{zero-add}
@@ -9,6 +9,7 @@ use lib.ListN.{length, take, drop, length-append}
 use lib.Seq.{take-add, take-at, drop-at}
 use Rattle.laws.specs.Bytes.{overwrite, part, Bytes}
 use Rattle.laws.proofs.Bytes.{over-keep, over-comm, length-part, part-add}
+use Rattle.limits.specs.Limits.{maxClass}
 use Rattle.ledger.specs.Ledger.{bytesOf, requeue}
 use Rattle.ledger.specs.Station.{takeIn}
 use Rattle.area.specs.Layout.{place, streamBytes}
@@ -24,15 +25,19 @@ use Rattle.record.specs.declared.LastBurst.{LastBurst}
 use Rattle.record.specs.declared.Link.{Link}
 use Rattle.record.specs.declared.Sender.{Sender}
 use Rattle.record.proofs.View.{Arrays, Counted, bytes-pieces, rows-pieces, counts-kept, held-kept, sent-kept}
-use Rattle.messages.specs.Messages.{entryOf, entriesIn, storeEntries, begunIn, total}
+use Rattle.messages.specs.Messages.{entryOf, entriesIn, storeEntries, begunIn}
 use Rattle.messages.specs.MessagesCode.{placeIn, insertRow}
+use Rattle.messages.specs.SoundCode.{SoundMessages, Sized}
 use Rattle.messages.specs.declared.Messages.{Messages}
 use Rattle.messages.specs.declared.Position.{Position}
 use Rattle.messages.proofs.Placed.{place-within}
+use Rattle.messages.proofs.Kept.{insert-sound}
+use Rattle.messages.proofs.Stored.{sized-stored}
 use Rattle.messages.proofs.Link.{goes-place, insert-stores}
 use Rattle.queuing.specs.Station.{viewStation, storeStation, queuedIn}
 use Rattle.queuing.specs.StationCode.{Fit}
 use Rattle.queuing.specs.declared.Station.{Station}
+use Rattle.queuing.proofs.Shown.{waiting-sum}
 
 abbrev pub queuedTo : Sender → ℕ → Sender
 queuedTo s n = withCounts s (withWaiting (s .counts) n)
@@ -146,8 +151,8 @@ module _ (t : Station) (a : List ℕ) (ar : Arrays (t .sender)) (by : Bytes a) (
   unfolding queuedIn takeIn viewStation storeStation view
   queued-more b bs f =
       let k = fit-counted t a (length (b ∷ bs)) f in
-      let wl = part a (s .counts .flying) (s .counts .waiting) in
-      let sum : total (entriesIn m) ≡ length wl = f .messages .sum ∙ sym (length-part a (s .counts .flying) (s .counts .waiting) (omega (arith, k .stream, k .area))) in
+      let wl = view s a .waiting in
+      let sum = waiting-sum t a k (f .messages) in
       let low = place-within m (s .counts .waiting) c (f .messages) .1 in
       let same = goes-place m wl sum c b bs in
       let e₁ = ap (λ (v : List ℕ). store (requeue v (view s a)) s) same ∙ put-record s a k by (b ∷ bs) (at .bytes) low ar in
@@ -163,3 +168,15 @@ module _ (t : Station) (a : List ℕ) (ar : Arrays (t .sender)) (by : Bytes a) (
       ≡ queuedIn c bs t a
   queued-some [] h f = absurd (omega arith)
   queued-some (b ∷ bs) h f = queued-more b bs f
+
+  -- A QUEUING KEEPS THE CLAUSES ABOUT MESSAGES
+  pub queued-keeps : (bs : List ℕ) → Fit t a (length bs) → c ≤ maxClass → Sized m →
+      let r = queuedIn c bs t a .0 in SoundMessages (r .messages) (r .sender .counts .waiting) × Sized (r .messages)
+  unfolding queuedIn
+  queued-keeps [] f h z = (f .messages, z)
+  queued-keeps (b ∷ bs) f h z =
+      let n = length (b ∷ bs) in
+      subst (λ (x : Station × List ℕ). SoundMessages (x .0 .messages) (x .0 .sender .counts .waiting) × Sized (x .0 .messages)) (queued-more b bs f) (
+        insert-sound m (s .counts .waiting) n c z (f .messages) (f .row (omega arith)) (omega arith) h (begunIn m) (at .row),
+        sized-stored m z (begunIn m) (insertRow (at .row) (entryOf n c) (entriesIn m)),
+      )
