@@ -18,7 +18,7 @@ use Rattle.messages.specs.declared.Position.{Position}
 use Rattle.messages.specs.Messages.{Entry, entryOf, entriesIn, storeEntries, total, begunIn, messagesOf, queueIn, entriesOf, storeQueue}
 use Rattle.messages.specs.MessagesCode.{placeIn, insertRow, Line, flownFrom, flown, storeLine}
 use Rattle.messages.specs.SoundCode.{Sized}
-use Rattle.messages.proofs.Entries.{length-entries, length-insert, entries-kept, with-begun}
+use Rattle.messages.proofs.Entries.{length-entries, length-insert, with-begun}
 use Rattle.messages.proofs.Placed.{insertEntry, placed, row-placed}
 use Rattle.messages.proofs.Stored.{entries-stored}
 
@@ -140,11 +140,6 @@ module _ (m : Messages) (w : List ℕ) (sum : total (entriesIn m) ≡ length w) 
   unfolding queueIn
   entries-shown = entries-messages (entriesIn m) w (omega arith)
 
-  -- what is shown is stored, but for the flag where there is no message
-  pub shown-stores : storeQueue (queueIn m w) m ≡ record { left = m .left; class = m .class; n = m .n; begun = begunIn m }
-  unfolding queueIn storeQueue
-  shown-stores = ap (λ (es : List Entry). storeEntries (begunIn m) es m) entries-shown ∙ entries-kept m (begunIn m)
-
   module _ (c b : ℕ) (bs : List ℕ) where
     abbrev p : Position
     p = placeIn c 0 0 (m .begun) (entriesIn m)
@@ -179,12 +174,15 @@ module _ (m : Messages) (w : List ℕ) (sum : total (entriesIn m) ≡ length w) 
     unfolding enqueue queueIn storeQueue
     insert-stores = ap (λ (es : List Entry). storeEntries (begunIn m) es m) insert-entries
 
+    pub insert-few : m .n < maxMessages → length (enqueue c (b ∷ bs) (queueIn m w) .messages) ≤ maxMessages
+    insert-few room =
+        let q = enqueue c (b ∷ bs) (queueIn m w) in
+        omega (arith, length-map (q .messages) entry, ap length insert-entries, length-insert (p .row) (entry new) (entriesIn m), length-entries m 0 (m .n))
+
     pub insert-shows : Sized m → m .n < maxMessages → queueIn inserted (take (p .bytes) w ++ ((b ∷ bs) ++ drop (p .bytes) w)) ≡ enqueue c (b ∷ bs) (queueIn m w)
     insert-shows z room =
-        let q = enqueue c (b ∷ bs) (queueIn m w) in
-        let few : length (q .messages) ≤ maxMessages =
-        omega (arith, length-map (q .messages) entry, ap length insert-entries, length-insert (p .row) (entry new) (entriesIn m), length-entries m 0 (m .n)) in
-        ap₂ queueIn insert-stores (sym goes-place) ∙ queue-stored q m z (ready-enqueue c (queueIn m w) (b ∷ bs) (ready-shown m w)) few
+        ap₂ queueIn insert-stores (sym goes-place)
+        ∙ queue-stored (enqueue c (b ∷ bs) (queueIn m w)) m z (ready-enqueue c (queueIn m w) (b ∷ bs) (ready-shown m w)) (insert-few room)
 
   -- A BURST: the first k waiting bytes go, and `fly` stores what the ledger's queue then is
   pub goes-fly : (k : ℕ) → goes (flies k (queueIn m w)) ≡ drop k w

@@ -1,18 +1,21 @@
 -- A new entry at the row that `place` finds stands in the order of going.
 -- Assumes nothing.
-use Prim.Native.Nat.{ℕ, _+_}
+use Prim.Native.Nat.{ℕ, suc, _+_, _≤_}
 use mathlib.Core.Path.{_≡_, sym, ap, ap₂, _∙_}
-use mathlib.Core.Bool.{Bool, true, false, cond}
+use mathlib.Core.Bool.{Bool, true, false, cond, _||_}
 use mathlib.Core.List.{List, [], _∷_, _++_, append-assoc}
 use native.Mathlib.Omega.{arith}
 use lib.ListN.{length, length-append}
 use lib.Seq.{take-at, drop-at}
 use lib.Dec.{leb}
-use Rattle.laws.proofs.Picks.{by₂}
+use Rattle.laws.proofs.Picks.{by, by₂}
 use Rattle.ledger.specs.Queue.{first, behind}
+use Rattle.messages.specs.declared.Messages.{Messages}
 use Rattle.messages.specs.declared.Position.{Position}
-use Rattle.messages.specs.Messages.{Entry}
+use Rattle.messages.specs.Messages.{Entry, entriesIn, total}
 use Rattle.messages.specs.MessagesCode.{placeIn, insertRow}
+use Rattle.messages.specs.SoundCode.{SoundMessages}
+use Rattle.messages.proofs.Entries.{length-entries}
 
 -- `insert` of the ledger's queue, on entries
 abbrev pub insertEntry : Entry → List Entry → List Entry
@@ -41,3 +44,15 @@ row-placed e (x ∷ es) pre r y false h =
     by₂ (λ (p : Position) (xs : List Entry). insertRow (p .row) e (pre ++ (x ∷ es)) ≡ pre ++ xs) (leb (x .class) (e .class))
     (λ _. put-past e x es pre (past e x es r y .row) (row-placed e es (pre ++ (x ∷ [])) (r + 1) (y + x .left) false (omega (arith, length-append pre (x ∷ []), h))))
     (λ _. put-at pre (x ∷ es) r e h)
+
+-- ---- within the messages
+
+within : (c r y : ℕ) (b : Bool) (es : List Entry) → (placeIn c r y b es .row ≤ r + length es) × (placeIn c r y b es .bytes ≤ y + total es)
+unfolding placeIn total
+within c r y b [] = (omega arith, omega arith)
+within c r y b (e ∷ es) =
+    by (λ (p : Position). (p .row ≤ r + suc (length es)) × (p .bytes ≤ y + (e .left + total es))) (b || leb (e .class) c)
+    (λ _. let i = within c (r + 1) (y + e .left) false es in (omega (arith, i .0), omega (arith, i .1))) (λ _. (omega arith, omega arith))
+
+pub place-within : (m : Messages) (w c : ℕ) → SoundMessages m w → (placeIn c 0 0 (m .begun) (entriesIn m) .row ≤ m .n) × (placeIn c 0 0 (m .begun) (entriesIn m) .bytes ≤ w)
+place-within m w c s = let i = within c 0 0 (m .begun) (entriesIn m) in (omega (arith, i .0, length-entries m 0 (m .n)), omega (arith, i .1, s .sum))

@@ -1,4 +1,4 @@
--- What a queuing needs of record and work area: follows the code or serves proofs; nothing here has to be believed.
+-- What a queuing needs of record and work area: what follows the code or serves proofs; nothing here has to be believed.
 use mathlib.Core.Path.{_≡_}
 use mathlib.Core.List.{List}
 use Prim.Native.Nat.{ℕ, _+_, _≤_, _<_}
@@ -6,7 +6,7 @@ use lib.ListN.{length}
 use Rattle.limits.specs.Limits.{maxMessages, maxWaiting, maxSlots, maxPieces}
 use Rattle.area.specs.Layout.{areaBytes, streamBytes}
 use Rattle.area.specs.Table.{rowsFrom, total}
-use Rattle.messages.specs.Sound.{SoundMessages}
+use Rattle.messages.specs.SoundCode.{SoundMessages}
 use Rattle.queuing.specs.declared.Station.{Station}
 
 -- the counts that place the bytes, the clauses about messages, and room for n bytes more as one message

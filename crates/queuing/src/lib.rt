@@ -5,10 +5,7 @@ use messages::insert;
 use messages::place;
 use record::Sender;
 ghost use mathlib.Core.Path.{_≡_};
-ghost use Prim.Native.Nat.{_+_, _≤_, _<_};
 ghost use lib.ListN.{length};
-ghost use Rattle.limits.specs.Limits.{maxMessages, maxWaiting};
-ghost use Rattle.record.specs.View.{store, storeArea};
 ghost use Rattle.queuing.specs.Station.{freshStation, queuedIn};
 ghost use Rattle.queuing.specs.StationCode.{Fit};
 
@@ -37,12 +34,16 @@ pub fn enqueue(t: Station, a: &mut [u8], class: u8, bytes: &[u8]) -> Station
         return t;
     }
     let c = t.sender.counts;
-    let at = place(t.messages, class);
+    let m = t.messages;
+    let at = place(m, class);
     let first = c.flying as usize;
     let end = first + c.waiting as usize;
-    insert_in(a, first + at.bytes, end, bytes);
+    let from = first + at.bytes;
+    insert_in(a, from, end, bytes);
+    let after = insert(m, at.row, n as u16, class);
+    let w = c.waiting + n as u32;
     let mut next = t;
-    next.messages = insert(t.messages, at.row, n as u16, class);
-    next.sender.counts.waiting = c.waiting + n as u32;
+    next.messages = after;
+    next.sender.counts.waiting = w;
     next
 }
