@@ -3,7 +3,7 @@
 use mathlib.Core.Path.{_≡_, refl, sym, ap, ap₂, _∙_}
 use mathlib.Core.List.{List}
 use mathlib.Core.Bool.{true, false}
-use Prim.Native.Nat.{ℕ, _-_}
+use Prim.Native.Nat.{ℕ, _-_, _≤_}
 use native.Mathlib.Omega.{arith}
 use lib.ListN.{length}
 use Rattle.laws.proofs.Picks.{cond-yes, cond-no}
@@ -22,7 +22,8 @@ use Rattle.messages.proofs.Link.{fly-stores}
 use Rattle.messages.proofs.Kept.{ok-sound}
 use Rattle.queuing.specs.Station.{viewStation}
 use Rattle.queuing.specs.declared.Station.{Station}
-use Rattle.record.specs.View.{view}
+use Rattle.ledger.specs.Ledger.{dataBurst}
+use Rattle.record.specs.View.{view, store, storeCounts}
 use Rattle.record.proofs.View.{Arrays}
 use Rattle.laws.proofs.Bytes.{length-part}
 use Rattle.soundness.proofs.fields.Sound.{test-sound, sound-counted}
@@ -31,6 +32,11 @@ use Rattle.sender.specs.Calls.{noBurst, messagesAfter, burstCall}
 
 abbrev bursted : Verdict → Outgoing → Station → List ℕ × List ℕ → Bursted × (List ℕ × List ℕ)
 bursted v o t x = (record { verdict = v; outgoing = o; next = t }, x)
+
+-- the next offset passes over the bytes that begin to fly
+pub next-grows : (p : Profile) (s : Sender) (a out : List ℕ) → s .counts .«next_offset» ≤ burstOf p s a out .0 .1 .counts .«next_offset»
+unfolding burstOf store storeCounts dataBurst view
+next-grows p s a out = omega arith
 
 module _ (p : Profile) (t : Station) (a out : List ℕ) where
   pub burst-refused : (v : Verdict) (o : Outgoing) → v ≡ burstVerdict p t a (length out) → o ≡ noBurst → passed (burstVerdict p t a (length out)) ≡ false

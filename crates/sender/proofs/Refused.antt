@@ -168,7 +168,7 @@ module _ (p : Profile) (t : Station) (a : List ℕ) (ar : Arrays (t .sender)) wh
 
   -- an accepted queuing
   queued-past : (class : ℕ) (bs : List ℕ) → passed (queueVerdict p t a class (length bs)) ≡ true → drop areaBytes (queuedIn class bs t a .1) ≡ drop areaBytes a
-  unfolding queuedIn takeIn viewStation
+  unfolding queuedIn takeIn viewStation view
   queued-past class [] e = refl
   queued-past class (b ∷ bs) e =
       let q = queue-passed p t a class (length (b ∷ bs)) e in

@@ -49,10 +49,9 @@ pub fn queue(p: Profile, t: Station, a: &mut [u8], class: u8, bytes: &[u8]) -> A
     ensures { λ r. ⌜ (r, now (a .exit)) ≡ queueOf p t (now (a .entry)) class (now (bytes .entry)) ⌝ }
 {
     let n = bytes.len();
-    let s = t.sender;
-    let c = s.counts;
-    let m = t.messages;
-    let v = queue_verdict(standing(p, t, a, false), c, m.n, class, n);
+    let c = t.sender.counts;
+    let m = t.messages.n;
+    let v = queue_verdict(standing(p, t, a, false), c, m, class, n);
     if number(v) != 0 {
         return Answer {
             verdict: v,
@@ -68,8 +67,7 @@ pub fn sender_rx(p: Profile, t: Station, a: &mut [u8], h: Heard, r: Reply, paylo
     ensures { λ q. ⌜ (q, now (a .exit)) ≡ receiveOf p t (now (a .entry)) h r (now (payload .entry)) ⌝ }
 {
     let n = payload.len();
-    let s = t.sender;
-    let last = s.link.last_time;
+    let last = t.sender.link.last_time;
     let v = receive_verdict(standing(p, t, a, kind(r) == 0), last, h, r, n);
     if number(v) != 0 {
         return Answer {
@@ -77,7 +75,7 @@ pub fn sender_rx(p: Profile, t: Station, a: &mut [u8], h: Heard, r: Reply, paylo
             next: t,
         };
     }
-    let sender = answer(p, s, a, h, r, payload);
+    let sender = answer(p, t.sender, a, h, r, payload);
     let messages = t.messages;
     Answer {
         verdict: v,
@@ -89,7 +87,6 @@ pub fn sender_rx(p: Profile, t: Station, a: &mut [u8], h: Heard, r: Reply, paylo
 pub fn find(p: Profile, t: Station, a: &[u8], off: u32) -> Finding
     ensures { λ r. ⌜ r ≡ findOf p t (now (a .entry)) off ⌝ }
 {
-    let s = t.sender;
     let v = standing(p, t, a, false);
     let nowhere = Found {
         here: false,
@@ -102,7 +99,7 @@ pub fn find(p: Profile, t: Station, a: &[u8], off: u32) -> Finding
             found: nowhere,
         };
     }
-    let n = s.counts.pieces;
+    let n = t.sender.counts.pieces;
     let found = area::lookup::find(a, n, off);
     Finding { verdict: v, found }
 }
@@ -111,12 +108,11 @@ pub fn find(p: Profile, t: Station, a: &[u8], off: u32) -> Finding
 pub fn piece(p: Profile, t: Station, a: &[u8], off: u32) -> &[u8]
     ensures { λ b. ⌜ now b ≡ pieceOf p t (now (a .entry)) off ⌝ }
 {
-    let s = t.sender;
     let v = standing(p, t, a, false);
     if number(v) != 0 {
         return &a[..0];
     }
-    let n = s.counts.pieces;
+    let n = t.sender.counts.pieces;
     area::lookup::piece(a, n, off)
 }
 
@@ -146,7 +142,6 @@ pub fn data_burst(p: Profile, t: Station, a: &mut [u8], out: &mut [u8]) -> Burst
     ensures { λ r. ⌜ (r, (now (a .exit), now (out .exit))) ≡ burstCall p t (now (a .entry)) (now (out .entry)) ⌝ }
 {
     let n = out.len();
-    let s = t.sender;
     let v = burst_verdict(standing(p, t, a, false), p.long_bytes, n);
     if number(v) != 0 {
         let outgoing = no_burst();
@@ -156,10 +151,11 @@ pub fn data_burst(p: Profile, t: Station, a: &mut [u8], out: &mut [u8]) -> Burst
             next: t,
         };
     }
-    let b = data_burst::burst::data_burst(p, s, a, out);
+    let b = data_burst::burst::data_burst(p, t.sender, a, out);
+    let k = b.next.counts.next_offset - t.sender.counts.next_offset;
+    let messages = fly(t.messages, k);
     let outgoing = b.outgoing;
     let sender = b.next;
-    let messages = fly(t.messages, sender.counts.next_offset - s.counts.next_offset);
     Bursted {
         verdict: v,
         outgoing,
