@@ -29,8 +29,7 @@ use Rattle.ledger.specs.Tally as T
 use Rattle.ledger.specs.Tally.{Tally, Event, byteOf, inFlight, acknowledged, waits, feed}
 use Rattle.area.specs.Layout.{areaBytes}
 use Rattle.outgoing.specs.declared.Outgoing.{Outgoing}
-use Rattle.verdicts.specs.Verdicts.{passed}
-use Rattle.verdicts.specs.Reasons.{stationOk}
+use Rattle.verdicts.specs.Verdicts.{passed, stationOk}
 use Rattle.sender.specs.Calls.{burstCall}
 use Rattle.demand.specs.Lists.{Call, bursts, State, Given, freshStart, shown, framesAnswered, next, told}
 

@@ -10,8 +10,7 @@ use Rattle.ledger.specs.ClaimCode.{LedgerClaim}
 use Rattle.ledger.specs.Sizes.{Sizes}
 use Rattle.record.specs.Profiles.{sizesOf}
 use Rattle.area.specs.Layout.{areaBytes}
-use Rattle.verdicts.specs.Verdicts.{passed}
-use Rattle.verdicts.specs.Reasons.{stationOk}
+use Rattle.verdicts.specs.Verdicts.{passed, stationOk}
 use Rattle.sender.specs.Calls.{burstCall}
 use Rattle.demand.specs.Lists.{Call, shown, next, told}
 use Rattle.demand.specs.Page.{messages, c, s, t, Sends}

@@ -6,7 +6,6 @@ use outgoing::Frames;
 use outgoing::Outgoing;
 use receive::accepted::answer;
 use messages::fly;
-use messages::messages_ok;
 use queuing::Station;
 use queuing::enqueue;
 use refusals::Reply;
@@ -53,8 +52,7 @@ pub fn queue(p: Profile, t: Station, a: &mut [u8], class: u8, bytes: &[u8]) -> A
     let s = t.sender;
     let c = s.counts;
     let m = t.messages;
-    let listed = messages_ok(m, c.waiting);
-    let v = queue_verdict(standing(p, s, a, listed, false), c, m.n, class, n);
+    let v = queue_verdict(standing(p, t, a, false), c, m.n, class, n);
     if number(v) != 0 {
         return Answer {
             verdict: v,
@@ -72,8 +70,7 @@ pub fn sender_rx(p: Profile, t: Station, a: &mut [u8], h: Heard, r: Reply, paylo
     let n = payload.len();
     let s = t.sender;
     let last = s.link.last_time;
-    let listed = messages_ok(t.messages, s.counts.waiting);
-    let v = receive_verdict(standing(p, s, a, listed, kind(r) == 0), last, h, r, n);
+    let v = receive_verdict(standing(p, t, a, kind(r) == 0), last, h, r, n);
     if number(v) != 0 {
         return Answer {
             verdict: v,
@@ -93,8 +90,7 @@ pub fn find(p: Profile, t: Station, a: &[u8], off: u32) -> Finding
     ensures { λ r. ⌜ r ≡ findOf p t (now (a .entry)) off ⌝ }
 {
     let s = t.sender;
-    let listed = messages_ok(t.messages, s.counts.waiting);
-    let v = standing(p, s, a, listed, false);
+    let v = standing(p, t, a, false);
     let nowhere = Found {
         here: false,
         start: 0,
@@ -116,8 +112,7 @@ pub fn piece(p: Profile, t: Station, a: &[u8], off: u32) -> &[u8]
     ensures { λ b. ⌜ now b ≡ pieceOf p t (now (a .entry)) off ⌝ }
 {
     let s = t.sender;
-    let listed = messages_ok(t.messages, s.counts.waiting);
-    let v = standing(p, s, a, listed, false);
+    let v = standing(p, t, a, false);
     if number(v) != 0 {
         return &a[..0];
     }
@@ -152,8 +147,7 @@ pub fn data_burst(p: Profile, t: Station, a: &mut [u8], out: &mut [u8]) -> Burst
 {
     let n = out.len();
     let s = t.sender;
-    let listed = messages_ok(t.messages, s.counts.waiting);
-    let v = burst_verdict(standing(p, s, a, listed, false), p.long_bytes, n);
+    let v = burst_verdict(standing(p, t, a, false), p.long_bytes, n);
     if number(v) != 0 {
         let outgoing = no_burst();
         return Bursted {

@@ -20,8 +20,8 @@ use Rattle.refusals.specs.declared.Verdict.{Verdict}
 use Rattle.refusals.specs.declared.Verdict.the-variants.{Accepted, ProfileOutOfRange, ShortOverLong, Unsound, OutOfTurn, BadTime, BadValue, ShortPayload, QueueFull, AllTaken, ShortOutput, BadClass, TooManyMessages}
 use Rattle.refusals.specs.declared.Reply.{Reply}
 use Rattle.refusals.specs.Refusals.{numberOf, kindOf, timeOk, heardOk, replyOk}
-use Rattle.verdicts.specs.Verdicts.{firstOf, standingWith, standing, replyVerdict, roomVerdict, outputVerdict, queueVerdict, receiveVerdict, burstVerdict}
-use Rattle.verdicts.specs.Reasons.{Reason, First, stationOk, standingReasons, lookupReasons, queueReasons, replyReasons, burstReasons}
+use Rattle.verdicts.specs.Verdicts.{stationOk, firstOf, standing, replyVerdict, roomVerdict, outputVerdict, queueVerdict, receiveVerdict, burstVerdict}
+use Rattle.verdicts.specs.Reasons.{Reason, First, standingReasons, lookupReasons, queueReasons, replyReasons, burstReasons}
 use Rattle.limits.specs.Limits.{maxSlots, maxWaiting, maxTaken, maxClass, maxMessages}
 
 -- ---- tables
@@ -68,7 +68,7 @@ one-more m =
 module _ (p : Profile) (t : Station) (a : List ℕ) where
   module _ (connect : Bool) where
     standing-first : First (standingReasons p t a connect) (numberOf (standing p t a connect))
-    unfolding standingWith
+    unfolding standing
     standing-first =
         let c = t .sender .link .connected in
         let u = (c && connect) || (not c && not connect) in

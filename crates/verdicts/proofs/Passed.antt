@@ -27,8 +27,7 @@ use Rattle.refusals.specs.declared.Verdict.{Verdict}
 use Rattle.refusals.specs.declared.Verdict.the-variants.{Accepted, AllTaken, BadClass, BadTime, BadValue, OutOfTurn, ProfileOutOfRange, QueueFull, ShortOutput, ShortOverLong, ShortPayload, TooManyMessages, Unsound}
 use Rattle.refusals.specs.declared.Reply.{Reply}
 use Rattle.refusals.specs.Refusals.{numberOf, kindOf, timeOk, heardOk, replyOk}
-use Rattle.verdicts.specs.Reasons.{stationOk}
-use Rattle.verdicts.specs.Verdicts.{passed, firstOf, standingWith, standing, roomVerdict, replyVerdict, outputVerdict, queueVerdict, receiveVerdict, burstVerdict}
+use Rattle.verdicts.specs.Verdicts.{stationOk, passed, firstOf, standing, roomVerdict, replyVerdict, outputVerdict, queueVerdict, receiveVerdict, burstVerdict}
 use Rattle.limits.specs.Limits.{maxSlots, maxWaiting, maxTaken, maxPieces, maxClass, maxMessages}
 
 -- the number that a call reads says whether it is refused
@@ -84,13 +83,13 @@ module _ (p : Profile) (t : Station) (a : List ℕ) where
 
   -- nothing but 1 to 4 turns a call down here
   pub stands : (connect : Bool) → inRange p ≡ true → inOrder p ≡ true → stationOk p t a ≡ true → s .link .connected ≡ not connect → standing p t a connect ≡ Accepted
-  unfolding standingWith
+  unfolding standing
   stands connect e₁ e₂ e₃ e₄ =
       sym (cond-no _ _ _ _ (ap not e₁) (cond-no _ _ _ _ (ap not e₂) (cond-no _ _ _ _ (ap not e₃) (cond-no _ _ _ _ (turn (s .link .connected) connect e₄) refl))))
 
   -- 1, 2 and 3 do not turn it down
   pub standing-three : (connect : Bool) → passed (standing p t a connect) ≡ true → (inRange p ≡ true) × (inOrder p ≡ true) × (soundOk p s a ≡ true) × Listed
-  unfolding standingWith
+  unfolding standing
   standing-three connect h =
       let h₁ = over-first (not (inRange p)) ProfileOutOfRange _ refl h in
       let h₂ = over-first (not (inOrder p)) ShortOverLong _ refl (h₁ .1) in

@@ -7,12 +7,11 @@ use Prim.Native.Nat.{ℕ, _+_, _*_}
 use lib.Dec.{ltb, eqb}
 use Rattle.config.specs.Ranges.{inRange, inOrder}
 use Rattle.config.specs.declared.Profile.{Profile}
-use Rattle.soundness.specs.Soundness.{soundOk}
-use Rattle.messages.specs.Messages.{messagesOk}
 use Rattle.queuing.specs.declared.Station.{Station}
 use Rattle.replies.specs.declared.Heard.{Heard}
 use Rattle.refusals.specs.declared.Reply.{Reply}
 use Rattle.refusals.specs.Refusals.{kindOf, timeOk, heardOk, replyOk}
+use Rattle.verdicts.specs.Verdicts.{stationOk}
 use Rattle.limits.specs.Limits.{maxSlots, maxWaiting, maxTaken, maxClass, maxMessages}
 
 -- a number, and whether its reason holds
@@ -23,10 +22,6 @@ Reason = ℕ × Bool
 abbrev pub First : List Reason → ℕ → Type 0
 First [] n = n ≡ 0
 First (r ∷ rs) n = ((r .1 ≡ true) × (n ≡ r .0)) ⊎ ((r .1 ≡ false) × First rs n)
-
--- the sound record: document 01's list, and document 02's clauses about messages
-abbrev pub stationOk : Profile → Station → List ℕ → Bool
-stationOk p t a = messagesOk (t .sender .counts .waiting) (t .messages) && soundOk p (t .sender) a
 
 -- 1 to 4, of every call: `connect` says whether the call is a connect. 4: "A call other than connect comes before connect, or connect comes again"
 abbrev pub standingReasons : Profile → Station → List ℕ → Bool → List Reason

@@ -8,7 +8,6 @@ use Rattle.config.specs.Ranges.{inRange, inOrder}
 use Rattle.config.specs.declared.Profile.{Profile}
 use Rattle.area.specs.Room.{queueRefusal}
 use Rattle.record.specs.declared.Counts.{Counts}
-use Rattle.record.specs.declared.Sender.{Sender}
 use Rattle.soundness.specs.Soundness.{soundOk}
 use Rattle.messages.specs.Messages.{messagesOk}
 use Rattle.queuing.specs.declared.Station.{Station}
@@ -22,17 +21,18 @@ use Rattle.limits.specs.Limits.{maxSlots, maxClass, maxMessages}
 abbrev pub passed : Verdict → Bool
 passed v = eqb (numberOf v) 0
 
--- 1 to 4, which every call checks: `listed` says whether the messages are sound, `connect` whether the call is a connect. 4: "A call other than connect comes
--- before connect, or connect comes again"
-unfoldable pub standingWith : Profile → Sender → List ℕ → Bool → Bool → Verdict
-standingWith p s a listed connect =
+-- the sound record: document 01's list, and document 02's clauses about messages
+abbrev pub stationOk : Profile → Station → List ℕ → Bool
+stationOk p t a = messagesOk (t .sender .counts .waiting) (t .messages) && soundOk p (t .sender) a
+
+-- 1 to 4, which every call checks: `connect` says whether the call is a connect. 4: "A call other than connect comes before connect, or connect comes again"
+unfoldable pub standing : Profile → Station → List ℕ → Bool → Verdict
+standing p t a connect =
+    let c = t .sender .link .connected in
     cond (not (inRange p)) ProfileOutOfRange
     (cond (not (inOrder p)) ShortOverLong
-    (cond (not (listed && soundOk p s a)) Unsound
-    (cond ((s .link .connected && connect) || (not (s .link .connected) && not connect)) OutOfTurn Accepted)))
-
-abbrev pub standing : Profile → Station → List ℕ → Bool → Verdict
-standing p t a connect = standingWith p (t .sender) a (messagesOk (t .sender .counts .waiting) (t .messages)) connect
+    (cond (not (stationOk p t a)) Unsound
+    (cond ((c && connect) || (not c && not connect)) OutOfTurn Accepted)))
 
 -- 5 to 7, after a call at `last`. 7: "A long ack's payload is under 13 bytes"; n bytes come with the reply
 unfoldable pub replyVerdict : Float → Heard → Reply → ℕ → Verdict

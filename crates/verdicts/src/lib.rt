@@ -6,8 +6,9 @@ use config::ranges::in_range;
 use limits::MAX_CLASS;
 use limits::MAX_MESSAGES;
 use limits::MAX_SLOTS;
+use messages::messages_ok;
+use queuing::Station;
 use record::Counts;
-use record::Sender;
 use refusals::Reply;
 use refusals::Verdict;
 use refusals::heard_ok;
@@ -20,21 +21,21 @@ use soundness::is_sound;
 ghost use mathlib.Core.Path.{_≡_};
 ghost use mathlib.Core.Bool.{true};
 ghost use Prim.Native.Nat.{_+_, _≤_};
-ghost use Rattle.verdicts.specs.Verdicts.{passed, firstOf, standingWith, replyVerdict, roomVerdict, outputVerdict};
+ghost use Rattle.verdicts.specs.Verdicts.{passed, firstOf, standing as standingOf, replyVerdict, roomVerdict, outputVerdict};
 ghost use Rattle.limits.specs.Limits.{maxTaken};
 
-// Refusals 1 to 4. `listed`: the messages are sound; `connect`: the call is a connect.
-pub fn standing(p: Profile, s: Sender, a: &[u8], listed: bool, connect: bool) -> Verdict
-    ensures { λ r. ⌜ r ≡ standingWith p s (now (a .entry)) listed connect ⌝ }
+// Refusals 1 to 4. `connect`: the call is a connect.
+pub fn standing(p: Profile, t: Station, a: &[u8], connect: bool) -> Verdict
+    ensures { λ r. ⌜ r ≡ standingOf p t (now (a .entry)) connect ⌝ }
 {
-    let k = s.link;
+    let k = t.sender.link;
     if !in_range(p) {
         return Verdict::ProfileOutOfRange;
     }
     if !in_order(p.short_bytes, p.long_bytes) {
         return Verdict::ShortOverLong;
     }
-    if !(listed & is_sound(p, s, a)) {
+    if !(messages_ok(t.messages, t.sender.counts.waiting) & is_sound(p, t.sender, a)) {
         return Verdict::Unsound;
     }
     if (k.connected & connect) | (!k.connected & !connect) {

@@ -8,7 +8,7 @@ use Rattle.pieces.proofs.Placed.{found-bytes}
 use Rattle.record.specs.View.{view}
 use Rattle.verdicts.specs.Verdicts.{passed, standing}
 use Rattle.sender.specs.Calls.{pieceOf}
-use Rattle.verdicts.proofs.Passed.{is-passed, not-passed, standing-passed, sound-rows}
+use Rattle.verdicts.proofs.Passed.{is-passed, not-passed, standing-three, sound-rows}
 use borrow.Author.Needs.{needs}
 use Rattle.sender.proofs.piece.Statement.{statement}
 use Rattle.sender.proofs.piece.Tie as tie
@@ -30,7 +30,7 @@ unfolding pieceOf
 returns c = cond-no _ _ _ _ (not-passed _ _ _ (c .before .before .before .standing .ensures) (c .before .before .number .ensures) (c .before .if1 .taken)) refl
 
 piece-requires : tie.Need-piece-requires
-piece-requires c κs = let s = c .before .before .before .before in sound-rows (s .args .p) (s .args .s) (now (s .args .a)) (standing-passed (s .args .p) (s .args .s) (now (s .args .a)) false (stands c) .1)
+piece-requires c κs = let s = c .before .before .before .before in sound-rows (s .args .p) (s .args .s) (now (s .args .a)) (standing-three (s .args .p) (s .args .s) (now (s .args .a)) false (stands c) .2)
 
 returns-2 : tie.Need-returns-2
 unfolding pieceOf view
