@@ -41,7 +41,8 @@ classes es = map (λ (e : Entry). e .class) es
 
 -- the record with these entries; those past them stay as they are
 unfoldable pub storeEntries : Bool → List Entry → Messages → Messages
-storeEntries b es m = record { left = overwrite (m .left) 0 (lefts es); class = overwrite (m .class) 0 (classes es); n = length es; begun = b }
+storeEntries b es m =
+    record { left = overwrite (m .left) 0 (lefts es); class = overwrite (m .class) 0 (classes es); n = length es; begun = b }
 
 -- the waiting bytes of all
 unfoldable pub total : List Entry → ℕ

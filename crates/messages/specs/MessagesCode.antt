@@ -1,4 +1,4 @@
--- What the code does with the record's messages (document 02, Change 1): what follows the code or serves proofs; nothing here has to be believed.
+-- The code's steps over the messages (document 02, Change 1): what follows the code or serves proofs; nothing here has to be believed.
 use Prim.Native.Nat.{ℕ, _+_, _-_}
 use mathlib.Core.Bool.{Bool, true, false, cond, _||_}
 use mathlib.Core.List.{List, [], _∷_, _++_}
@@ -14,7 +14,8 @@ use Rattle.messages.specs.Messages.{Entry, entryOf, entriesIn, storeEntr
 -- where a message of class c goes: behind the begun one, and behind those of its class and of lower ones
 unfoldable pub placeIn : ℕ → ℕ → ℕ → Bool → List Entry → Position
 placeIn c row bytes b [] = record { row = row; bytes = bytes }
-placeIn c row bytes b (e ∷ es) = cond (b || leb (e .class) c) (placeIn c (row + 1) (bytes + e .left) false es) (record { row = row; bytes = bytes })
+placeIn c row bytes b (e ∷ es) =
+    cond (b || leb (e .class) c) (placeIn c (row + 1) (bytes + e .left) false es) (record { row = row; bytes = bytes })
 
 abbrev pub insertRow : ℕ → Entry → List Entry → List Entry
 insertRow row e es = take row es ++ (e ∷ drop row es)

@@ -1,4 +1,4 @@
--- The sound record's clauses about messages (document 02, Change 1), as facts: what follows the code or serves proofs; nothing here has to be believed.
+-- The sound record's clauses about messages, as facts: what follows the code or serves proofs; nothing here has to be believed.
 use Prim.Native.Nat.{ℕ, _≤_}
 use mathlib.Core.Path.{_≡_}
 use mathlib.Core.List.{List, [], _∷_}

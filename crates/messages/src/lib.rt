@@ -7,7 +7,8 @@ ghost use Rattle.limits.specs.Limits.{maxMessages};
 ghost use Rattle.messages.specs.Messages.{noMessages, begunIn, entryOf, entriesIn, storeEntries, messagesOk};
 ghost use Rattle.messages.specs.MessagesCode.{placeIn, insertRow, goneIn, cutTo, flown};
 
-// n messages, each with its class and the bytes of it that wait. `begun`: bytes of the first have begun to fly; with no message it says nothing.
+// n messages, each with its class and the bytes of it that wait. `begun`: bytes of the first have begun to fly; with no message it says
+// nothing.
 #[repr(C)]
 pub struct Messages {
     pub left: [u16; MAX_MESSAGES],

@@ -1,4 +1,4 @@
-// The record of a station: the sender, and the messages of which bytes wait (document 02, Change 1). What a queuing that is not refused leaves.
+// The record of a station: the sender, and the messages of which bytes wait (document 02, Change 1); what a queuing leaves.
 use byte_copy::insert_in;
 use messages::Messages;
 use messages::insert;

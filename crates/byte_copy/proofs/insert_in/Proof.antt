@@ -1,4 +1,4 @@
--- `byte_copy::insert_in` meets its contract.
+-- `byte_copy::insert_in` meets its contract: the bytes that move up are read back from the buffer, and the two copies into `dst` are one run.
 use denote.Ref.{now}
 use Rattle.laws.specs.Bytes.{overwrite, part}
 use Rattle.laws.proofs.Bytes.{length-over, length-part, part-same, over-cat}

@@ -1,4 +1,4 @@
--- `messages::messages_ok` meets its contract.
+-- `messages::messages_ok` meets its contract. The invariant: test and sum of all entries are those of the entries from row i on, and the sum so far.
 use Rattle.limits.specs.Limits.{maxClass, maxMessages}
 use lib.Dec.{leb, ltb}
 use mathlib.Core.Bool.{true, _&&_}

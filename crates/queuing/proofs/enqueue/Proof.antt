@@ -1,4 +1,5 @@
--- `queuing::enqueue` meets its contract.
+-- `queuing::enqueue` meets its contract: what `place` finds lies within the messages and the waiting bytes, and what `insert_in` and `insert` leave there
+-- is what `queuedIn` says (Queuing.antt).
 use denote.Ref.{now}
 use mathlib.Core.Path.{_≡_, sym, ap, subst, _∙_}
 use mathlib.Core.List.{_++_}
