@@ -17,6 +17,7 @@ mod harness;
 mod levels;
 mod link;
 mod list;
+mod messages;
 mod phy;
 mod phy_mfsk;
 mod profile;
