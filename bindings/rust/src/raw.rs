@@ -155,8 +155,16 @@ extern "C" {
     pub fn vanitycrow_queue(p: *const Profile, t: *mut Station, a: *mut u8, a_len: usize, m: Message, bytes: *const u8, n: usize) -> u8;
     pub fn vanitycrow_connect(p: *const Profile, t: *mut Station, a: *mut u8, a_len: usize, h: Heard, r: ConnAck) -> u8;
     pub fn vanitycrow_short_ack(p: *const Profile, t: *mut Station, a: *mut u8, a_len: usize, h: Heard, r: Ack) -> u8;
-    pub fn vanitycrow_long_ack(p: *const Profile, t: *mut Station, a: *mut u8, a_len: usize, h: Heard, r: LongAck, payload: *const u8, n: usize)
-        -> u8;
+    pub fn vanitycrow_long_ack(
+        p: *const Profile,
+        t: *mut Station,
+        a: *mut u8,
+        a_len: usize,
+        h: Heard,
+        r: LongAck,
+        payload: *const u8,
+        n: usize,
+    ) -> u8;
     pub fn vanitycrow_turn(p: *const Profile, t: *mut Station, a: *mut u8, a_len: usize, h: Heard, r: Turn) -> u8;
     pub fn vanitycrow_data_burst(p: *const Profile, t: *mut Station, a: *mut u8, a_len: usize, out: *mut u8, n: usize) -> Burst;
     pub fn vanitycrow_find(p: *const Profile, t: *const Station, a: *const u8, a_len: usize, off: u32) -> Place;
