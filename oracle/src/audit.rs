@@ -677,12 +677,13 @@ fn smallest(items: &[Item], at: usize) -> (Vec<Item>, String) {
     (small, why)
 }
 
-pub fn audit(seed: u64, lists: u64, calls: usize) -> Result<(), String> {
+/// Lists of `kind`, or of all but `lines`, `levels` and `classes`.
+pub fn audit(seed: u64, lists: u64, calls: usize, kind: Option<&'static str>) -> Result<(), String> {
     std::panic::set_hook(Box::new(|_| {}));
     let mut reached = Reached::default();
     let mut progress = Progress::new();
     for index in 0..lists {
-        let kind = generate::kind_of(seed, index, false);
+        let kind = kind.unwrap_or_else(|| generate::kind_of(seed, index, false));
         progress.show(|| format!("audit: {index} of {lists} lists, {} calls", reached.calls));
         // The generator drives the original too, and an edited one may panic there.
         let made = catch_unwind(|| generate::list(seed, index, calls, kind));
@@ -737,5 +738,26 @@ mod tests {
             }
         }
         assert!(reached.calls > 1000);
+    }
+
+    #[test]
+    fn lists_of_classes_hold() {
+        let mut reached = Reached::default();
+        for index in 0..40 {
+            let items = generate::list(11, index, 60, "classes");
+            if let Err((at, why)) = check(&items, &mut reached) {
+                panic!("list {index}, item {at}: {why}");
+            }
+        }
+        assert_eq!(reached.most["messages"], 256);
+        for what in [
+            "queuings that overtake",
+            "queuings of a lower class than the begun message's",
+            "bursts with a frame of two messages or more",
+            "bursts that end where a message does",
+        ] {
+            assert!(reached.counts[what] > 0, "{what}");
+        }
+        assert!(reached.refused[11] > 0 && reached.refused[12] > 0);
     }
 }

@@ -11,7 +11,8 @@ use crate::profile::{DBS, EFF_THRESHOLDS, FRAME_BYTES, LEVELS, ON, POWER, Profil
 use crate::profiles;
 use crate::rng::Rng;
 
-/// What a list is about. Lists of `lines` may end in an error. `levels` is mixed with no other. In all but `classes` every message is of class 3.
+/// What a list is about. Lists of `lines` may end in an error. `levels` and `classes` are mixed with no other. In all but `classes` every
+/// message is of class 3, by default.
 pub const KINDS: [&str; 12] = [
     "usual", "ladder", "harq", "merge", "many", "extreme", "hostile", "limits", "profiles", "lines", "levels",
     "classes",
@@ -1271,9 +1272,6 @@ pub fn kind_of(seed: u64, index: u64, errors: bool) -> &'static str {
         (8, 2),
         (9, 1),
     ];
-    if index % 8 == 7 {
-        return "classes";
-    }
     let kinds = if errors { WEIGHTS.len() } else { WEIGHTS.len() - 1 };
     let all: u64 = WEIGHTS[..kinds].iter().map(|w| w.1).sum();
     let mut n = Rng::new(!seed, index).below(all);
