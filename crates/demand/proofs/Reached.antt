@@ -53,7 +53,7 @@ zeros-bytes (suc n) (suc i) = zeros-bytes n i
 
 module _ (p : Profile) (rg : Ranged p) (io : inOrder p ≡ true) (six : length (p .codes .ends) ≤ 6) where
   -- a record that is well, and awaits nothing before it is connected
-  abbrev Fit : State → Type 0
+  abbrev pub Fit : State → Type 0
   Fit c = Ok p rg io six c × Quiet c
 
   refines : Refines (sizesOf p) (sizes p rg io six) State Call Given Fit (next p) shown (call p rg io six) (told p)
@@ -65,20 +65,20 @@ module _ (p : Profile) (rg : Ranged p) (io : inOrder p ≡ true) (six : length (
         keeps = λ i c g so ok. (does p rg io six i c g (ok .0) (ok .1) .keeps, quiet-next p i c (ok .1));
       }
 
-  module _ (n : ℕ) (large : areaBytes ≤ n) (is : List Call) (gs : Along (next p) Given is (freshStart n)) where
-    fresh-ok : Fit (freshStart n)
-    fresh-ok = (
-      record { well = fresh-well p (replicate n 0) (zeros-bytes n) (omega (arith, length-replicate {A = ℕ} n 0)); listed = sound-none; sized = sized-none },
-      (λ e. refl),
-    )
+  pub fresh-fit : (n : ℕ) → areaBytes ≤ n → Fit (freshStart n)
+  fresh-fit n large = (
+    record { well = fresh-well p (replicate n 0) (zeros-bytes n) (omega (arith, length-replicate {A = ℕ} n 0)); listed = sound-none; sized = sized-none },
+    (λ e. refl),
+  )
 
+  module _ (n : ℕ) (large : areaBytes ≤ n) (is : List Call) (gs : Along (next p) Given is (freshStart n)) where
     through : (i : Call) → Given i (c p n is)
         → LedgerClaim (sizesOf p) (messages p n is) (s p n is .sender) (s p n is .queue) (t p n is) (told p i (c p n is)) (shown (next p i (c p n is)) .sender)
     through i g =
-        refined (sizesOf p) (sizes p rg io six) State Call Given Fit (next p) shown (call p rg io six) (told p) refines (freshStart n) (fresh-shows (replicate n 0)) fresh-ok is gs i g
+        refined (sizesOf p) (sizes p rg io six) State Call Given Fit (next p) shown (call p rg io six) (told p) refines (freshStart n) (fresh-shows (replicate n 0)) (fresh-fit n large) is gs i g
 
     well : Ok p rg io six (c p n is)
-    well = ok-after (sizesOf p) (sizes p rg io six) State Call Given Fit (next p) shown (call p rg io six) (told p) refines (freshStart n) (fresh-shows (replicate n 0)) fresh-ok is gs .0
+    well = ok-after (sizesOf p) (sizes p rg io six) State Call Given Fit (next p) shown (call p rg io six) (told p) refines (freshStart n) (fresh-shows (replicate n 0)) (fresh-fit n large) is gs .0
 
 -- ---- every call is refused
 
@@ -86,7 +86,7 @@ first-no : (v w : Verdict) → passed v ≡ false → passed (firstOf v w) ≡ f
 first-no v w e = ap (λ (t : Bool). passed (cond t w v)) e ∙ e
 
 module _ (p : Profile) (n : ℕ) (refused : (connect : Bool) → passed (standing p freshStation (replicate n 0) connect) ≡ false) where
-  stays : (i : Call) → (next p i (freshStart n) ≡ freshStart n) × (told p i (freshStart n) ≡ silent)
+  pub stays : (i : Call) → (next p i (freshStart n) ≡ freshStart n) × (told p i (freshStart n) ≡ silent)
   unfolding queueVerdict receiveVerdict burstVerdict
   stays (queues k bs) =
       let e = first-no (standing p freshStation (replicate n 0) false) _ (refused false) in
@@ -124,7 +124,7 @@ stands-finds p n connect e =
     let h = standing-three p freshStation (replicate n 0) connect e in
     (and-yes (inRange p) (inOrder p) (h .0) (h .1), omega (arith, leb-true areaBytes (length (replicate n 0)) (all-at _ 0 (h .2)), length-replicate {A = ℕ} n 0))
 
-refused-by : (p : Profile) (n : ℕ) → ((inRange p && inOrder p) ≡ true → areaBytes ≤ n → ⊥) → (connect : Bool) → passed (standing p freshStation (replicate n 0) connect) ≡ false
+pub refused-by : (p : Profile) (n : ℕ) → ((inRange p && inOrder p) ≡ true → areaBytes ≤ n → ⊥) → (connect : Bool) → passed (standing p freshStation (replicate n 0) connect) ≡ false
 refused-by p n f connect =
     test (passed (standing p freshStation (replicate n 0) connect))
     (λ e. let h = stands-finds p n connect e in absurd (f (h .0) (h .1)))
