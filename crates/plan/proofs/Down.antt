@@ -2,7 +2,7 @@
 -- Fewer pieces fit where more do (`fits-fewer`). So the way up stops at the first r whose successor does not fit, nothing above r fits, and the way down comes to r.
 use mathlib.Core.Path.{_≡_, refl, sym, ap, _∙_}
 use mathlib.Core.Bool.{true, false, false≢true}
-use Prim.Native.Nat.{ℕ, zero, suc, _+_, _-_, _*_, _^_, _≤_, _<_}
+use Prim.Native.Nat.{ℕ, zero, suc, _+_, _-_, _*_, _≤_, _<_}
 use native.Mathlib.Nat.{mul-le-mul}
 use native.Mathlib.Omega.{arith}
 use lib.Dec.{leb, ltb}
@@ -37,9 +37,8 @@ module _ (c : Choice) (b : ℕ) where
     unfolding fitsWith
     fits-fewer i j h m e =
         let less : b + i * c .slot ≤ b + j * c .slot = omega (arith, mul-le-mul h (let r : c .slot ≤ c .slot = omega arith in r)) in
-        let most : b + j * c .slot ≤ 2 ^ 32 = omega (arith, mul-le-mul m slot) in
         and-yes _ _
-        (longer _ _ less most (and-first _ (leb (b + j * c .slot) (c .«max_bits»)) e))
+        (longer _ _ less (omega (arith, few, mul-le-mul m slot)) (and-first _ (leb (b + j * c .slot) (c .«max_bits»)) e))
         (le-leb (b + i * c .slot) (c .«max_bits») (omega (arith, less, leb-true (b + j * c .slot) (c .«max_bits») (and-second (fits c (c .«max_s») (b + j * c .slot)) _ e))))
 
     -- where one more than r does not fit, the way down from above comes to r
