@@ -1,5 +1,6 @@
 -- Counted from the top or from the bottom, the number of slots is the same: a longer burst is never shorter on air. Assumes nothing.
--- Fewer pieces fit where more do (`fits-fewer`). So the way up stops at the first r whose successor does not fit, nothing above r fits, and the way down comes to r.
+-- Fewer pieces fit where more do (`fits-fewer`). The way up stops at the first r whose successor does not fit. So nothing above r fits,
+-- and the way down comes to r.
 use mathlib.Core.Path.{_≡_, refl, sym, ap, _∙_}
 use mathlib.Core.Bool.{true, false, false≢true}
 use Prim.Native.Nat.{ℕ, zero, suc, _+_, _-_, _*_, _≤_, _<_}
@@ -37,9 +38,10 @@ module _ (c : Choice) (b : ℕ) where
     unfolding fitsWith
     fits-fewer i j h m e =
         let less : b + i * c .slot ≤ b + j * c .slot = omega (arith, mul-le-mul h (let r : c .slot ≤ c .slot = omega arith in r)) in
+        let bits = leb-true (b + j * c .slot) (c .«max_bits») (and-second (fits c (c .«max_s») (b + j * c .slot)) _ e) in
         and-yes _ _
         (longer _ _ less (omega (arith, few, mul-le-mul m slot)) (and-first _ (leb (b + j * c .slot) (c .«max_bits»)) e))
-        (le-leb (b + i * c .slot) (c .«max_bits») (omega (arith, less, leb-true (b + j * c .slot) (c .«max_bits») (and-second (fits c (c .«max_s») (b + j * c .slot)) _ e))))
+        (le-leb (b + i * c .slot) (c .«max_bits») (omega (arith, less, bits)))
 
     -- where one more than r does not fit, the way down from above comes to r
     down-past : (r d : ℕ) → fitsWith c b (suc r) ≡ false → r + d ≤ maxSlots → roomDown c b (r + d) ≡ roomDown c b r
@@ -47,7 +49,9 @@ module _ (c : Choice) (b : ℕ) where
     down-past r (suc d) e h =
         let none : fitsWith c b (r + suc d) ≡ false =
         test (fitsWith c b (r + suc d)) (λ t. absurd (false≢true (sym e ∙ fits-fewer (suc r) (r + suc d) (omega arith) h t))) (λ t. t) in
-        down-less (r + suc d) (omega arith) none ∙ ap (roomDown c b) (let q : r + suc d - 1 ≡ r + d = omega arith in q) ∙ down-past r d e (omega arith)
+        down-less (r + suc d) (omega arith) none
+        ∙ ap (roomDown c b) (let q : r + suc d - 1 ≡ r + d = omega arith in q)
+        ∙ down-past r d e (omega arith)
 
     -- r pieces fit; none is not tested
     abbrev Fits : ℕ → Type 0
@@ -84,7 +88,10 @@ module _ (c : Choice) (b : ℕ) where
           by (λ (x : ℕ). x ≡ roomDown c b most) (oneMoreFits c n stored b r)
           (λ d. up-down k (suc r) (omega arith) (omega arith) (sym (more-is r g) ∙ d))
           (λ d.
-          sym (ap (roomDown c b) (let q : most ≡ r + (most - r) = omega arith in q) ∙ down-past r (most - r) (sym (more-is r g) ∙ d) (omega arith) ∙ down-here r f)))
+          sym
+          (ap (roomDown c b) (let q : most ≡ r + (most - r) = omega arith in q)
+          ∙ down-past r (most - r) (sym (more-is r g) ∙ d) (omega arith)
+          ∙ down-here r f)))
           (λ e.
           let g : most ≡ r = omega (arith, ltb-false r most e) in
           rw (more-none r (omega arith)) (sym (ap (roomDown c b) g ∙ down-here r f)))

@@ -8,7 +8,8 @@ ghost use Prim.Native.Nat.{_≤_};
 ghost use lib.ListN.{length};
 ghost use Rattle.plan.specs.Planning.{fits};
 ghost use Rattle.limits.specs.Limits.{maxSlots, maxBits, maxBurstBits};
-ghost use Rattle.plan.specs.PlanningCode.{AirRange, CodesRange, parityBitsOf, capOf, tooBigFor, poppedFrom, parityOf, mostOf, fitsWith, roomCounted, planned};
+ghost use Rattle.plan.specs.PlanningCode.{AirRange, CodesRange, parityBitsOf, capOf, tooBigFor, poppedFrom, parityOf};
+ghost use Rattle.plan.specs.PlanningCode.{mostOf, fitsWith, roomCounted, planned};
 
 // What the gear, the level and the profile say of the next burst: seconds on the air are pre_s + bits / rate + cue_s.
 pub struct Choice {

@@ -32,7 +32,8 @@ returns : tie.Need-returns Inv-loop μ-loop
 returns c =
     let i = c .before .before in
     let p = i .before .loop in
-    (sym (p .inv .1 ∙ down-found _ _ (p .r) (omega (arith, i .loop-test .taken)) (sym (c .before .fits-with .ensures) ∙ c .if1 .taken)), p .inv .0)
+    let fits = sym (c .before .fits-with .ensures) ∙ c .if1 .taken in
+    (sym (p .inv .1 ∙ down-found _ _ (p .r) (omega (arith, i .loop-test .taken)) fits), p .inv .0)
 
 sub-r : tie.Need-sub-r Inv-loop μ-loop
 sub-r c = search needs
@@ -44,7 +45,8 @@ loop-again : tie.Need-loop-again Inv-loop μ-loop
 loop-again c =
     let i = c .before .before in
     let p = i .before .loop in
-    (omega (arith, p .inv .0), p .inv .1 ∙ down-less _ _ (p .r) (omega (arith, i .loop-test .taken)) (sym (c .before .fits-with .ensures) ∙ c .if1 .left))
+    let not = sym (c .before .fits-with .ensures) ∙ c .if1 .left in
+    (omega (arith, p .inv .0), p .inv .1 ∙ down-less _ _ (p .r) (omega (arith, i .loop-test .taken)) not)
 
 returns-2 : tie.Need-returns-2 Inv-loop μ-loop
 returns-2 c = let p = c .before .loop in (sym (p .inv .1 ∙ down-none _ _ (p .r) (omega (arith, c .loop-test .left))), omega arith)
