@@ -1,4 +1,5 @@
-/* A sender whose calls are checked: the answer is held against the one reckoned from the arguments, and record, work area and output against the tally. */
+/* A sender whose calls are checked: the answer is held against the one reckoned from the arguments, and record, work area and output
+ * against the tally. */
 #ifndef CHECKED_H
 #define CHECKED_H
 #include <stdio.h>
@@ -46,7 +47,8 @@ static uint64_t seed = 20261115;
 static void differ(const struct run *r, enum kind k, const char *what) {
     unsigned long long n = 0;
     for (int i = 0; i < KINDS; i++) n += r->seen.calls[i];
-    fprintf(stderr, "long_run: seed %llu, %s, call %llu (%s) at %.3f s: %s\n", (unsigned long long)seed, r->name, n, kind_names[k], r->now, what);
+    fprintf(stderr, "long_run: seed %llu, %s, call %llu (%s) at %.3f s: %s\n", (unsigned long long)seed, r->name, n, kind_names[k], r->now,
+        what);
     exit(1);
 }
 

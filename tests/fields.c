@@ -1,6 +1,6 @@
-/* Every limit of documents 01 and 02 through the C interface, field by field: accepted on the limit and just inside, refused by its number just outside; and after each refused
- * call every byte of profile, record, work area and output is as before, and all of them on pages that may only be read. The last line counts the checks; the status
- * is 1 where one failed. */
+/* Every limit of documents 01 and 02 through the C interface, field by field: accepted on the limit and just inside, refused by its number
+ * just outside; and after each refused call every byte of profile, record, work area and output is as before, and all of them on pages that
+ * may only be read. The last line counts the checks; the status is 1 where one failed. */
 #include <math.h>
 #include <stdio.h>
 #include <string.h>
@@ -135,8 +135,10 @@ static void profile_numbers(void) {
 static void profile_flags(void) {
     struct vanitycrow_profile *p = &subject.p;
     bool *const flags[] = {
-        &p->lengths.burst_adapt, &p->eff_snr, &p->goodput, &p->harq, &p->pick_family, &p->smooth_target, &p->hold_by_goodput, &p->slice_slots,
-        &p->harq_stretch, &p->merge_pieces, &p->cue, &p->harq_partial, &p->lengths.burst_climb_db.set, &p->start_margin_db.set, &p->pin_level.set,
+        &p->lengths.burst_adapt, &p->eff_snr, &p->goodput, &p->harq, &p->pick_family, &p->smooth_target, &p->hold_by_goodput,
+        &p->slice_slots,
+        &p->harq_stretch, &p->merge_pieces, &p->cue, &p->harq_partial, &p->lengths.burst_climb_db.set, &p->start_margin_db.set,
+        &p->pin_level.set,
     };
     p->lengths.burst_climb_db.set = p->start_margin_db.set = p->pin_level.set = true;
     for (size_t i = 0; i < COUNT(flags); i++) {
@@ -279,7 +281,8 @@ static void record_list_counts(void) {
         {"rest over held", &s->at_peer.rest, held + 1, 3}, {"rest 2^64 - 1", &s->at_peer.rest, SIZE_MAX, 3},
         {"none held", &s->at_peer.n, 0, 0}, {"outstanding 65", &s->last_burst.n, 65, 3},
         {"outstanding 2^64 - 1", &s->last_burst.n, SIZE_MAX, 3}, {"none outstanding", &s->last_burst.n, 0, 0},
-        {"a piece more", &s->counts.pieces, flown_one.record.sender.counts.pieces + 1, 3}, {"a piece less", &s->counts.pieces, flown_one.record.sender.counts.pieces - 1, 3},
+        {"a piece more", &s->counts.pieces, flown_one.record.sender.counts.pieces + 1, 3},
+        {"a piece less", &s->counts.pieces, flown_one.record.sender.counts.pieces - 1, 3},
         {"2,049 pieces", &s->counts.pieces, 2049, 3}, {"2^64 - 1 pieces", &s->counts.pieces, SIZE_MAX, 3},
     };
     for (size_t i = 0; i < COUNT(changes); i++) {
@@ -430,8 +433,10 @@ static void put_row(size_t i, uint32_t off, uint32_t len) {
 /* Two pieces, nothing held nor outstanding: rows that are sound and rows that are not. */
 static void area_rows(void) {
     static const struct { const char *name; uint32_t off0, len0, off1, len1; uint8_t number; } rows[] = {
-        {"pieces side by side", 0, 100, 100, 170, 0},      {"a gap between", 0, 100, 130, 170, 0},       {"an overlap", 0, 101, 100, 169, 3},
-        {"descending", 170, 100, 0, 170, 3},               {"over the long payload", 0, 171, 200, 99, 3}, {"an empty piece", 0, 0, 0, 170, 3},
+        {"pieces side by side", 0, 100, 100, 170, 0},      {"a gap between", 0, 100, 130, 170, 0},
+        {"an overlap", 0, 101, 100, 169, 3},
+        {"descending", 170, 100, 0, 170, 3},               {"over the long payload", 0, 171, 200, 99, 3},
+        {"an empty piece", 0, 0, 0, 170, 3},
         {"another sum", 0, 100, 100, 169, 3},              {"past the next offset", 0, 100, 131, 170, 3},
     };
     struct vanitycrow_counts *c = &subject.record.sender.counts;
@@ -502,7 +507,8 @@ static void reply_numbers(void) {
         {"conn_ack.snr_db", &given.connect.snr_db, F32, 1, -100, 300, BOTH}, {"conn_ack.slot", &given.connect.slot, U8, 1, 0, 2, BOTH},
         {"conn_ack.session", &given.connect.session, U8, 1, 0, 255, BOTH},   {"ack.burst", &given.ack.burst, U8, 1, 0, 3, BOTH},
         {"ack.bitmap", &given.ack.bitmap, U8, 1, 0, 63, BOTH},               {"ack.snr_db", &given.ack.snr_db, F32, 1, -100, 300, BOTH},
-        {"ack.slot", &given.ack.slot, U8, 1, 0, 2, BOTH},                    {"turn.report.db", &given.turn.report.db, F32, 1, -100, 300, BOTH},
+        {"ack.slot", &given.ack.slot, U8, 1, 0, 2, BOTH},
+        {"turn.report.db", &given.turn.report.db, F32, 1, -100, 300, BOTH},
     };
     static const enum call calls[] = {CONNECT, CONNECT, CONNECT, SHORT_ACK, SHORT_ACK, SHORT_ACK, SHORT_ACK, TURN};
     given.turn.report.set = true;
@@ -544,7 +550,8 @@ static void reply_times(void) {
 static void payload_lengths(void) {
     replied = LONG_ACK;
     memcpy(&subject, &flown_one, sizeof subject);
-    for (given.payload_len = 0; given.payload_len <= 40; given.payload_len++) reply_check("the payload's length", given.payload_len < 13 ? 7 : 0);
+    for (given.payload_len = 0; given.payload_len <= 40; given.payload_len++)
+        reply_check("the payload's length", given.payload_len < 13 ? 7 : 0);
     given.payload_len = 12;
     given.h.wave = 6;
     reply_check("a short payload and a bad wave", 6);

@@ -1,5 +1,5 @@
-/* The layout of the C interface as the header has it, in the lines of bindings/rust/examples/layout.rs: size and alignment of every struct; offset, size and
- * type of every field. Structs and fields have the names of bindings/rust/src/raw.rs. */
+/* The layout of the C interface as the header has it, in the lines of bindings/rust/examples/layout.rs: size and alignment of every struct;
+ * offset, size and type of every field. Structs and fields have the names of bindings/rust/src/raw.rs. */
 #include <stdio.h>
 #include "vanitycrow.h"
 
@@ -117,7 +117,8 @@ static void reply_and_answer_lines(void) {
     S(Frames);
     F(Frames, off); F(Frames, len); F(Frames, start); F(Frames, bits); F(Frames, n);
     S(Outgoing);
-    F(Outgoing, wave); F(Outgoing, code); F(Outgoing, user); F(Outgoing, extra); F(Outgoing, cue); F(Outgoing, td_ease); F(Outgoing, number);
+    F(Outgoing, wave); F(Outgoing, code); F(Outgoing, user); F(Outgoing, extra); F(Outgoing, cue); F(Outgoing, td_ease);
+    F(Outgoing, number);
     F(Outgoing, frames);
     S(Burst);
     F(Burst, refusal); F(Burst, outgoing);

@@ -1,9 +1,9 @@
 /* Simulated traffic over a hostile link through the C interface: long_run [-s SEED] [-h HOURS] [-e SENDERS] [-x] [-l CALLS TRANSCRIPT]
  *
- * Mail is of all four classes. Each of six profiles has a fresh sender and HOURS of simulated time (24); then SENDERS more (20) have random profiles in range and some hundred calls
- * each. Every call is checked (checked.h), and the tally of document 01 is kept from arguments and answers alone (tally.h). -x lends blocks of exact
- * lengths, for valgrind. -l writes the calls and what was answered, for `replay`. The status is 1 at the first difference.
- */
+ * Mail is of all four classes. Each of six profiles has a fresh sender and HOURS of simulated time (24); then SENDERS more (20) have random
+ * profiles in range and some hundred calls each. Every call is checked (checked.h), and the tally of document 01 is kept from arguments and
+ * answers alone (tally.h). -x lends blocks of exact lengths, for valgrind. -l writes the calls and what was answered, for `replay`. The
+ * status is 1 at the first difference. */
 #include <stdio.h>
 #include <stdlib.h>
 #include "checked.h"
@@ -161,8 +161,8 @@ static void tell(const char *name, double hours, double air_hours, const struct 
 struct totals { struct seen seen; double hours, air_hours; };
 
 /* One profile; the random ones are told together. */
-static void one(struct totals *all, struct call_list list, const char *name, const struct vanitycrow_profile *p, double hours, unsigned cycles,
-                bool quiet) {
+static void one(struct totals *all, struct call_list list, const char *name, const struct vanitycrow_profile *p, double hours,
+                unsigned cycles, bool quiet) {
     static struct run r;
     memset(&r, 0, sizeof r);
     r.list = list;
@@ -178,7 +178,8 @@ static void one(struct totals *all, struct call_list list, const char *name, con
 
 static void all_profiles(struct call_list list, double hours, unsigned senders) {
     static const struct { const char *name; struct vanitycrow_profile (*make)(void); } made[] = {
-        {"usual", usual}, {"ladder", ladder_profile}, {"merge", merge_profile}, {"short", short_profile}, {"large", large_profile}, {"pinned", pinned_profile},
+        {"usual", usual}, {"ladder", ladder_profile}, {"merge", merge_profile}, {"short", short_profile}, {"large", large_profile},
+        {"pinned", pinned_profile},
     };
     struct totals fixed, any;
     memset(&fixed, 0, sizeof fixed);

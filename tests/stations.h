@@ -1,5 +1,5 @@
-/* Three senders at known points of their lives, and calls on copies of them: the answer is compared, and which bytes changed. A refused call is made a second time on
- * pages that may only be read. */
+/* Three senders at known points of their lives, and calls on copies of them: the answer is compared, and which bytes changed. A refused
+ * call is made a second time on pages that may only be read. */
 #ifndef STATIONS_H
 #define STATIONS_H
 #include <stdio.h>
@@ -41,7 +41,8 @@ struct arguments {
     uint32_t off;
 };
 
-static struct station fresh_one, open_one, flown_one; /* not connected; connected, ten bytes wait; with pieces, held ones, an outstanding burst, a begun message */
+/* not connected; connected, ten bytes wait; with pieces, held ones, an outstanding burst, a begun message */
+static struct station fresh_one, open_one, flown_one;
 static struct station subject; /* what the checks change */
 static struct arguments given; /* what the calls get */
 static struct station tried;
@@ -97,7 +98,8 @@ static void expect(const char *what, enum call c, const struct station *t, const
     uint8_t got = make_call(c, &tried, g);
     checks++;
     if (got != number) printf("fields: %s: %s answers %u, not %u\n", what, call_names[c], (unsigned)got, (unsigned)number);
-    else if (!kept_bytes(t, &tried, got != 0)) printf("fields: %s: %s, answered by %u, changed bytes\n", what, call_names[c], (unsigned)got);
+    else if (!kept_bytes(t, &tried, got != 0))
+        printf("fields: %s: %s, answered by %u, changed bytes\n", what, call_names[c], (unsigned)got);
     else if (number && !refused_unwritten(c, t, g, number)) printf("fields: %s: %s on pages that may only be read\n", what, call_names[c]);
     else return;
     failures++;
@@ -109,7 +111,8 @@ static inline void expect_levels(const char *what, const struct station *t, uint
     uint8_t got = vanitycrow_levels(&tried.p, (struct vanitycrow_class){false, false}, low, high).refusal;
     checks++;
     if (got == number && memcmp(t, &tried, sizeof tried) == 0) return;
-    printf("fields: %s: levels of %u to %u: %u, not %u, or bytes changed\n", what, (unsigned)low, (unsigned)high, (unsigned)got, (unsigned)number);
+    printf("fields: %s: levels of %u to %u: %u, not %u, or bytes changed\n", what, (unsigned)low, (unsigned)high, (unsigned)got,
+        (unsigned)number);
     failures++;
 }
 

@@ -52,7 +52,8 @@ module _ (s : Sender) (n : ℕ) (next : Sender) where
 
 -- ---- the calls, as tools/walk.py cites them: each after numbered's call, which answers r, and `keep`, which leaves t
 
-kept-left : (s : Sender) (v : Verdict) (q : Answer × List ℕ) → q .0 .verdict ≡ v → (passed v ≡ false → q .0 .next ≡ s) → (r : Left) (b : List ℕ) → (r, b) ≡ answerNumber q
+kept-left : (s : Sender) (v : Verdict) (q : Answer × List ℕ) → q .0 .verdict ≡ v → (passed v ≡ false → q .0 .next ≡ s)
+    → (r : Left) (b : List ℕ) → (r, b) ≡ answerNumber q
     → (t : Sender) → t ≡ kept s (r .refusal) (r .next) → (left (r .refusal) t, b) ≡ answerNumber q
 kept-left s v q e same r b said t k =
     let n : r .refusal ≡ numberOf v = ap (λ (x : Left × List ℕ). x .0 .refusal) said ∙ ap numberOf e in
@@ -60,19 +61,23 @@ kept-left s v q e same r b said t k =
     ap (λ (x : Sender). (left (r .refusal) x, b)) (k ∙ kept-is s (r .refusal) (r .next) v n (λ f. d ∙ same f)) ∙ said
 
 module _ (p : Profile) (s : Sender) (a : List ℕ) where
-  pub queued : (bs : List ℕ) (r : Left) (b : List ℕ) → (r, b) ≡ answerNumber (queueOf p s a bs) → Unit {0} → (t : Sender) → t ≡ kept s (r .refusal) (r .next)
+  pub queued : (bs : List ℕ) (r : Left) (b : List ℕ) → (r, b) ≡ answerNumber (queueOf p s a bs) → Unit {0} → (t : Sender) → t
+      ≡ kept s (r .refusal) (r .next)
       → (left (r .refusal) t, b) ≡ answerNumber (queueOf p s a bs)
   queued bs r b said u =
-      kept-left s (queueVerdict p s a (length bs)) (queueOf p s a bs) (queue-verdict p s a bs) (λ e. ap (λ (x : Answer × List ℕ). x .0 .next) (queue-keeps p s a bs e)) r b said
+      kept-left s (queueVerdict p s a (length bs)) (queueOf p s a bs) (queue-verdict p s a bs)
+      (λ e. ap (λ (x : Answer × List ℕ). x .0 .next) (queue-keeps p s a bs e)) r b said
 
   module _ (h : Heard) where
-    replied : (c : Reply) (payload : List ℕ) (r : Left) (b : List ℕ) → (r, b) ≡ answerNumber (receiveOf p s a h c payload) → (t : Sender) → t ≡ kept s (r .refusal) (r .next)
+    replied : (c : Reply) (payload : List ℕ) (r : Left) (b : List ℕ) → (r, b) ≡ answerNumber (receiveOf p s a h c payload) → (t : Sender)
+        → t ≡ kept s (r .refusal) (r .next)
         → (left (r .refusal) t, b) ≡ answerNumber (receiveOf p s a h c payload)
     replied c payload =
         kept-left s (receiveVerdict p s a h c (length payload)) (receiveOf p s a h c payload) (receive-verdict p s a h c payload)
         (λ e. ap (λ (x : Answer × List ℕ). x .0 .next) (receive-keeps p s a h c payload e))
 
-    pub connected : (c : ConnAck) (r : Left) (b : List ℕ) → (r, b) ≡ answerNumber (receiveOf p s a h (R.ConnAck c) []) → Unit {0} → (t : Sender)
+    pub connected : (c : ConnAck) (r : Left) (b : List ℕ) → (r, b) ≡ answerNumber (receiveOf p s a h (R.ConnAck c) []) → Unit {0}
+        → (t : Sender)
         → t ≡ kept s (r .refusal) (r .next) → (left (r .refusal) t, b) ≡ answerNumber (receiveOf p s a h (R.ConnAck c) [])
     connected c r b said u = replied (R.ConnAck c) [] r b said
 
@@ -80,7 +85,8 @@ module _ (p : Profile) (s : Sender) (a : List ℕ) where
         → t ≡ kept s (r .refusal) (r .next) → (left (r .refusal) t, b) ≡ answerNumber (receiveOf p s a h (R.Ack c) [])
     short c r b said u = replied (R.Ack c) [] r b said
 
-    pub long : (c : LongAck) (payload : List ℕ) (r : Left) (b : List ℕ) → (r, b) ≡ answerNumber (receiveOf p s a h (R.LongAck c) payload) → Unit {0} → (t : Sender)
+    pub long : (c : LongAck) (payload : List ℕ) (r : Left) (b : List ℕ) → (r, b) ≡ answerNumber (receiveOf p s a h (R.LongAck c) payload)
+        → Unit {0} → (t : Sender)
         → t ≡ kept s (r .refusal) (r .next) → (left (r .refusal) t, b) ≡ answerNumber (receiveOf p s a h (R.LongAck c) payload)
     long c payload r b said u = replied (R.LongAck c) payload r b said
 
@@ -94,5 +100,7 @@ module _ (p : Profile) (s : Sender) (a : List ℕ) where
       let n : r .burst .refusal ≡ numberOf (burstVerdict p s a (length out)) =
       ap (λ (x : LeftBurst × (List ℕ × List ℕ)). x .0 .burst .refusal) said ∙ ap numberOf (burst-verdict p s a out) in
       let d : r .next ≡ burstCall p s a out .0 .next = ap (λ (x : LeftBurst × (List ℕ × List ℕ)). x .0 .next) said in
-      let same : passed (burstVerdict p s a (length out)) ≡ false → r .next ≡ s = λ e. d ∙ ap (λ (x : Bursted × (List ℕ × List ℕ)). x .0 .next) (burst-keeps p s a out e) in
-      ap (λ (x : Sender). (leftBurst (r .burst) x, (b, o))) (k ∙ kept-is s (r .burst .refusal) (r .next) (burstVerdict p s a (length out)) n same) ∙ said
+      let same : passed (burstVerdict p s a (length out)) ≡ false → r .next ≡ s = λ e. d
+      ∙ ap (λ (x : Bursted × (List ℕ × List ℕ)). x .0 .next) (burst-keeps p s a out e) in
+      ap (λ (x : Sender). (leftBurst (r .burst) x, (b, o))) (k
+      ∙ kept-is s (r .burst .refusal) (r .next) (burstVerdict p s a (length out)) n same) ∙ said

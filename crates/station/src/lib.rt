@@ -1,5 +1,6 @@
-// The thin layer: a station program holds one record, and each call of the sender changes it. The calls are exported, for C to link: a slice goes
-// as a pointer and a length. No call requires anything; the profile is read where it lies. The link log and the levels within reach need no record.
+// The thin layer: a station program holds one record, and each call of the sender changes it. The calls are exported, for C to link: a
+// slice goes as a pointer and a length. No call requires anything; the profile is read where it lies. The link log and the levels within
+// reach need no record.
 use adif::Logged;
 use config::Profile;
 use numbered::Burst;
@@ -44,7 +45,8 @@ pub extern "C" fn vanitycrow_fresh(s: &mut Sender)
 // Bytes to send.
 #[no_mangle]
 pub extern "C" fn vanitycrow_queue(p: &Profile, s: &mut Sender, a: &mut [u8], bytes: &[u8]) -> u8
-    ensures { λ r. ⌜ (left r (now (s .exit)), now (a .exit)) ≡ answerNumber (queueOf (now (p .entry)) (now (s .entry)) (now (a .entry)) (now (bytes .entry))) ⌝ }
+    ensures { λ r. ⌜ (left r (now (s .exit)), now (a .exit))
+        ≡ answerNumber (queueOf (now (p .entry)) (now (s .entry)) (now (a .entry)) (now (bytes .entry))) ⌝ }
 {
     let q = numbered::queue(*p, *s, a, bytes);
     keep(s, q.refusal, q.next);
@@ -60,7 +62,8 @@ pub extern "C" fn vanitycrow_connect(
     h: Heard,
     r: ConnAck,
 ) -> u8
-    ensures { λ q. ⌜ (left q (now (s .exit)), now (a .exit)) ≡ answerNumber (receiveOf (now (p .entry)) (now (s .entry)) (now (a .entry)) h (R.ConnAck r) []) ⌝ }
+    ensures { λ q. ⌜ (left q (now (s .exit)), now (a .exit))
+        ≡ answerNumber (receiveOf (now (p .entry)) (now (s .entry)) (now (a .entry)) h (R.ConnAck r) []) ⌝ }
 {
     let q = numbered::connect(*p, *s, a, h, r);
     keep(s, q.refusal, q.next);
@@ -76,7 +79,8 @@ pub extern "C" fn vanitycrow_short_ack(
     h: Heard,
     r: Ack,
 ) -> u8
-    ensures { λ q. ⌜ (left q (now (s .exit)), now (a .exit)) ≡ answerNumber (receiveOf (now (p .entry)) (now (s .entry)) (now (a .entry)) h (R.Ack r) []) ⌝ }
+    ensures { λ q. ⌜ (left q (now (s .exit)), now (a .exit))
+        ≡ answerNumber (receiveOf (now (p .entry)) (now (s .entry)) (now (a .entry)) h (R.Ack r) []) ⌝ }
 {
     let q = numbered::short_ack(*p, *s, a, h, r);
     keep(s, q.refusal, q.next);
@@ -93,7 +97,8 @@ pub extern "C" fn vanitycrow_long_ack(
     r: LongAck,
     payload: &[u8],
 ) -> u8
-    ensures { λ q. ⌜ (left q (now (s .exit)), now (a .exit)) ≡ answerNumber (receiveOf (now (p .entry)) (now (s .entry)) (now (a .entry)) h (R.LongAck r) (now (payload .entry))) ⌝ }
+    ensures { λ q. ⌜ (left q (now (s .exit)), now (a .exit))
+        ≡ answerNumber (receiveOf (now (p .entry)) (now (s .entry)) (now (a .entry)) h (R.LongAck r) (now (payload .entry))) ⌝ }
 {
     let q = numbered::long_ack(*p, *s, a, h, r, payload);
     keep(s, q.refusal, q.next);
@@ -109,7 +114,8 @@ pub extern "C" fn vanitycrow_turn(
     h: Heard,
     r: Turn,
 ) -> u8
-    ensures { λ q. ⌜ (left q (now (s .exit)), now (a .exit)) ≡ answerNumber (receiveOf (now (p .entry)) (now (s .entry)) (now (a .entry)) h (R.Turn r) []) ⌝ }
+    ensures { λ q. ⌜ (left q (now (s .exit)), now (a .exit))
+        ≡ answerNumber (receiveOf (now (p .entry)) (now (s .entry)) (now (a .entry)) h (R.Turn r) []) ⌝ }
 {
     let q = numbered::turn(*p, *s, a, h, r);
     keep(s, q.refusal, q.next);
@@ -124,7 +130,8 @@ pub extern "C" fn vanitycrow_data_burst(
     a: &mut [u8],
     out: &mut [u8],
 ) -> Burst
-    ensures { λ r. ⌜ (leftBurst r (now (s .exit)), (now (a .exit), now (out .exit))) ≡ burstNumber (burstCall (now (p .entry)) (now (s .entry)) (now (a .entry)) (now (out .entry))) ⌝ }
+    ensures { λ r. ⌜ (leftBurst r (now (s .exit)), (now (a .exit), now (out .exit)))
+        ≡ burstNumber (burstCall (now (p .entry)) (now (s .entry)) (now (a .entry)) (now (out .entry))) ⌝ }
 {
     let q = numbered::data_burst(*p, *s, a, out);
     keep(s, q.burst.refusal, q.next);

@@ -22,10 +22,10 @@ use Rattle.ieee.proofs.Rounds.{add-rounds, mul-rounds, div-rounds, round-neg, P
 use Rattle.ieee.proofs.Representable.{rounds-le, rounds-ge, zero-exp}
 use Rattle.ieee.proofs.Mono.{null, not-negative, mul-mono, whole-mono}
 use Rattle.ieee.proofs.Bounds.{in-finite}
 use Rattle.float_laws.proofs.Intervals.{Ex, var, lit, plus, less, times, none, more, within}
 use Rattle.exp.proofs.ExpLaws.{lo, hi, log2e, half, shifted-in, cut-in, E-low, E-high, E-within}
-use Rattle.float_laws.proofs.NarrowBounds.{narrow-in, narrow-ge}
-use Rattle.float_laws.proofs.ExpRest.{least, greatest, y-in}
+use Rattle.exp_laws.proofs.NarrowBounds.{narrow-in, narrow-ge}
+use Rattle.exp_laws.proofs.ExpRest.{least, greatest, y-in}
 
 abbrev one : Float
 one = fin false 1 (pos 0)

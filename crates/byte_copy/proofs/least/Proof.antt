@@ -4,8 +4,8 @@ use native.Mathlib.Omega.{arith}
 use denote.Ref.{now}
 use lib.ListN.{length}
 use lib.Seq.{length-take-le, take-all}
-use Rattle.list_calls.proofs.least.Statement.{statement}
-use Rattle.list_calls.proofs.least.Tie as tie
+use Rattle.byte_copy.proofs.least.Statement.{statement}
+use Rattle.byte_copy.proofs.least.Tie as tie
 
 returns : tie.Need-returns
 returns c = (omega (arith, c .if1 .taken), (sym (length-take-le _ _ (omega (arith, c .if1 .taken))), refl))
