@@ -10,8 +10,8 @@ use Prim.Native.Nat.{ℕ, _+_, _≤_}
 use native.Mathlib.Omega.{arith}
 use lib.Dec.{ltb, leb, eqb}
 use lib.ListN.{length, replicate, length-replicate}
-use borrow.Author.Tests.{eq-eqb, le-ltb, leb-true, leb-false}
-use Rattle.laws.proofs.Picks.{by, by₂, test, either, and-first, and-second}
+use borrow.Author.Tests.{eqb-true, ne-eqb, le-ltb, leb-true, leb-false}
+use Rattle.laws.proofs.Picks.{by, by₂, test, and-first, and-second, and-yes}
 use Rattle.limits.specs.Limits.{maxClass, maxMessages}
 use Rattle.config.specs.declared.Profile.{Profile}
 use Rattle.config.specs.Ranged.{Ranged}
@@ -58,7 +58,10 @@ use Rattle.demand.specs.Lists.{Call, queues, hears, bursts, State, Given
 use Rattle.demand.specs.Single.{BaseCall, plain, Said, justVerdict, BaseState, nextBase, saidBase, allSaidBase, said, tooMany, erased, allSaid, OneClass, SingleClass}
 use Rattle.laws.specs.Bytes.{Bytes}
 use Rattle.messages.specs.SoundCode.{SoundMessages}
-use Rattle.sender.proofs.Refused.{queue-verdict, receive-verdict}
+use Rattle.sender.proofs.Refused.{queue-verdict, receive-verdict, burst-verdict}
+use Rattle.verdicts.proofs.Passed.{queue-passed, queue-room}
+use Rattle.replies.specs.declared.LongAck as B
+use Rattle.demand.proofs.Answers.{queue-no, hear-no, burst-no}
 use Rattle.demand.proofs.OneClass.{AllOf, single, enqueue-all, flies-all}
 use Rattle.demand.proofs.Connected.{Quiet, quiet-next}
 use Rattle.demand.proofs.Steps.{Ok, does, call, callOf, longCallOf}
@@ -106,12 +109,12 @@ module _ (p : Profile) (c : State) (ok : Listed c) where
 
 -- ---- a call that is not refused by 12 does what the base's does
 
+abbrev Same : Profile → State → Call → Type 0
+Same p c i = (core (next p i c) ≡ nextBase p (plain i) (core c)) × (said p i c ≡ saidBase p (plain i) (core c))
+
 module _ (p : Profile) (c : State) (ok : Listed c) where
   abbrev s : Sender
   s = c .0 .sender
-
-  abbrev Same : Call → Type 0
-  Same i = (core (next p i c) ≡ nextBase p (plain i) (core c)) × (said p i c ≡ saidBase p (plain i) (core c))
 
   module _ (h : Heard) (r : Reply) (b : List ℕ) where
     abbrev vr : Verdict
@@ -121,7 +124,7 @@ module _ (p : Profile) (c : State) (ok : Listed c) where
     unfolding receiveVerdict
     reply-verdict = ap (λ (v : Verdict). firstOf v (replyVerdict (s .link .«last_time») h r (length b))) (standing-same p c ok (eqb (kindOf r) 0))
 
-    reply-same : Same (hears h r b)
+    reply-same : Same p c (hears h r b)
     unfolding receiveOf receiveBase
     reply-same = (
       by₂ (λ (y : Answer × List ℕ) (z : BaseState). (y .0 .next .sender, y .1) ≡ z) (passed vr) (λ t. refl) (λ t. refl)
@@ -143,7 +146,7 @@ module _ (p : Profile) (c : State) (ok : Listed c) where
     abbrev made : Verdict → Made
     made v = cond (passed v) (burstOf p s (c .1) out) ((noBurst, s), (c .1, out))
 
-    burst-same : Same (bursts out)
+    burst-same : Same p c (bursts out)
     unfolding burstCall burstBase
     burst-same = (
       by₂ (λ (y : Bursted × (List ℕ × List ℕ)) (z : Made). _≡_ {A = BaseState} (y .0 .next .sender, y .1 .0) (z .0 .1, z .1 .0)) (passed vb) (λ t. refl) (λ t. refl)
@@ -154,14 +157,14 @@ module _ (p : Profile) (c : State) (ok : Listed c) where
     )
 
   -- a queuing: all messages of the class k, and the new one goes last
-  module _ (k : ℕ) (low : k ≤ maxClass) (all : AllOf k (shown c .queue .messages)) (bs : List ℕ) where
+  module _ (k : ℕ) (low : k ≤ maxClass) (bs : List ℕ) where
     abbrev after : L.Sender
     after = L.requeue (view s (c .1) .waiting ++ bs) (view s (c .1))
 
     abbrev vq : Verdict
     vq = queueVerdict p (c .0) (c .1) k (length bs)
 
-    module _ (counted : Counted s (c .1)) (by8 : Bytes (c .1)) (ar : Arrays s) (so : SoundMessages (c .0 .messages) (s .counts .waiting)) where
+    module _ (all : AllOf k (shown c .queue .messages)) (counted : Counted s (c .1)) (by8 : Bytes (c .1)) (ar : Arrays s) (so : SoundMessages (c .0 .messages) (s .counts .waiting)) where
       queued-last : (x : List ℕ) → x ≡ bs → core (queuedIn k x (c .0) (c .1)) ≡ (store after s, storeArea after (c .1))
       unfolding queuedIn takeIn storeStation viewStation
       queued-last [] e =
@@ -175,13 +178,14 @@ module _ (p : Profile) (c : State) (ok : Listed c) where
           single k (b ∷ x) q all ∙ ap₂ (λ (u v : List ℕ). u ++ v) (goes-shown (c .0) (c .1) counted so) e in
           ap (λ (w : List ℕ). (store (L.requeue w (view s (c .1))) s, storeArea (L.requeue w (view s (c .1))) (c .1))) f
 
-      queue-does : eqb (numberOf vq) 12 ≡ false → Same (queues k bs)
-      unfolding queueOf queueBase
-      queue-does few =
-          let e = queue-same p c ok k low (length bs) few in
-          (by₂ (λ (y : Answer × List ℕ) (z : BaseState). (y .0 .next .sender, y .1) ≡ z) (passed vq) (λ t. queued-last bs refl) (λ t. refl)
-          ∙ ap (λ (v : Verdict). cond (passed v) (store after s, storeArea after (c .1)) (core c)) e,
-          ap justVerdict (queue-verdict p (c .0) (c .1) k bs ∙ e))
+    queue-does : (passed vq ≡ true → core (queuedIn k bs (c .0) (c .1)) ≡ (store after s, storeArea after (c .1))) → eqb (numberOf vq) 12 ≡ false → Same p c (queues k bs)
+    unfolding queueOf queueBase
+    queue-does last few =
+        let e = queue-same p c ok k low (length bs) few in (
+          by₂ (λ (y : Answer × List ℕ) (z : BaseState). (y .0 .next .sender, y .1) ≡ z) (passed vq) last (λ t. refl)
+              ∙ ap (λ (v : Verdict). cond (passed v) (store after s, storeArea after (c .1)) (core c)) e,
+          ap justVerdict (queue-verdict p (c .0) (c .1) k bs ∙ e),
+        )
 
 -- ---- lists, by any invariant under which one call does what the base's does
 
@@ -203,3 +207,98 @@ module _ (p : Profile) (k : ℕ) (Inv : State → Type 0)
       (λ t. let y = same i c (gs .0) (os .0) v t in
       (z .0 ∙ ap (run (nextBase p) (erased p is c′)) (y .0),
       ap₂ (λ (x : Said) (xs : List Said). x ∷ xs) (y .1) (z .1 ∙ ap (allSaidBase p (erased p is c′)) (y .0))))
+
+-- a call that is refused by 12 changes nothing
+not-passed : (v w : Verdict) → w ≡ v → eqb (numberOf w) 12 ≡ true → passed v ≡ false
+not-passed v w e t = ne-eqb (numberOf v) 0 (λ z. omega (arith, z, eqb-true (numberOf w) 12 t, ap numberOf e))
+
+many-stays : (p : Profile) (i : Call) (c : State) → tooMany p i c ≡ true → next p i c ≡ c
+many-stays p (queues k bs) c t = queue-no p c k bs (not-passed _ _ (queue-verdict p (c .0) (c .1) k bs) t)
+many-stays p (hears h r b) c t = hear-no p c h r b (not-passed _ _ (receive-verdict p (c .0) (c .1) h r b) t)
+many-stays p (bursts out) c t = burst-no p c out (not-passed _ _ (burst-verdict p (c .0) (c .1) out) t)
+
+not-many : (p : Profile) (c : State) (k : ℕ) (bs : List ℕ) → tooMany p (queues k bs) c ≡ false → eqb (numberOf (queueVerdict p (c .0) (c .1) k (length bs))) 12 ≡ false
+not-many p c k bs t = ap (λ (v : Verdict). eqb (numberOf v) 12) (sym (queue-verdict p (c .0) (c .1) k bs)) ∙ t
+
+-- ---- the calls get through
+
+module _ (p : Profile) (rg : Ranged p) (io : inOrder p ≡ true) (six : length (p .codes .ends) ≤ 6) (k : ℕ) (low : k ≤ maxClass) where
+  abbrev Inv : State → Type 0
+  Inv c = Fit p rg io six c × AllOf k (shown c .queue .messages)
+
+  abbrev After : State → C.Move → Type 0
+  After c m = AllOf k (C.queueAfter m (shown c) .messages)
+
+  long-all : (c : State) (r : B.LongAck) (v : AckRead) → AllOf k (shown c .queue .messages) → After c (longCallOf p rg io six (c .0 .sender) r v)
+  long-all c r TooShort h = h
+  long-all c r (Info i) h = h
+
+  reply-all : (c : State) (r : Reply) (b : List ℕ) → AllOf k (shown c .queue .messages) → After c (callOf p rg io six (c .0 .sender) r b)
+  reply-all c (ConnAck r) b h = h
+  reply-all c (Ack r) b h = h
+  reply-all c (LongAck r) b h = long-all c r (ackOf b) h
+  reply-all c (Turn r) b h = h
+
+  all-after : (i : Call) (c : State) → OneClass k i c → AllOf k (shown c .queue .messages) → After c (call p rg io six i c)
+  all-after (queues j bs) c o h =
+      by (After c) (passed (queueVerdict p (c .0) (c .1) j (length bs)))
+      (λ _. subst (λ (x : ℕ). AllOf k (enqueue x bs (shown c .queue) .messages)) (sym o) (enqueue-all k bs (shown c .queue) h)) (λ _. h)
+  all-after (hears h r b) c o a = by (After c) (passed (receiveVerdict p (c .0) (c .1) h r (length b))) (λ _. reply-all c r b a) (λ _. a)
+  all-after (bursts out) c o h = by (After c) (passed (burstVerdict p (c .0) (c .1) (length out))) (λ _. flies-all k _ (shown c .queue) h) (λ _. h)
+
+  keeps-class : (i : Call) (c : State) → Given i c → OneClass k i c → Inv c → Inv (next p i c)
+  keeps-class i c g o v =
+      let d = does p rg io six i c g (v .0 .0) (v .0 .1) in
+      ((d .keeps, quiet-next p i c (v .0 .1)), subst (λ (x : St.Station). AllOf k (x .queue .messages)) (sym (d .steps)) (all-after i c o (v .1)))
+
+  same-through : (i : Call) (c : State) → Given i c → OneClass k i c → Inv c → (ok : Listed c) → tooMany p i c ≡ false → Same p c i
+  same-through (queues j bs) c g o v ok t =
+      let w = v .0 .0 in
+      let f : eqb (numberOf (queueVerdict p (c .0) (c .1) k (length bs))) 12 ≡ false = subst (λ (x : ℕ). eqb (numberOf (queueVerdict p (c .0) (c .1) x (length bs))) 12 ≡ false) o (not-many p c j bs t) in
+      subst (λ (x : ℕ). Same p c (queues x bs)) (sym o)
+      (queue-does p c ok k low bs
+      (λ _. queued-last p c ok k low bs (v .1) (sound-counted p (c .0 .sender) (c .1) (w .well .sound)) (w .well .bytes) (w .well .arrays) (w .listed) bs refl) f)
+  same-through (hears h r b) c g o v ok t = reply-same p c ok h r b
+  same-through (bursts out) c g o v ok t = burst-same p c ok out
+
+  through : (n : ℕ) → areaBytes ≤ n → (is : List Call) → Along (next p) Given is (freshStart n) → Along (next p) (OneClass k) is (freshStart n) → Ends p k Inv is (freshStart n)
+  through n large is gs os =
+      lists p k Inv keeps-class (λ i c g o v t. ap core (many-stays p i c t))
+      (λ i c g o v t. same-through i c g o v (sound-ok _ _ (v .0 .0 .listed)) t) is (freshStart n) gs os
+      (fresh-fit p rg io six n large, subst (λ (x : St.Station). AllOf k (x .queue .messages)) (sym (fresh-shows (replicate n 0))) tt)
+
+-- ---- every call is refused
+
+module _ (p : Profile) (n : ℕ) (no : (inRange p && inOrder p) ≡ true → areaBytes ≤ n → ⊥) (k : ℕ) (low : k ≤ maxClass) where
+  fresh-listed : Listed (freshStart n)
+  fresh-listed = sound-ok _ _ sound-none
+
+  never : (bs : List ℕ) → passed (queueVerdict p freshStation (replicate n 0) k (length bs)) ≡ true → ⊥
+  never bs e =
+      let q = queue-passed p freshStation (replicate n 0) k (length bs) e in
+      no (and-yes (inRange p) (inOrder p) (q .one) (q .two)) (omega (arith, queue-room p freshStation (replicate n 0) k (length bs) e .1, length-replicate {A = ℕ} n 0))
+
+  same-refused : (i : Call) → OneClass k i (freshStart n) → tooMany p i (freshStart n) ≡ false → Same p (freshStart n) i
+  same-refused (queues j bs) o t =
+      let f = subst (λ (x : ℕ). eqb (numberOf (queueVerdict p freshStation (replicate n 0) x (length bs))) 12 ≡ false) o (not-many p (freshStart n) j bs t) in
+      subst (λ (x : ℕ). Same p (freshStart n) (queues x bs)) (sym o) (queue-does p (freshStart n) fresh-listed k low bs (λ e. absurd (never bs e)) f)
+  same-refused (hears h r b) o t = reply-same p (freshStart n) fresh-listed h r b
+  same-refused (bursts out) o t = burst-same p (freshStart n) fresh-listed out
+
+  refused : (is : List Call) → Along (next p) Given is (freshStart n) → Along (next p) (OneClass k) is (freshStart n) → Ends p k (λ (c : State). c ≡ freshStart n) is (freshStart n)
+  refused is gs os =
+      let st = stays p n (refused-by p n no) in
+      lists p k (λ (c : State). c ≡ freshStart n) (λ i c g o e. ap (next p i) e ∙ st i .0) (λ i c g o e t. ap core (many-stays p i c t))
+      (λ i c g o e t. at-fresh i c e o t) is (freshStart n) gs os refl
+    where
+      at-fresh : (i : Call) (c : State) → c ≡ freshStart n → OneClass k i c → tooMany p i c ≡ false → Same p c i
+      at-fresh i c e =
+          subst (λ (x : State). OneClass k i x → tooMany p i x ≡ false → Same p x i) (sym e) (same-refused i)
+
+pub single-class : SingleClass
+single-class p six k low n is gs os =
+    test (inRange p && inOrder p)
+    (λ v. test (leb areaBytes n)
+    (λ l. through p (ranged p (and-first (inRange p) (inOrder p) v)) (and-second (inRange p) (inOrder p) v) six k low n (leb-true areaBytes n l) is gs os)
+    (λ l. refused p n (λ x y. omega (arith, leb-false areaBytes n l, y)) k low is gs os))
+    (λ v. refused p n (λ x y. false≢true (sym v ∙ x)) k low is gs os)
