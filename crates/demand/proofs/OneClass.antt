@@ -72,4 +72,3 @@ flies-from-all c k b (m ∷ ms) h =
 pub flies-all : (c k : ℕ) (q : Queue) → AllOf c (q .messages) → AllOf c (flies k q .messages)
 unfolding flies
 flies-all c k q h = flies-from-all c k (q .begun) (q .messages) h
-

@@ -5,7 +5,7 @@
 -- Assumes nothing.
 use mathlib.Core.Path.{_≡_, refl, sym, ap, ap₂, _∙_, subst}
 use mathlib.Core.List.{List, [], _∷_, _++_, append-nil}
-use mathlib.Core.Bool.{Bool, true, false, cond, not, _&&_, _||_, false≢true}
+use mathlib.Core.Bool.{Bool, true, false, cond, not, _&&_, false≢true}
 use Prim.Native.Nat.{ℕ, _+_, _≤_}
 use native.Mathlib.Omega.{arith}
 use lib.Dec.{ltb, leb, eqb}
@@ -22,24 +22,21 @@ use Rattle.area.specs.Room.{queueRefusal}
 use Rattle.ledger.specs.Calls.{Along, run}
 use Rattle.ledger.specs.CallsCode as C
 use Rattle.ledger.specs.Ledger as L
-use Rattle.ledger.specs.Queue.{Message, Queue, goes, enqueue, flies, fliesFrom, insert, first, behind}
+use Rattle.ledger.specs.Queue.{goes, enqueue}
 use Rattle.ledger.specs.Station as St
 use Rattle.ledger.specs.Station.{takeIn}
 use Rattle.messages.specs.Messages.{messagesOk, queueIn}
 use Rattle.messages.proofs.Kept.{sound-ok, sound-none}
 use Rattle.queuing.specs.Station.{viewStation, storeStation, queuedIn, freshStation}
-use Rattle.queuing.specs.declared.Station.{Station}
 use Rattle.queuing.proofs.Queuing.{stored-already}
 use Rattle.queuing.proofs.Shown.{goes-shown, fresh-shows}
 use Rattle.record.specs.View.{view, store, storeArea}
-use Rattle.record.specs.Fresh.{fresh}
 use Rattle.record.specs.declared.Sender.{Sender}
 use Rattle.record.proofs.View.{Arrays, Counted}
-use Rattle.soundness.specs.Soundness.{soundOk}
 use Rattle.soundness.proofs.fields.Sound.{sound-counted}
 use Rattle.replies.specs.declared.Heard.{Heard}
 use Rattle.refusals.specs.declared.Verdict.{Verdict}
-use Rattle.refusals.specs.declared.Verdict.the-variants.{Accepted, ProfileOutOfRange, ShortOverLong, Unsound, OutOfTurn, QueueFull, AllTaken, BadClass, TooManyMessages}
+use Rattle.refusals.specs.declared.Verdict.the-variants.{Accepted, QueueFull, AllTaken, BadClass, TooManyMessages}
 use Rattle.refusals.specs.declared.Reply.{Reply}
 use Rattle.refusals.specs.declared.Reply.the-variants.{ConnAck, Ack, LongAck, Turn}
 use Rattle.refusals.specs.Refusals.{numberOf, kindOf}
@@ -51,7 +48,7 @@ use Rattle.receive.specs.Accepted.{acceptedReply}
 use Rattle.outgoing.specs.Outgoing.{burstOf}
 use Rattle.outgoing.specs.declared.Outgoing.{Outgoing}
 use Rattle.sender.specs.Base.{standingBase, queueVerdictBase, queueBase, receiveBase, burstBase}
-use Rattle.sender.specs.Calls.{queueOf, receiveOf, noBurst, messagesAfter, burstCall}
+use Rattle.sender.specs.Calls.{queueOf, receiveOf, noBurst, burstCall}
 use Rattle.sender.specs.declared.Answer.{Answer}
 use Rattle.sender.specs.declared.Bursted.{Bursted}
 use Rattle.demand.specs.Lists.{Call, queues, hears, bursts, State, Given, freshStart, shown, next}
@@ -63,8 +60,8 @@ use Rattle.verdicts.proofs.Passed.{queue-passed, queue-room}
 use Rattle.replies.specs.declared.LongAck as B
 use Rattle.demand.proofs.Answers.{queue-no, hear-no, burst-no}
 use Rattle.demand.proofs.OneClass.{AllOf, single, enqueue-all, flies-all}
-use Rattle.demand.proofs.Connected.{Quiet, quiet-next}
-use Rattle.demand.proofs.Steps.{Ok, does, call, callOf, longCallOf}
+use Rattle.demand.proofs.Connected.{quiet-next}
+use Rattle.demand.proofs.Steps.{does, call, callOf, longCallOf}
 use Rattle.demand.proofs.Reached.{Fit, fresh-fit, stays, refused-by}
 
 abbrev core : State → BaseState
@@ -105,7 +102,10 @@ module _ (p : Profile) (c : State) (ok : Listed c) where
       let b = ltb 0 n && leb maxMessages (c .0 .messages .n) in
       let f : queueVerdict p (c .0) (c .1) k n ≡ judged n (cond b TooManyMessages Accepted) =
       ap₂ (λ (v : Verdict) (t : Bool). firstOf v (cond t BadClass (room n (cond b TooManyMessages Accepted)))) (standing-same false) (le-ltb maxClass k low) in
-      f ∙ unless-many _ _ _ _ b (sym (ap (λ (v : Verdict). eqb (numberOf v) 12) f) ∙ e)
+      let s = c .0 .sender in
+      let v = standingBase p s (c .1) false in
+      let q = queueRefusal (s .counts .waiting) (s .counts .«next_offset» + s .counts .waiting) n in
+      f ∙ unless-many (passed v) v (eqb q 8) (eqb q 9) b (sym (ap (λ (u : Verdict). eqb (numberOf u) 12) f) ∙ e)
 
 -- ---- a call that is not refused by 12 does what the base's does
 
@@ -187,26 +187,26 @@ module _ (p : Profile) (c : State) (ok : Listed c) where
           ap justVerdict (queue-verdict p (c .0) (c .1) k bs ∙ e),
         )
 
+abbrev Ends : Profile → List Call → State → Type 0
+Ends p is c = (core (run (next p) is c) ≡ run (nextBase p) (erased p is c) (core c)) × (allSaid p is c ≡ allSaidBase p (erased p is c) (core c))
+
 -- ---- lists, by any invariant under which one call does what the base's does
 
 module _ (p : Profile) (k : ℕ) (Inv : State → Type 0)
     (keeps : (i : Call) (c : State) → Given i c → OneClass k i c → Inv c → Inv (next p i c))
     (stops : (i : Call) (c : State) → Given i c → OneClass k i c → Inv c → tooMany p i c ≡ true → core (next p i c) ≡ core c)
     (same : (i : Call) (c : State) → Given i c → OneClass k i c → Inv c → tooMany p i c ≡ false → Same p c i) where
-  abbrev Ends : List Call → State → Type 0
-  Ends is c =
-      (core (run (next p) is c) ≡ run (nextBase p) (erased p is c) (core c)) × (allSaid p is c ≡ allSaidBase p (erased p is c) (core c))
-
-  lists : (is : List Call) (c : State) → Along (next p) Given is c → Along (next p) (OneClass k) is c → Inv c → Ends is c
+  lists : (is : List Call) (c : State) → Along (next p) Given is c → Along (next p) (OneClass k) is c → Inv c → Ends p is c
   lists [] c gs os v = (refl, refl)
   lists (i ∷ is) c gs os v =
       let c′ = next p i c in
       let z = lists is c′ (gs .1) (os .1) (keeps i c (gs .0) (os .0) v) in
       by₂ (λ (calls : List BaseCall) (says : List Said). (core (run (next p) is c′) ≡ run (nextBase p) calls (core c)) × (says ≡ allSaidBase p calls (core c))) (tooMany p i c)
       (λ t. subst (λ (x : BaseState). (core (run (next p) is c′) ≡ run (nextBase p) (erased p is c′) x) × (allSaid p is c′ ≡ allSaidBase p (erased p is c′) x)) (stops i c (gs .0) (os .0) v t) z)
-      (λ t. let y = same i c (gs .0) (os .0) v t in
-      (z .0 ∙ ap (run (nextBase p) (erased p is c′)) (y .0),
-      ap₂ (λ (x : Said) (xs : List Said). x ∷ xs) (y .1) (z .1 ∙ ap (allSaidBase p (erased p is c′)) (y .0))))
+      (λ t. let y = same i c (gs .0) (os .0) v t in (
+        z .0 ∙ ap (run (nextBase p) (erased p is c′)) (y .0),
+        ap₂ (λ (x : Said) (xs : List Said). x ∷ xs) (y .1) (z .1 ∙ ap (allSaidBase p (erased p is c′)) (y .0)),
+      ))
 
 -- a call that is refused by 12 changes nothing
 not-passed : (v w : Verdict) → w ≡ v → eqb (numberOf w) 12 ≡ true → passed v ≡ false
@@ -261,7 +261,7 @@ module _ (p : Profile) (rg : Ranged p) (io : inOrder p ≡ true) (six : length (
   same-through (hears h r b) c g o v ok t = reply-same p c ok h r b
   same-through (bursts out) c g o v ok t = burst-same p c ok out
 
-  through : (n : ℕ) → areaBytes ≤ n → (is : List Call) → Along (next p) Given is (freshStart n) → Along (next p) (OneClass k) is (freshStart n) → Ends p k Inv is (freshStart n)
+  through : (n : ℕ) → areaBytes ≤ n → (is : List Call) → Along (next p) Given is (freshStart n) → Along (next p) (OneClass k) is (freshStart n) → Ends p is (freshStart n)
   through n large is gs os =
       lists p k Inv keeps-class (λ i c g o v t. ap core (many-stays p i c t))
       (λ i c g o v t. same-through i c g o v (sound-ok _ _ (v .0 .0 .listed)) t) is (freshStart n) gs os
@@ -285,7 +285,7 @@ module _ (p : Profile) (n : ℕ) (no : (inRange p && inOrder p) ≡ true → are
   same-refused (hears h r b) o t = reply-same p (freshStart n) fresh-listed h r b
   same-refused (bursts out) o t = burst-same p (freshStart n) fresh-listed out
 
-  refused : (is : List Call) → Along (next p) Given is (freshStart n) → Along (next p) (OneClass k) is (freshStart n) → Ends p k (λ (c : State). c ≡ freshStart n) is (freshStart n)
+  refused : (is : List Call) → Along (next p) Given is (freshStart n) → Along (next p) (OneClass k) is (freshStart n) → Ends p is (freshStart n)
   refused is gs os =
       let st = stays p n (refused-by p n no) in
       lists p k (λ (c : State). c ≡ freshStart n) (λ i c g o e. ap (next p i) e ∙ st i .0) (λ i c g o e t. ap core (many-stays p i c t))

@@ -123,9 +123,10 @@ pub stored-already : (s : Sender) (a : List ℕ) → Counted s a → Bytes a →
     (store (requeue (view s a .waiting) (view s a)) s ≡ s) × (storeArea (requeue (view s a .waiting) (view s a)) a ≡ a)
 unfolding view
 stored-already s a c by ar =
-    let w = s .counts .waiting in
-    (put-record s a c by [] 0 (omega arith) ar ∙ ap (queuedTo s) (let e : w + 0 ≡ w = omega arith in e),
-    put-area s a c by [] 0 (omega arith) (omega (arith, c .stream)) ∙ over-part a (s .counts .flying + 0) (w - 0))
+    let w = s .counts .waiting in (
+      put-record s a c by [] 0 (omega arith) ar ∙ ap (queuedTo s) (let e : w + 0 ≡ w = omega arith in e),
+      put-area s a c by [] 0 (omega arith) (omega (arith, c .stream)) ∙ over-part a (s .counts .flying + 0) (w - 0),
+    )
 
 -- ---- a queuing
 
