@@ -84,8 +84,13 @@ fed (went n fs) ms t k =
       order = order-flies j (t .queue) (k .order);
       taken = k .taken;
       each = λ p.
-          omega (arith, k .each p, count-append p (t .began) (begins j (t .queue)), ap (count p) (begins-behind j (t .queue)),
-          count-append p (begins j (t .queue)) (behind (flies j (t .queue) .begun) (flies j (t .queue) .messages)));
+          omega (
+            arith,
+            k .each p,
+            count-append p (t .began) (begins j (t .queue)),
+            ap (count p) (begins-behind j (t .queue)),
+            count-append p (begins j (t .queue)) (behind (flies j (t .queue) .begun) (flies j (t .queue) .messages)),
+          );
       earliest = λ c.
           let late = behind (flies j (t .queue) .begun) (flies j (t .queue) .messages) in
           k .earliest c ∙ ap (λ (x : List Message). ofClass c (t .began) ++ ofClass c x) (sym (begins-behind j (t .queue)))
