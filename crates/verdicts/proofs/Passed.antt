@@ -94,9 +94,12 @@ module _ (p : Profile) (t : Station) (a : List ℕ) where
       let h₁ = over-first (not (inRange p)) ProfileOutOfRange _ refl h in
       let h₂ = over-first (not (inOrder p)) ShortOverLong _ refl (h₁ .1) in
       let h₃ = over-first (not (stationOk p t a)) Unsound _ refl (h₂ .1) in
-      let k = not-false _ (h₃ .0) in
-      (not-false _ (h₁ .0), not-false _ (h₂ .0), and-second (messagesOk (s .counts .waiting) (t .messages)) (soundOk p s a) k,
-      and-first (messagesOk (s .counts .waiting) (t .messages)) (soundOk p s a) k)
+      let k = not-false _ (h₃ .0) in (
+        not-false _ (h₁ .0),
+        not-false _ (h₂ .0),
+        and-second (messagesOk (s .counts .waiting) (t .messages)) (soundOk p s a) k,
+        and-first (messagesOk (s .counts .waiting) (t .messages)) (soundOk p s a) k,
+      )
 
   -- nor do 11, 8, 9 and 12
   room-passed : (class n : ℕ) → passed (roomVerdict (s .counts) (t .messages .n) class n) ≡ true
@@ -108,14 +111,15 @@ module _ (p : Profile) (t : Station) (a : List ℕ) where
       let h₀ = over-first (ltb maxClass class) BadClass _ refl h in
       let h₁ = over-first (eqb (queueRefusal w k n) 8) QueueFull _ refl (h₀ .1) in
       let h₂ = over-first (eqb (queueRefusal w k n) 9) AllTaken _ refl (h₁ .1) in
-      let h₃ = over-first (ltb 0 n && leb maxMessages (t .messages .n)) TooManyMessages Accepted refl (h₂ .1) in
-      (ltb-false maxClass class (h₀ .0),
-      test (ltb maxWaiting (w + n))
-      (λ x. absurd (false≢true (sym (h₁ .0) ∙ eq-eqb _ _ (full w k n (ltb-true _ _ x)))))
-      (λ x. test (ltb maxTaken (k + n))
-      (λ y. absurd (false≢true (sym (h₂ .0) ∙ eq-eqb _ _ (over w k n (ltb-false _ _ x) (ltb-true _ _ y)))))
-      (λ y. room w k n (ltb-false _ _ x) (ltb-false _ _ y))),
-      λ o. leb-false maxMessages (t .messages .n) (sym (ap (λ (b : Bool). b && leb maxMessages (t .messages .n)) (le-leb 1 n o)) ∙ h₃ .0))
+      let h₃ = over-first (ltb 0 n && leb maxMessages (t .messages .n)) TooManyMessages Accepted refl (h₂ .1) in (
+        ltb-false maxClass class (h₀ .0),
+        test (ltb maxWaiting (w + n))
+            (λ x. absurd (false≢true (sym (h₁ .0) ∙ eq-eqb _ _ (full w k n (ltb-true _ _ x)))))
+            (λ x. test (ltb maxTaken (k + n))
+            (λ y. absurd (false≢true (sym (h₂ .0) ∙ eq-eqb _ _ (over w k n (ltb-false _ _ x) (ltb-true _ _ y)))))
+            (λ y. room w k n (ltb-false _ _ x) (ltb-false _ _ y))),
+        λ o. leb-false maxMessages (t .messages .n) (sym (ap (λ (b : Bool). b && leb maxMessages (t .messages .n)) (le-leb 1 n o)) ∙ h₃ .0),
+      )
 
   pub record Queues (k n : ℕ) : Type 0 where
     pub one : inRange p ≡ true
@@ -138,9 +142,11 @@ module _ (p : Profile) (t : Station) (a : List ℕ) where
   pub queue-room : (class n : ℕ) → passed (queueVerdict p t a class n) ≡ true → (s .counts .flying + s .counts .waiting + n ≤ streamBytes) × (areaBytes ≤ length a) × (s .counts .waiting + n ≤ maxWaiting)
   queue-room class n h =
       let q = queue-passed class n h in
-      let k = s .counts .«next_offset» + s .counts .waiting in
-      (queue-fits (s .counts .waiting) k n (s .counts .flying) (flying-few s (counts-pass p s a (q .sound))) (q .room), sound-rows p s a (q .sound) .1,
-      not-refused (s .counts .waiting) k n (q .room) .0)
+      let k = s .counts .«next_offset» + s .counts .waiting in (
+        queue-fits (s .counts .waiting) k n (s .counts .flying) (flying-few s (counts-pass p s a (q .sound))) (q .room),
+        sound-rows p s a (q .sound) .1,
+        not-refused (s .counts .waiting) k n (q .room) .0,
+      )
 
   pub receive-three : (h : Heard) (r : Reply) (n : ℕ) → passed (receiveVerdict p t a h r n) ≡ true → (inRange p ≡ true) × (inOrder p ≡ true) × (soundOk p s a ≡ true) × Listed
   unfolding receiveVerdict
