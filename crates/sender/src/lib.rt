@@ -2,12 +2,12 @@
 use area::lookup::Found;
 use config::Profile;
 use limits::MAX_SLOTS;
+use messages::fly;
 use outgoing::Frames;
 use outgoing::Outgoing;
-use receive::accepted::answer;
-use messages::fly;
 use queuing::Station;
 use queuing::enqueue;
+use receive::accepted::answer;
 use refusals::Reply;
 use refusals::Verdict;
 use refusals::kind;

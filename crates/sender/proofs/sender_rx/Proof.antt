@@ -73,9 +73,10 @@ returns c =
 answer-requires : tie.Need-answer-requires
 answer-requires c κs =
     let s = S (c .before .before .before) in
-    let ok = accepted (c .before) in
-    (answer-ranged (s .args .p) (s .args .t) (now (s .args .a)) (s .args .h) (s .args .r) (now (s .args .payload)) ok,
-    answerable (s .args .p) (s .args .t) (now (s .args .a)) (s .args .h) (s .args .r) (now (s .args .payload)) ok (arrays s))
+    let ok = accepted (c .before) in (
+      answer-ranged (s .args .p) (s .args .t) (now (s .args .a)) (s .args .h) (s .args .r) (now (s .args .payload)) ok,
+      answerable (s .args .p) (s .args .t) (now (s .args .a)) (s .args .h) (s .args .r) (now (s .args .payload)) ok (arrays s),
+    )
 
 same-length-2 : tie.Need-same-length-2
 same-length-2 c = search needs
