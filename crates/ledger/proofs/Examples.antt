@@ -1,4 +1,4 @@
--- Document 01's reckoned examples of pieces, replies by their bits, a run of calls, and the limits, reached exactly.
+-- Document 01's reckoned examples of pieces, replies by their bits, a run of calls, and the limits, reached exactly; the order of messages.
 -- Assumes nothing.
 use Prim.Native.Nat.{ℕ, zero, suc}
 use mathlib.Core.Path.{_≡_, refl}
@@ -7,7 +7,7 @@ use mathlib.Core.List.{List, [], _∷_}
 use lib.ListN.{length, replicate}
 use Rattle.ledger.specs.Reply.{shortAck, longAck}
 use Rattle.ledger.specs.Ledger.{Piece, len, split, mergeInflight, requeue, dataBurst, hearAck, settleBurst, clearBurst, Held, Sent, Sender, sentOffs}
-use Rattle.ledger.specs.Queue.{enqueue, flies, begins}
+use Rattle.ledger.specs.Queue.{noQueue, messageBytes, goes, enqueue, flies, begins}
 use Rattle.ledger.specs.Tally.{Tally, waits, inFlight, acknowledged, start, queued, sentOut, heard, noneOutstanding}
 use Rattle.ledger.specs.Plan.{parity, room}
 use Rattle.ledger.specs.Calls.{run, tally}
@@ -126,3 +126,23 @@ unmatched = (refl, refl)
 no-frame : (keep : Bool) → heldRows (hearAck 11520 (shortAck 0 63) keep (record { waiting = []; next = 30; acked = 0; pieces = piece 0 30 ∷ []; held = record { off = 0; bits = 2880 } ∷ []; rest = []; sent = []; awaited = true; number = 0 }) .held) ≡ 0 ∷ 2880 ∷ []
 unfolding hearAck settleBurst clearBurst
 no-frame keep = refl
+
+-- ---- messages: "the lowest class waiting goes, the earliest of it first", "a message once begun is finished"
+
+earliest-first : goes (enqueue 1 (7 ∷ []) (enqueue 2 (6 ∷ []) (enqueue 1 (5 ∷ []) noQueue))) ≡ 5 ∷ 7 ∷ 6 ∷ []
+unfolding enqueue
+earliest-first = refl
+
+-- class 0 behind a begun message of class 2; and ahead of one of class 3, where a burst ends with a message
+begun-first : goes (enqueue 0 (9 ∷ []) (flies 1 (enqueue 2 (5 ∷ 6 ∷ []) noQueue))) ≡ 6 ∷ 9 ∷ []
+unfolding enqueue flies
+begun-first = refl
+
+exact-end : goes (enqueue 0 (9 ∷ []) (flies 2 (enqueue 3 (7 ∷ []) (enqueue 2 (5 ∷ 6 ∷ []) noQueue)))) ≡ 9 ∷ 7 ∷ []
+unfolding enqueue flies
+exact-end = refl
+
+-- three bytes begin two messages
+begun-whole : messageBytes (begins 3 (enqueue 3 (7 ∷ 8 ∷ []) (enqueue 2 (5 ∷ 6 ∷ []) noQueue))) ≡ 5 ∷ 6 ∷ 7 ∷ 8 ∷ []
+unfolding enqueue begins
+begun-whole = refl

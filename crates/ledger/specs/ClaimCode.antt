@@ -20,7 +20,8 @@ Carry bs ps [] = Unit {0}
 Carry bs ps (f ∷ fs) =
     (1 ≤ f .len) × (length (find (f .off) ps) ≡ f .len) × (find (f .off) ps ≡ take (f .len) (drop (f .off) bs)) × Carry bs ps fs
 
--- after a list of calls that queued the messages ms and left the sender s, the queue q and the tally t; one further call, told as e, leaves the sender s′
+-- after a list of calls that queued the messages ms and left the sender s, the queue q and the tally t; one further call, told as e, leaves the
+-- sender s′
 pub record LedgerClaim (z : Sizes) (ms : List Message) (s : Sender) (q : Queue) (t : Tally) (e : Event) (s′ : Sender) : Type 0 where
   pub sum : t .taken ≡ length (waits t) + inFlight (t .flown) + acknowledged (t .flown)
   pub taken : t .taken ≡ length (messageBytes ms)

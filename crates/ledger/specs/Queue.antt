@@ -49,7 +49,11 @@ behind true (x ∷ xs) = xs
 -- "a queuing of no bytes makes no message"
 unfoldable pub enqueue : ℕ → List ℕ → Queue → Queue
 enqueue c [] q = q
-enqueue c (b ∷ bs) q = record { begun = q .begun; messages = first (q .begun) (q .messages) ++ insert (record { class = c; bytes = b ∷ bs }) (behind (q .begun) (q .messages)) }
+enqueue c (b ∷ bs) q =
+    record {
+      begun = q .begun;
+      messages = first (q .begun) (q .messages) ++ insert (record { class = c; bytes = b ∷ bs }) (behind (q .begun) (q .messages));
+    }
 
 -- ---- a burst: the first k waiting bytes begin to fly
 
@@ -66,7 +70,8 @@ flies k q = fliesFrom k (q .begun) (q .messages)
 -- the messages of which the first byte is among them, in order: those that begin
 abbrev pub beginsFrom : ℕ → Bool → List Message → List Message
 beginsFrom k b [] = []
-beginsFrom k b (m ∷ ms) = cond (eqb k 0) [] (cond b [] (m ∷ []) ++ cond (leb (length (m .bytes)) k) (beginsFrom (k - length (m .bytes)) false ms) [])
+beginsFrom k b (m ∷ ms) =
+    cond (eqb k 0) [] (cond b [] (m ∷ []) ++ cond (leb (length (m .bytes)) k) (beginsFrom (k - length (m .bytes)) false ms) [])
 
 unfoldable pub begins : ℕ → Queue → List Message
 begins k q = beginsFrom k (q .begun) (q .messages)

@@ -51,7 +51,9 @@ nowhere = record { here = false; start = 0; len = 0 }
 unfoldable pub findOf : Profile → Station → List ℕ → ℕ → Finding
 findOf p t a off =
     let v = standing p t a false in
-    cond (passed v) (record { verdict = v; found = findFrom off 0 (rowsFrom a 0 (t .sender .counts .pieces)) }) (record { verdict = v; found = nowhere })
+    cond (passed v)
+    (record { verdict = v; found = findFrom off 0 (rowsFrom a 0 (t .sender .counts .pieces)) })
+    (record { verdict = v; found = nowhere })
 
 -- the bytes of the piece at an offset; none where the call is refused or no piece is there
 unfoldable pub pieceOf : Profile → Station → List ℕ → ℕ → List ℕ
@@ -75,7 +77,8 @@ noBurst =
 
 -- the messages where the next offset passes from t's to that of s: so many waiting bytes begin to fly
 unfoldable pub messagesAfter : Station → List ℕ → Sender → Messages
-messagesAfter t a s = storeQueue (flies (s .counts .«next_offset» - t .sender .counts .«next_offset») (viewStation t a .queue)) (t .messages)
+messagesAfter t a s =
+    storeQueue (flies (s .counts .«next_offset» - t .sender .counts .«next_offset») (viewStation t a .queue)) (t .messages)
 
 -- the answer with the next record, the work area, the output
 unfoldable pub burstCall : Profile → Station → List ℕ → List ℕ → Bursted × (List ℕ × List ℕ)

@@ -1,4 +1,5 @@
--- The papers' refusals as tables: for each call the numbers that it may come back with, in the order in which they are checked, and the reason of each. Definitions only.
+-- The papers' refusals as tables: for each call the numbers that it may come back with, in the order in which they are checked, and the reason of
+-- each. Definitions only.
 use mathlib.Core.Path.{_≡_}
 use mathlib.Core.Logic.{_⊎_}
 use mathlib.Core.List.{List, [], _∷_, _++_}
@@ -33,7 +34,8 @@ standingReasons p t a connect =
 abbrev pub lookupReasons : Profile → Station → List ℕ → List Reason
 lookupReasons p t a = standingReasons p t a false
 
--- a queuing of n bytes of a class. 11: "a class above 3"; 8: "Waiting bytes would pass 16,384"; 9: "Bytes taken would pass 2^32 - 1"; 12: "a 257th message"
+-- a queuing of n bytes of a class. 11: "a class above 3"; 8: "Waiting bytes would pass 16,384"; 9: "Bytes taken would pass 2^32 - 1"; 12: "a 257th
+-- message"
 abbrev pub queueReasons : Profile → Station → List ℕ → ℕ → ℕ → List Reason
 queueReasons p t a class n =
     standingReasons p t a false
@@ -45,7 +47,8 @@ queueReasons p t a class n =
 abbrev pub replyReasons : Profile → Station → List ℕ → Heard → Reply → ℕ → List Reason
 replyReasons p t a h r n =
     standingReasons p t a (eqb (kindOf r) 0)
-    ++ ((5, not (timeOk (t .sender .link .«last_time») (h .time))) ∷ (6, not (heardOk h && replyOk r)) ∷ (7, eqb (kindOf r) 2 && ltb n 13) ∷ [])
+    ++ ((5, not (timeOk (t .sender .link .«last_time») (h .time)))
+    ∷ (6, not (heardOk h && replyOk r)) ∷ (7, eqb (kindOf r) 2 && ltb n 13) ∷ [])
 
 -- a burst into n bytes of output. 10: "The output is shorter than 64 times the long frame"
 abbrev pub burstReasons : Profile → Station → List ℕ → ℕ → List Reason

@@ -13,7 +13,8 @@ use Rattle.messages.specs.Messages.{messagesOk}
 use Rattle.queuing.specs.declared.Station.{Station}
 use Rattle.replies.specs.declared.Heard.{Heard}
 use Rattle.refusals.specs.declared.Verdict.{Verdict}
-use Rattle.refusals.specs.declared.Verdict.the-variants.{Accepted, ProfileOutOfRange, ShortOverLong, Unsound, OutOfTurn, BadTime, BadValue, ShortPayload, QueueFull, AllTaken, ShortOutput, BadClass, TooManyMessages}
+use Rattle.refusals.specs.declared.Verdict.the-variants.{Accepted, ProfileOutOfRange, ShortOverLong, Unsound, OutOfTurn, BadTime, BadValue}
+use Rattle.refusals.specs.declared.Verdict.the-variants.{ShortPayload, QueueFull, AllTaken, ShortOutput, BadClass, TooManyMessages}
 use Rattle.refusals.specs.declared.Reply.{Reply}
 use Rattle.refusals.specs.Refusals.{numberOf, kindOf, timeOk, heardOk, replyOk}
 use Rattle.limits.specs.Limits.{maxSlots, maxClass, maxMessages}
@@ -41,8 +42,8 @@ replyVerdict last h r n =
     (cond (not (heardOk h && replyOk r)) BadValue
     (cond (eqb (kindOf r) 2 && ltb n 13) ShortPayload Accepted))
 
--- 11, 8, 9 and 12, of n bytes more as one message of this class, where m messages wait: "a class above 3 with 11, before 8, and a 257th message with 12, after
--- 9"; "a queuing of no bytes makes no message"
+-- 11, 8, 9 and 12, of n bytes more as one message of this class, where m messages wait: "a class above 3 with 11, before 8, and a 257th message
+-- with 12, after 9"; "a queuing of no bytes makes no message"
 unfoldable pub roomVerdict : Counts → ℕ → ℕ → ℕ → Verdict
 roomVerdict c m class n =
     let q = queueRefusal (c .waiting) (c .«next_offset» + c .waiting) n in
