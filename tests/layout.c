@@ -1,5 +1,5 @@
-/* The layout of the C interface as the header has it, in the lines of bindings/rust/examples/layout.rs: size and alignment of every struct; offset, size and
- * type of every field. Structs and fields have the names of bindings/rust/src/raw.rs. */
+/* The layout of the C interface as the header has it, in the lines of bindings/rust/examples/layout.rs: size and alignment of every struct;
+ * offset, size and type of every field. Structs and fields have the names of bindings/rust/src/raw.rs. */
 #include <stdio.h>
 #include "vanitycrow.h"
 
@@ -21,6 +21,9 @@ typedef struct vanitycrow_counts Counts;
 typedef struct vanitycrow_at_peer AtPeer;
 typedef struct vanitycrow_last_burst LastBurst;
 typedef struct vanitycrow_sender Sender;
+typedef struct vanitycrow_messages Messages;
+typedef struct vanitycrow_station Station;
+typedef struct vanitycrow_message Message;
 typedef struct vanitycrow_heard Heard;
 typedef struct vanitycrow_conn_ack ConnAck;
 typedef struct vanitycrow_ack Ack;
@@ -35,7 +38,7 @@ typedef struct vanitycrow_listing Listing;
 
 /* The type of a field or of its elements; size_t is uint64_t here. */
 #define KIND(x) \
-    _Generic((x), bool: "bool", bool *: "bool", uint8_t: "u8", uint8_t *: "u8", uint16_t: "u16", uint32_t: "u32", uint32_t *: "u32", uint64_t: "u64", \
+    _Generic((x), bool: "bool", bool *: "bool", uint8_t: "u8", uint8_t *: "u8", uint16_t: "u16", uint16_t *: "u16", uint32_t: "u32", uint32_t *: "u32", uint64_t: "u64", \
              float: "f32", float *: "f32", double: "f64", double *: "f64", default: "struct")
 
 #define S(s) printf("%s %zu %zu\n", #s, sizeof(s), _Alignof(s))
@@ -92,6 +95,12 @@ static void record_lines(void) {
     F(LastBurst, off); F(LastBurst, bits); F(LastBurst, held); F(LastBurst, n);
     S(Sender);
     F(Sender, gear); F(Sender, link); F(Sender, counts); F(Sender, at_peer); F(Sender, last_burst);
+    S(Messages);
+    F(Messages, left); FIELD_CLASS(Messages); F(Messages, n); F(Messages, begun);
+    S(Station);
+    F(Station, sender); F(Station, messages);
+    S(Message);
+    FIELD_CLASS(Message);
 }
 
 static void reply_and_answer_lines(void) {
@@ -108,7 +117,8 @@ static void reply_and_answer_lines(void) {
     S(Frames);
     F(Frames, off); F(Frames, len); F(Frames, start); F(Frames, bits); F(Frames, n);
     S(Outgoing);
-    F(Outgoing, wave); F(Outgoing, code); F(Outgoing, user); F(Outgoing, extra); F(Outgoing, cue); F(Outgoing, td_ease); F(Outgoing, number);
+    F(Outgoing, wave); F(Outgoing, code); F(Outgoing, user); F(Outgoing, extra); F(Outgoing, cue); F(Outgoing, td_ease);
+    F(Outgoing, number);
     F(Outgoing, frames);
     S(Burst);
     F(Burst, refusal); F(Burst, outgoing);
@@ -126,6 +136,7 @@ int main(void) {
     reply_and_answer_lines();
     printf("AREA_BYTES %d\n", VANITYCROW_AREA_BYTES);
     printf("MAX_SLOTS %d\n", VANITYCROW_MAX_SLOTS);
+    printf("MAX_MESSAGES %d\n", VANITYCROW_MAX_MESSAGES);
     printf("ADIF_BYTES %d\n", VANITYCROW_ADIF_BYTES);
     printf("LAST_SECOND %u\n", VANITYCROW_LAST_SECOND);
     return 0;

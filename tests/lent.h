@@ -1,7 +1,7 @@
 /* Buffers lent to the library: bytes before and after each are watched, and a copy tells what a call changed.
  *
- * The library has no instrumentation, so a sanitizer of the calling side does not see its stores: the watched bytes do. Under valgrind, which sees
- * them, watched = 0 makes every buffer a block of its own length. */
+ * The library has no instrumentation, so a sanitizer of the calling side does not see its stores: the watched bytes do. Under valgrind,
+ * which sees them, watched = 0 makes every buffer a block of its own length. */
 #ifndef LENT_H
 #define LENT_H
 #include <stdint.h>

@@ -1,11 +1,12 @@
-/* levels SETS: what the original's `level_for` chooses under so many sets of thresholds, from standard input as `oracle/run levels` writes it, against
- * vanitycrow_levels:
+/* levels SETS: what the original's `level_for` chooses under so many sets of thresholds, from standard input as `oracle/run levels` writes
+ * it, against vanitycrow_levels:
  *
  *     marks EFF_SNR THRESHOLDS MARGIN THRESHOLDS MARGIN    17 thresholds and the margin by their bits: the plain ones, then the effective
  *     for POWER TOP PICK_FAMILY ECHO DOPPLER LEVELS        the levels for reports 0 to 255 under these, a letter each, `a` for level 0
  *
- * From the letters this reckons each listing anew: the whole range, random ranges, ranges of one report and turned ones; under the first thresholds
- * every range of one report; for a line in 20,011 every pair of a lowest and a highest. The last line counts; the status is 1 where one differs. */
+ * From the letters this reckons each listing anew: the whole range, random ranges, ranges of one report and turned ones; under the first
+ * thresholds every range of one report; for a line in 20,011 every pair of a lowest and a highest. The last line counts; the status is 1
+ * where one differs. */
 #include <inttypes.h>
 #include <stdio.h>
 #include <stdlib.h>
@@ -50,7 +51,8 @@ static int alike(unsigned low, unsigned high) {
     if (got.refusal == want.refusal && got.n == want.n && memcmp(got.level, want.level, sizeof got.level) == 0 &&
         memcmp(got.q, want.q, sizeof got.q) == 0 && memcmp(&p, &before, sizeof p) == 0)
         return 1;
-    printf("line %lu, reports %u to %u: refusal %d and %zu levels, not %d and %zu\n", lines, low, high, got.refusal, got.n, want.refusal, want.n);
+    printf("line %lu, reports %u to %u: refusal %d and %zu levels, not %d and %zu\n", lines, low, high, got.refusal, got.n, want.refusal,
+        want.n);
     return 0;
 }
 

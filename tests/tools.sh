@@ -1,8 +1,9 @@
 #!/bin/sh
 # The tools do what they say, over small repositories made here.
 #
-# tools/check-contracts notices what it is there for: in copies of the sources, a removed ensures (of a function, a method, an exported function with its signature over
-# several lines) and an added requires are each reported; a requires where one may stand, and a `pub(crate)` function without ensures, are not.
+# tools/check-contracts notices what it is there for: in copies of the sources, a removed ensures (of a function, a method, an exported
+# function with its signature over several lines) and an added requires are each reported; a requires where one may stand, and a
+# `pub(crate)` function without ensures, are not.
 set -eu
 cd "$(dirname "$0")/.."
 work=$(mktemp -d)
@@ -56,8 +57,8 @@ for source in crates/sender/src/lib.rt crates/station/src/lib.rt; do
     done
 done
 
-# tools/believed follows citations: an alias, a name of the own crate, a module's parameters, a constructor on the left, a struct's fields; and is not taken in by a variable
-# that has a definition's name, a field, or a comment.
+# tools/believed follows citations: an alias, a name of the own crate, a module's parameters, a constructor on the left, a struct's fields;
+# and is not taken in by a variable that has a definition's name, a field, or a comment.
 small=$work/small
 mkdir -p "$small/tools"
 cp tools/believed tools/sources.py "$small/tools/"

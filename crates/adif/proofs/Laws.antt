@@ -20,9 +20,9 @@ use Rattle.calendar.specs.Calendar.{lastSecond, leapYear, monthDays, dateOf, ti
 use Rattle.calendar.specs.Meaning.{secondOf}
 use Rattle.calendar.proofs.Laws.{date-back, second-back}
 use Rattle.adif.specs.declared.Logged.{Logged}
-use Rattle.adif.specs.Adif.{digits, decimal, dateText, timeText, Field, fieldsOf, writtenAll, recordOf, refusalOf, logOf}
+use Rattle.adif.specs.Adif.{lastDigits, numeral, dateText, timeText, Field, fieldsOf, writtenAll, recordOf, refusalOf, logOf}
 use Rattle.adif.specs.Adif.{«CALL», «QSO_DATE», «TIME_ON», «QSO_DATE_OFF», «TIME_OFF», «APP_STATION_ACKED»}
-use Rattle.adif.specs.Reading.{spelled, same, readFields, readRecord, valueOf, dateIn, timeIn}
+use Rattle.adif.specs.Reading.{numberIn, alike, readFields, readRecord, valueOf, dateIn, timeIn}
 use Rattle.adif.specs.Claim.{Holds, ReadBack}
 use Rattle.adif.proofs.Steps.{length-digits, length-date, length-time, decimal-most, record-most}
 use Rattle.adif.proofs.Refusals.{Accepted, accepted}
@@ -32,29 +32,29 @@ use Rattle.adif.proofs.Reading.{Plain, AllPlain, plain-field, fields-ba
 -- ---- dates and times
 
 module _ (i j k a b c : ℕ) where
-  read-1 : a < tens i → spelled 0 (take i (digits i a ++ (digits j b ++ digits k c))) ≡ a
-  read-1 h = ap (spelled 0) (take-at (digits i a) _ i (length-digits i a)) ∙ digits-back i a h
+  read-1 : a < tens i → numberIn 0 (take i (lastDigits i a ++ (lastDigits j b ++ lastDigits k c))) ≡ a
+  read-1 h = ap (numberIn 0) (take-at (lastDigits i a) _ i (length-digits i a)) ∙ digits-back i a h
 
-  read-2 : b < tens j → spelled 0 (take j (drop i (digits i a ++ (digits j b ++ digits k c)))) ≡ b
+  read-2 : b < tens j → numberIn 0 (take j (drop i (lastDigits i a ++ (lastDigits j b ++ lastDigits k c)))) ≡ b
   read-2 h =
-      ap (λ (l : List ℕ). spelled 0 (take j l)) (drop-at (digits i a) _ i (length-digits i a))
-      ∙ ap (spelled 0) (take-at (digits j b) _ j (length-digits j b))
+      ap (λ (l : List ℕ). numberIn 0 (take j l)) (drop-at (lastDigits i a) _ i (length-digits i a))
+      ∙ ap (numberIn 0) (take-at (lastDigits j b) _ j (length-digits j b))
       ∙ digits-back j b h
 
-  read-3 : c < tens k → spelled 0 (take k (drop (i + j) (digits i a ++ (digits j b ++ digits k c)))) ≡ c
+  read-3 : c < tens k → numberIn 0 (take k (drop (i + j) (lastDigits i a ++ (lastDigits j b ++ lastDigits k c)))) ≡ c
   read-3 h =
-      let e : length (digits k c) ≤ k = omega (arith, length-digits k c) in
-      let f : drop (i + j) (digits i a ++ (digits j b ++ digits k c)) ≡ digits k c =
-      sym (drop-drop j i _) ∙ ap (drop j) (drop-at (digits i a) _ i (length-digits i a)) ∙ drop-at (digits j b) _ j (length-digits j b) in
-      ap (λ (l : List ℕ). spelled 0 (take k l)) f
-      ∙ ap (spelled 0) (take-all k (digits k c) e)
+      let e : length (lastDigits k c) ≤ k = omega (arith, length-digits k c) in
+      let f : drop (i + j) (lastDigits i a ++ (lastDigits j b ++ lastDigits k c)) ≡ lastDigits k c =
+      sym (drop-drop j i _) ∙ ap (drop j) (drop-at (lastDigits i a) _ i (length-digits i a)) ∙ drop-at (lastDigits j b) _ j (length-digits j b) in
+      ap (λ (l : List ℕ). numberIn 0 (take k l)) f
+      ∙ ap (numberIn 0) (take-all k (lastDigits k c) e)
       ∙ digits-back k c h
 
 date-eq : (d : Date) (a b c : ℕ) → a ≡ d .year → b ≡ d .month → c ≡ d .day → record { year = a; month = b; day = c } ≡ d
 date-eq d a b c p q r = rw (p, q, r)
 
 date-in-back : (d : Date) → d .year < 10000 → d .month < 100 → d .day < 100
-    → dateIn (digits 4 (d .year) ++ (digits 2 (d .month) ++ digits 2 (d .day))) ≡ d
+    → dateIn (lastDigits 4 (d .year) ++ (lastDigits 2 (d .month) ++ lastDigits 2 (d .day))) ≡ d
 date-in-back d h g f =
     let y = d .year in
     let m = d .month in
@@ -100,7 +100,7 @@ module _ (call : List ℕ) (on off acked : ℕ) (out : List ℕ) where
           plain-field «QSO_DATE_OFF» (dateText off) refl refl (omega (arith, length-date off)),
           (
             plain-field «TIME_OFF» (timeText off) refl refl (omega (arith, length-time off)),
-            (plain-field «APP_STATION_ACKED» (decimal acked) refl refl (omega (arith, decimal-most acked)), tt),
+            (plain-field «APP_STATION_ACKED» (numeral acked) refl refl (omega (arith, decimal-most acked)), tt),
           ),
         ),
       ),
@@ -133,7 +133,7 @@ second-text t h = ap₂ secondOf (date-text-back t h) (time-text-back t) ∙ sec
 
 module _ (call : List ℕ) (on off acked : ℕ) (out : List ℕ) (ok : refusalOf call on off (length out) ≡ 0) (width : acked < 4294967296) where
   holds : Holds call on off acked out (fieldsOf call on off acked) (drop (length (recordOf call on off acked)) out)
-  unfolding valueOf same
+  unfolding valueOf alike
   holds =
       let a = accepted call on off (length out) ok in
       record {

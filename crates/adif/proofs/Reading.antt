@@ -10,8 +10,8 @@ use lib.Dec.{eqb}
 use lib.ListN.{length, take, drop}
 use lib.Seq.{take-append-seam, drop-append-seam}
 use Rattle.laws.proofs.Picks.{and-right, and-first, and-second}
-use Rattle.adif.specs.Adif.{digits, decimal, places, written, Field, writtenAll}
-use Rattle.adif.specs.Reading.{before, behind, spelled, same, tagOf, dataOf, countOf, readFields}
+use Rattle.adif.specs.Adif.{lastDigits, numeral, places, written, Field, writtenAll}
+use Rattle.adif.specs.Reading.{before, behind, numberIn, alike, tagOf, dataOf, tagCount, readFields}
 use Rattle.adif.proofs.Numbers.{decimal-back}
 
 -- ---- lists that a character is not in
@@ -34,14 +34,14 @@ without-cat c [] ys h g = g
 without-cat c (x ∷ xs) ys h g = (h .0, without-cat c xs ys (h .1) g)
 
 -- digits are at most 57
-without-digits : (c k n : ℕ) → 57 < c → Without c (digits k n)
-unfolding digits
+without-digits : (c k n : ℕ) → 57 < c → Without c (lastDigits k n)
+unfolding lastDigits
 without-digits c zero n h = tt
 without-digits c (suc k) n h =
-    without-cat c (digits k (n / 10)) ((48 + n % 10) ∷ []) (without-digits c k (n / 10) h) (ne-eqb (48 + n % 10) c (λ e. omega arith), tt)
+    without-cat c (lastDigits k (n / 10)) ((48 + n % 10) ∷ []) (without-digits c k (n / 10) h) (ne-eqb (48 + n % 10) c (λ e. omega arith), tt)
 
-without-decimal : (c n : ℕ) → 57 < c → Without c (decimal n)
-unfolding decimal
+without-decimal : (c n : ℕ) → 57 < c → Without c (numeral n)
+unfolding numeral
 without-decimal c n h = without-digits c (places 9 n) n h
 
 module _ (c : ℕ) where
@@ -61,8 +61,8 @@ module _ (c : ℕ) where
   before-all (x ∷ xs) h = rw (h .0) (ap (λ (r : List ℕ). x ∷ r) (before-all xs (h .1)))
 
   -- a list with c is none without it
-  same-not : (xs ys zs : List ℕ) → Without c ys → same (xs ++ (c ∷ zs)) ys ≡ false
-  unfolding same
+  same-not : (xs ys zs : List ℕ) → Without c ys → alike (xs ++ (c ∷ zs)) ys ≡ false
+  unfolding alike
   same-not [] [] zs h = refl
   same-not [] (y ∷ ys) zs h = rw (ne-eqb c y (λ e. eqb-false y c (h .0) (sym e)))
   same-not (x ∷ xs) [] zs h = refl
@@ -82,24 +82,24 @@ plain-field name value c a s = record { colon = lacks-without 58 name c; angle =
 
 module _ (name value rest : List ℕ) where
   -- what stands behind the `<`
-  inside : behind 60 (written name value ++ rest) ≡ (name ++ (58 ∷ decimal (length value))) ++ (62 ∷ (value ++ rest))
+  inside : behind 60 (written name value ++ rest) ≡ (name ++ (58 ∷ numeral (length value))) ++ (62 ∷ (value ++ rest))
   unfolding behind written
   inside = simp append-assoc
 
   module _ (angle : Without 62 name) where
-    whole : Without 62 (name ++ (58 ∷ decimal (length value)))
-    whole = without-cat 62 name (58 ∷ decimal (length value)) angle (refl, without-decimal 62 (length value) (omega arith))
+    whole : Without 62 (name ++ (58 ∷ numeral (length value)))
+    whole = without-cat 62 name (58 ∷ numeral (length value)) angle (refl, without-decimal 62 (length value) (omega arith))
 
-    tag : tagOf (written name value ++ rest) ≡ name ++ (58 ∷ decimal (length value))
-    tag = ap (before 62) inside ∙ before-cat 62 (name ++ (58 ∷ decimal (length value))) (value ++ rest) whole
+    tag : tagOf (written name value ++ rest) ≡ name ++ (58 ∷ numeral (length value))
+    tag = ap (before 62) inside ∙ before-cat 62 (name ++ (58 ∷ numeral (length value))) (value ++ rest) whole
 
     chars : dataOf (written name value ++ rest) ≡ value ++ rest
-    chars = ap (behind 62) inside ∙ behind-cat 62 (name ++ (58 ∷ decimal (length value))) (value ++ rest) whole
+    chars = ap (behind 62) inside ∙ behind-cat 62 (name ++ (58 ∷ numeral (length value))) (value ++ rest) whole
 
-  count : Without 58 name → length value < 10000000000 → countOf (name ++ (58 ∷ decimal (length value))) ≡ length value
+  count : Without 58 name → length value < 10000000000 → tagCount (name ++ (58 ∷ numeral (length value))) ≡ length value
   count colon short =
-      ap (λ (d : List ℕ). spelled 0 (before 58 d)) (behind-cat 58 name (decimal (length value)) colon)
-      ∙ ap (spelled 0) (before-all 58 (decimal (length value)) (without-decimal 58 (length value) (omega arith)))
+      ap (λ (d : List ℕ). numberIn 0 (before 58 d)) (behind-cat 58 name (numeral (length value)) colon)
+      ∙ ap (numberIn 0) (before-all 58 (numeral (length value)) (without-decimal 58 (length value) (omega arith)))
       ∙ decimal-back (length value) short
 
 read-field : (k : ℕ) (f : Field) (rest : List ℕ) → Plain f
@@ -109,9 +109,9 @@ read-field k f rest p =
     rw (
       tag (f .name) (f .value) rest (p .angle),
       chars (f .name) (f .value) rest (p .angle),
-      same-not 58 (f .name) (69 ∷ 79 ∷ 82 ∷ []) (decimal (length (f .value))) (refl, (refl, (refl, tt))),
+      same-not 58 (f .name) (69 ∷ 79 ∷ 82 ∷ []) (numeral (length (f .value))) (refl, (refl, (refl, tt))),
       count (f .name) (f .value) rest (p .colon) (p .short),
-      before-cat 58 (f .name) (decimal (length (f .value))) (p .colon),
+      before-cat 58 (f .name) (numeral (length (f .value))) (p .colon),
       take-append-seam (f .value) rest,
       drop-append-seam (f .value) rest,
     )
@@ -123,7 +123,7 @@ AllPlain [] = Unit {0}
 AllPlain (f ∷ fs) = Plain f × AllPlain fs
 
 read-end : (k : ℕ) (rest : List ℕ) → readFields (suc k) (writtenAll [] ++ rest) ≡ ([], rest)
-unfolding readFields before behind same
+unfolding readFields before behind alike
 read-end k rest = refl
 
 pub fields-back : (fs : List Field) (rest : List ℕ) (k : ℕ) → AllPlain fs → length fs ≤ k

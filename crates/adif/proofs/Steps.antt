@@ -20,7 +20,7 @@ use Rattle.calendar.specs.declared.Time.{Time}
 use Rattle.calendar.specs.Calendar.{dateOf, timeOf}
 use lib.Seq.{take-at}
 use Rattle.adif.specs.Adif.{«CALL», «QSO_DATE», «TIME_ON», «QSO_DATE_OFF», «TIME_OFF», «APP_STATION_ACKED»}
-use Rattle.adif.specs.Adif.{digits, places, decimal, dateText, timeText, written, writtenAll, recordOf, signChar, signOk}
+use Rattle.adif.specs.Adif.{lastDigits, places, numeral, dateText, timeText, written, writtenAll, recordOf, signChar, signOk}
 use Rattle.adif.specs.AdifCode.{Put, moment}
 
 -- ---- the loop that counts digits
@@ -49,8 +49,8 @@ module _ (k r z : ℕ) (inv : z ≡ (k - 1) + places (10 - k) r) (from : 1 ≤ k
 
 -- ---- digits
 
-pub length-digits : (k n : ℕ) → length (digits k n) ≡ k
-unfolding digits
+pub length-digits : (k n : ℕ) → length (lastDigits k n) ≡ k
+unfolding lastDigits
 length-digits zero n = refl
 length-digits (suc k) n =
     let e = length-digits k (n / 10) in
@@ -58,16 +58,16 @@ length-digits (suc k) n =
 
 -- a digit stored, then those before it
 pub digits-next : (l : List ℕ) (at i n : ℕ)
-    → overwrite (set l (at + i) (48 + n % 10)) at (digits i (n / 10)) ≡ overwrite l at (digits (suc i) n)
-unfolding digits
+    → overwrite (set l (at + i) (48 + n % 10)) at (lastDigits i (n / 10)) ≡ overwrite l at (lastDigits (suc i) n)
+unfolding lastDigits
 digits-next l at i n =
-    let xs = digits i (n / 10) in
+    let xs = lastDigits i (n / 10) in
     let c = (48 + n % 10) ∷ [] in
     let e = set-over l (at + i) (48 + n % 10) ∙ ap (λ (j : ℕ). overwrite l (at + j) c) (sym (length-digits i (n / 10))) in
     ap (λ (m : List ℕ). overwrite m at xs) e ∙ over-front l at xs c
 
-pub digits-none : (l : List ℕ) (at n : ℕ) → overwrite l at (digits 0 n) ≡ l
-unfolding digits
+pub digits-none : (l : List ℕ) (at n : ℕ) → overwrite l at (lastDigits 0 n) ≡ l
+unfolding lastDigits
 digits-none l at n = over-nil l at
 
 -- ---- a decimal has 1 to 10 digits
@@ -82,11 +82,11 @@ unfolding places
 places-most zero n = omega arith
 places-most (suc k) n = by (λ (x : ℕ). x ≤ suc (suc k)) (ltb n 10) (λ e. omega arith) (λ e. omega (arith, places-most k (n / 10)))
 
-pub length-decimal : (n : ℕ) → length (decimal n) ≡ places 9 n
-unfolding decimal
+pub length-decimal : (n : ℕ) → length (numeral n) ≡ places 9 n
+unfolding numeral
 length-decimal n = length-digits (places 9 n) n
 
-pub decimal-most : (n : ℕ) → length (decimal n) ≤ 10
+pub decimal-most : (n : ℕ) → length (numeral n) ≤ 10
 decimal-most n = omega (arith, length-decimal n, places-most 9 n)
 
 -- ---- one piece after the other
@@ -108,30 +108,30 @@ put-whole l bs e =
 
 -- three runs of digits that fill a list
 three : (l x y z : List ℕ) (i j k a b c : ℕ) → length l ≡ i + j + k
-    → x ≡ overwrite l 0 (digits i a) → y ≡ overwrite x i (digits j b) → z ≡ overwrite y (i + j) (digits k c)
-    → z ≡ digits i a ++ (digits j b ++ digits k c)
+    → x ≡ overwrite l 0 (lastDigits i a) → y ≡ overwrite x i (lastDigits j b) → z ≡ overwrite y (i + j) (lastDigits k c)
+    → z ≡ lastDigits i a ++ (lastDigits j b ++ lastDigits k c)
 three l x y z i j k a b c n p q r =
-    let u : Put l 0 (digits i a) x i = (p, omega (arith, length-digits i a)) in
-    let v : Put x i (digits j b) y (i + j) = (q, omega (arith, length-digits j b)) in
-    let w : Put y (i + j) (digits k c) z (i + j + k) = (r, omega (arith, length-digits k c)) in
+    let u : Put l 0 (lastDigits i a) x i = (p, omega (arith, length-digits i a)) in
+    let v : Put x i (lastDigits j b) y (i + j) = (q, omega (arith, length-digits j b)) in
+    let w : Put y (i + j) (lastDigits k c) z (i + j + k) = (r, omega (arith, length-digits k c)) in
     let t = put-more _ _ _ _ _ _ _ _ u (put-more _ _ _ _ _ _ _ _ v w) in
     t .0 ∙ put-whole l _ (omega (arith, t .1))
 
 pub date-made : (l x y z : List ℕ) (t : ℕ) (d : Date) → length l ≡ 8 → d ≡ dateOf t
-    → x ≡ overwrite l 0 (digits 4 (d .year)) → y ≡ overwrite x 4 (digits 2 (d .month))
-    → z ≡ overwrite y 6 (digits 2 (d .day)) → z ≡ dateText t
+    → x ≡ overwrite l 0 (lastDigits 4 (d .year)) → y ≡ overwrite x 4 (lastDigits 2 (d .month))
+    → z ≡ overwrite y 6 (lastDigits 2 (d .day)) → z ≡ dateText t
 unfolding dateText
 date-made l x y z t d n e p q r =
     three l x y z 4 2 2 (d .year) (d .month) (d .day) n p q r
-    ∙ ap (λ (f : Date). digits 4 (f .year) ++ (digits 2 (f .month) ++ digits 2 (f .day))) e
+    ∙ ap (λ (f : Date). lastDigits 4 (f .year) ++ (lastDigits 2 (f .month) ++ lastDigits 2 (f .day))) e
 
 pub time-made : (l x y z : List ℕ) (t : ℕ) (d : Time) → length l ≡ 6 → d ≡ timeOf t
-    → x ≡ overwrite l 0 (digits 2 (d .hour)) → y ≡ overwrite x 2 (digits 2 (d .minute))
-    → z ≡ overwrite y 4 (digits 2 (d .second)) → z ≡ timeText t
+    → x ≡ overwrite l 0 (lastDigits 2 (d .hour)) → y ≡ overwrite x 2 (lastDigits 2 (d .minute))
+    → z ≡ overwrite y 4 (lastDigits 2 (d .second)) → z ≡ timeText t
 unfolding timeText
 time-made l x y z t d n e p q r =
     three l x y z 2 2 2 (d .hour) (d .minute) (d .second) n p q r
-    ∙ ap (λ (f : Time). digits 2 (f .hour) ++ (digits 2 (f .minute) ++ digits 2 (f .second))) e
+    ∙ ap (λ (f : Time). lastDigits 2 (f .hour) ++ (lastDigits 2 (f .minute) ++ lastDigits 2 (f .second))) e
 
 pub length-date : (t : ℕ) → length (dateText t) ≡ 8
 unfolding dateText
@@ -141,9 +141,9 @@ pub length-time : (t : ℕ) → length (timeText t) ≡ 6
 unfolding timeText
 length-time t = simp (length-append, length-digits)
 
-pub decimal-made : (l x : List ℕ) (at n k : ℕ) → k ≡ places 9 n → x ≡ overwrite l at (digits k n) → Put l at (decimal n) x (at + k)
-unfolding decimal
-decimal-made l x at n k e p = (p ∙ ap (λ (j : ℕ). overwrite l at (digits j n)) e, omega (arith, length-digits (places 9 n) n))
+pub decimal-made : (l x : List ℕ) (at n k : ℕ) → k ≡ places 9 n → x ≡ overwrite l at (lastDigits k n) → Put l at (numeral n) x (at + k)
+unfolding numeral
+decimal-made l x at n k e p = (p ∙ ap (λ (j : ℕ). overwrite l at (lastDigits j n)) e, omega (arith, length-digits (places 9 n) n))
 
 pub length-written : (name value : List ℕ) → length (written name value) ≤ length name + length value + 13
 unfolding written
@@ -155,10 +155,10 @@ prefix-made l x bs k p h =
     let n : length bs ≡ k = omega (arith, p .1) in
     ap (take k) (p .0 ∙ over-eq l 0 bs (omega arith)) ∙ take-at bs _ k n
 
-pub count-made : (l x name m o : List ℕ) (at n k q : ℕ) → Put l 0 (decimal n) x k → 10 ≤ length l
-    → Put m at (written name (take k x)) o q → Put m at (written name (decimal n)) o q
+pub count-made : (l x name m o : List ℕ) (at n k q : ℕ) → Put l 0 (numeral n) x k → 10 ≤ length l
+    → Put m at (written name (take k x)) o q → Put m at (written name (numeral n)) o q
 count-made l x name m o at n k q p h r =
-    rw (prefix-made l x (decimal n) k p (omega (arith, decimal-most n))) at r
+    rw (prefix-made l x (numeral n) k p (omega (arith, decimal-most n))) at r
 
 -- ---- the fields of a second
 
@@ -181,15 +181,15 @@ on-most t = omega (arith, moment-most «QSO_DATE» «TIME_ON» t)
 pub off-most : (t : ℕ) → length (moment «QSO_DATE_OFF» «TIME_OFF» t) ≤ 60
 off-most t = omega (arith, moment-most «QSO_DATE_OFF» «TIME_OFF» t)
 
-pub acked-most : (n : ℕ) → length (written «APP_STATION_ACKED» (decimal n)) ≤ 40
-acked-most n = omega (arith, length-written «APP_STATION_ACKED» (decimal n), decimal-most n)
+pub acked-most : (n : ℕ) → length (written «APP_STATION_ACKED» (numeral n)) ≤ 40
+acked-most n = omega (arith, length-written «APP_STATION_ACKED» (numeral n), decimal-most n)
 
 module _ (call : List ℕ) (on off acked : ℕ) where
   pub record-made : (l m₁ m₂ m₃ m₄ o : List ℕ) (p₁ p₂ p₃ p₄ q : ℕ)
       → Put l 0 (written «CALL» call) m₁ p₁
       → Put m₁ p₁ (moment «QSO_DATE» «TIME_ON» on) m₂ p₂
       → Put m₂ p₂ (moment «QSO_DATE_OFF» «TIME_OFF» off) m₃ p₃
-      → Put m₃ p₃ (written «APP_STATION_ACKED» (decimal acked)) m₄ p₄
+      → Put m₃ p₃ (written «APP_STATION_ACKED» (numeral acked)) m₄ p₄
       → Put m₄ p₄ (writtenAll []) o q
       → Put l 0 (recordOf call on off acked) o q
   unfolding recordOf

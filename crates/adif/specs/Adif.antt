@@ -12,9 +12,9 @@ use Rattle.adif.specs.declared.Logged.{Logged}
 -- ---- numbers as characters
 
 -- the last k digits of n, zeros in front
-unfoldable pub digits : ℕ → ℕ → List ℕ
-digits zero n = []
-digits (suc k) n = digits k (n / 10) ++ ((48 + n % 10) ∷ [])
+unfoldable pub lastDigits : ℕ → ℕ → List ℕ
+lastDigits zero n = []
+lastDigits (suc k) n = lastDigits k (n / 10) ++ ((48 + n % 10) ∷ [])
 
 -- how many digits n has, of at most k + 1
 unfoldable pub places : ℕ → ℕ → ℕ
@@ -22,22 +22,22 @@ places zero n = 1
 places (suc k) n = cond (ltb n 10) 1 (suc (places k (n / 10)))
 
 -- "in decimal with no leading zero", of a number below 10^10
-unfoldable pub decimal : ℕ → List ℕ
-decimal n = digits (places 9 n) n
+unfoldable pub numeral : ℕ → List ℕ
+numeral n = lastDigits (places 9 n) n
 
 -- "Dates are eight digits", year, month, day
 unfoldable pub dateText : ℕ → List ℕ
-dateText t = digits 4 (dateOf t .year) ++ (digits 2 (dateOf t .month) ++ digits 2 (dateOf t .day))
+dateText t = lastDigits 4 (dateOf t .year) ++ (lastDigits 2 (dateOf t .month) ++ lastDigits 2 (dateOf t .day))
 
 -- "and times six": hour, minute, second
 unfoldable pub timeText : ℕ → List ℕ
-timeText t = digits 2 (timeOf t .hour) ++ (digits 2 (timeOf t .minute) ++ digits 2 (timeOf t .second))
+timeText t = lastDigits 2 (timeOf t .hour) ++ (lastDigits 2 (timeOf t .minute) ++ lastDigits 2 (timeOf t .second))
 
 -- ---- the record
 
 -- "Each field is `<NAME:count>` and its characters, with no spaces between"
 unfoldable pub written : List ℕ → List ℕ → List ℕ
-written name value = (60 ∷ []) ++ (name ++ ((58 ∷ []) ++ (decimal (length value) ++ ((62 ∷ []) ++ value))))
+written name value = (60 ∷ []) ++ (name ++ ((58 ∷ []) ++ (numeral (length value) ++ ((62 ∷ []) ++ value))))
 
 pub record Field : Type 0 where
   pub name : List ℕ
@@ -74,7 +74,7 @@ fieldsOf call on off acked =
     ∷ record { name = «TIME_ON»; value = timeText on }
     ∷ record { name = «QSO_DATE_OFF»; value = dateText off }
     ∷ record { name = «TIME_OFF»; value = timeText off }
-    ∷ record { name = «APP_STATION_ACKED»; value = decimal acked }
+    ∷ record { name = «APP_STATION_ACKED»; value = numeral acked }
     ∷ []
 
 unfoldable pub recordOf : List ℕ → ℕ → ℕ → ℕ → List ℕ

@@ -7,7 +7,7 @@ use lib.ListN.{length, drop, getD}
 use Rattle.calendar.specs.Meaning.{secondOf}
 use Rattle.adif.specs.Adif.{Field, fieldsOf, refusalOf, logOf, «CALL», «QSO_DATE», «TIME_ON», «QSO_DATE_OFF», «TIME_OFF»}
 use Rattle.adif.specs.Adif.{«APP_STATION_ACKED»}
-use Rattle.adif.specs.Reading.{spelled, readRecord, valueOf, dateIn, timeIn}
+use Rattle.adif.specs.Reading.{numberIn, readRecord, valueOf, dateIn, timeIn}
 
 -- what is read of an output: the fields fs up to `<EOR>`, then rest, which is the output's as it was
 pub record Holds (call : List ℕ) (on off acked : ℕ) (out : List ℕ) (fs : List Field) (rest : List ℕ) : Type 0 where
@@ -18,7 +18,7 @@ pub record Holds (call : List ℕ) (on off acked : ℕ) (out : List ℕ) (fs : L
   pub end : secondOf (dateIn (valueOf «QSO_DATE_OFF» fs)) (timeIn (valueOf «TIME_OFF» fs)) ≡ off
   pub dates : (length (valueOf «QSO_DATE» fs) ≡ 8) × (length (valueOf «QSO_DATE_OFF» fs) ≡ 8)
   pub times : (length (valueOf «TIME_ON» fs) ≡ 6) × (length (valueOf «TIME_OFF» fs) ≡ 6)
-  pub count : spelled 0 (valueOf «APP_STATION_ACKED» fs) ≡ acked
+  pub count : numberIn 0 (valueOf «APP_STATION_ACKED» fs) ≡ acked
   -- "with no leading zero"
   pub leading : 1 ≤ acked → 49 ≤ getD (valueOf «APP_STATION_ACKED» fs) 0 0
 

@@ -20,15 +20,15 @@ behind c [] = []
 behind c (x ∷ xs) = cond (eqb x c) xs (behind c xs)
 
 -- the number that digits spell, after those that spell v
-unfoldable pub spelled : ℕ → List ℕ → ℕ
-spelled v [] = v
-spelled v (c ∷ cs) = spelled (10 * v + (c - 48)) cs
+unfoldable pub numberIn : ℕ → List ℕ → ℕ
+numberIn v [] = v
+numberIn v (c ∷ cs) = numberIn (10 * v + (c - 48)) cs
 
-unfoldable pub same : List ℕ → List ℕ → Bool
-same [] [] = true
-same [] (y ∷ ys) = false
-same (x ∷ xs) [] = false
-same (x ∷ xs) (y ∷ ys) = eqb x y && same xs ys
+unfoldable pub alike : List ℕ → List ℕ → Bool
+alike [] [] = true
+alike [] (y ∷ ys) = false
+alike (x ∷ xs) [] = false
+alike (x ∷ xs) (y ∷ ys) = eqb x y && alike xs ys
 
 -- the tag, and what stands behind it
 abbrev pub tagOf : List ℕ → List ℕ
@@ -37,16 +37,16 @@ tagOf bs = before 62 (behind 60 bs)
 abbrev pub dataOf : List ℕ → List ℕ
 dataOf bs = behind 62 (behind 60 bs)
 
-abbrev pub countOf : List ℕ → ℕ
-countOf tag = spelled 0 (before 58 (behind 58 tag))
+abbrev pub tagCount : List ℕ → ℕ
+tagCount tag = numberIn 0 (before 58 (behind 58 tag))
 
 -- the fields up to `<EOR>`, at most k, and what stands behind that
 unfoldable pub readFields : ℕ → List ℕ → List Field × List ℕ
 readFields zero bs = ([], bs)
 readFields (suc k) bs =
-    cond (same (tagOf bs) (69 ∷ 79 ∷ 82 ∷ []))
+    cond (alike (tagOf bs) (69 ∷ 79 ∷ 82 ∷ []))
     ([], dataOf bs)
-    (let n = countOf (tagOf bs) in
+    (let n = tagCount (tagOf bs) in
     let r = readFields k (drop n (dataOf bs)) in (record { name = before 58 (tagOf bs); value = take n (dataOf bs) } ∷ r .0, r .1))
 
 -- a record of any number of fields
@@ -56,11 +56,11 @@ readRecord bs = readFields (length bs) bs
 -- the characters of the field with a name
 unfoldable pub valueOf : List ℕ → List Field → List ℕ
 valueOf name [] = []
-valueOf name (f ∷ fs) = cond (same (f .name) name) (f .value) (valueOf name fs)
+valueOf name (f ∷ fs) = cond (alike (f .name) name) (f .value) (valueOf name fs)
 
 -- a date YYYYMMDD and a time HHMMSS
 abbrev pub dateIn : List ℕ → Date
-dateIn cs = record { year = spelled 0 (take 4 cs); month = spelled 0 (take 2 (drop 4 cs)); day = spelled 0 (take 2 (drop 6 cs)) }
+dateIn cs = record { year = numberIn 0 (take 4 cs); month = numberIn 0 (take 2 (drop 4 cs)); day = numberIn 0 (take 2 (drop 6 cs)) }
 
 abbrev pub timeIn : List ℕ → Time
-timeIn cs = record { hour = spelled 0 (take 2 cs); minute = spelled 0 (take 2 (drop 2 cs)); second = spelled 0 (take 2 (drop 4 cs)) }
+timeIn cs = record { hour = numberIn 0 (take 2 cs); minute = numberIn 0 (take 2 (drop 2 cs)); second = numberIn 0 (take 2 (drop 4 cs)) }

@@ -7,7 +7,7 @@ ghost use mathlib.Core.List.{[], _∷_};
 ghost use Prim.Native.Nat.{_+_, _≤_};
 ghost use lib.ListN.{length};
 ghost use Rattle.laws.specs.Bytes.{overwrite};
-ghost use Rattle.adif.specs.Adif.{digits, places, decimal, dateText, timeText, written, recordOf};
+ghost use Rattle.adif.specs.Adif.{lastDigits, places, numeral, dateText, timeText, written, recordOf};
 ghost use Rattle.adif.specs.Adif.{signChar, signOk, refusalOf, logOf};
 ghost use Rattle.adif.specs.AdifCode.{Put, moment};
 
@@ -41,7 +41,7 @@ fn put_all(out: &mut [u8], at: usize, bytes: &[u8]) -> usize
 // The last k digits of n, zeros in front, from the last to the first.
 fn put_digits(out: &mut [u8], at: usize, k: usize, n: u64)
     requires { ⌜ at + k ≤ length (now out) ⌝ }
-    ensures { λ _. ⌜ now (out .exit) ≡ overwrite (now (out .entry)) at (digits k n) ⌝ }
+    ensures { λ _. ⌜ now (out .exit) ≡ overwrite (now (out .entry)) at (lastDigits k n) ⌝ }
 {
     let mut i = k;
     let mut rest = n;
@@ -71,7 +71,7 @@ fn count_digits(n: u64) -> usize
 // A number in decimal.
 fn put_decimal(out: &mut [u8], at: usize, n: u64) -> usize
     requires { ⌜ at + 10 ≤ length (now out) ⌝ }
-    ensures { λ r. ⌜ Put (now (out .entry)) at (decimal n) (now (out .exit)) r ⌝ }
+    ensures { λ r. ⌜ Put (now (out .entry)) at (numeral n) (now (out .exit)) r ⌝ }
 {
     let k = count_digits(n);
     put_digits(out, at, k, n);
@@ -126,7 +126,7 @@ fn put_moment(out: &mut [u8], at: usize, dated: &[u8], timed: &[u8], t: u64) -> 
 
 fn put_count(out: &mut [u8], at: usize, name: &[u8], n: u32) -> usize
     requires { ⌜ at + (length (now name) + 23) ≤ length (now out) ⌝ }
-    ensures { λ r. ⌜ Put (now (out .entry)) at (written (now (name .entry)) (decimal n)) (now (out .exit)) r ⌝ }
+    ensures { λ r. ⌜ Put (now (out .entry)) at (written (now (name .entry)) (numeral n)) (now (out .exit)) r ⌝ }
 {
     let mut text = [0u8; 10];
     let k = put_decimal(&mut text, 0, n as u64);

@@ -6,13 +6,13 @@ use Rattle.calendar.specs.declared.Time.{Time}
 use Rattle.calendar.specs.Calendar.{lastSecond, yearDays, monthDays, dateOf, timeOf}
 
 -- f a + f (a + 1) + .., n of them
-unfoldable pub total : (ℕ → ℕ) → ℕ → ℕ → ℕ
-total f a zero = 0
-total f a (suc n) = f a + total f (a + 1) n
+unfoldable pub sumFrom : (ℕ → ℕ) → ℕ → ℕ → ℕ
+sumFrom f a zero = 0
+sumFrom f a (suc n) = f a + sumFrom f (a + 1) n
 
 -- a day's number, 0 for 1 January 1970: the days of the years before, of the months before, and of the month
 abbrev pub dayNumber : Date → ℕ
-dayNumber d = total yearDays 1970 (d .year - 1970) + (total (monthDays (d .year)) 1 (d .month - 1) + (d .day - 1))
+dayNumber d = sumFrom yearDays 1970 (d .year - 1970) + (sumFrom (monthDays (d .year)) 1 (d .month - 1) + (d .day - 1))
 
 -- a date that the calendar has
 pub record Valid (d : Date) : Type 0 where

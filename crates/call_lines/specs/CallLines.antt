@@ -1,4 +1,5 @@
--- A call's line, read (docs/CALLS.md, Calls): what its words mean. `chars` are the line's characters, `r` how far it was read. Definitions only.
+-- A call's line, read (docs/CALLS.md, Calls): what its words mean. `chars` are the line's characters, `r` how far it was read.
+-- Definitions only.
 use mathlib.Core.Bool.{Bool, cond, not, _&&_, _||_}
 use mathlib.Core.List.{List}
 use Prim.Native.Nat.{ℕ, _%_}
@@ -29,7 +30,10 @@ heardFirst chars r =
     let time : Read = readAs (bitsOf 16) chars r in
     let wave : Read = readAs decimalOf chars time in
     let here : Read = readAs (bitsOf 8) chars wave in
-    record { heard = record { time = ofBits binary64 (time .value); wave = fieldByte (wave .value); «snr_db» = singleOf (here .value) }; read = here }
+    record {
+      heard = record { time = ofBits binary64 (time .value); wave = fieldByte (wave .value); «snr_db» = singleOf (here .value) };
+      read = here;
+    }
 
 -- ECHO, DOPPLER and SLOT
 unfoldable pub classWords : List ℕ → Read → ClassWords

@@ -27,4 +27,5 @@ asking chars = orCalls noName chars ((text "short", 3) ∷ (text "queue", 2) ∷
 unfoldable pub callOf : List ℕ → Named
 callOf chars =
     orCalls (asking chars) chars
-    ((text "burst", 6) ∷ (text "piece", 7) ∷ (text "log", 8) ∷ (text "state", 9) ∷ (text "area", 10) ∷ (text "out", 11) ∷ (text "levels", 12) ∷ [])
+    ((text "burst", 6) ∷ (text "piece", 7) ∷ (text "log", 8) ∷ (text "state", 9) ∷ (text "area", 10) ∷ (text "out", 11)
+    ∷ (text "levels", 12) ∷ [])

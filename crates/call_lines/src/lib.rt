@@ -20,7 +20,8 @@ ghost use mathlib.Core.Path.{_≡_};
 ghost use lib.ListN.{length};
 ghost use Rattle.words.specs.Words.{hexInto};
 ghost use Rattle.words.specs.Lines.{charsOf, nextWord};
-ghost use Rattle.call_lines.specs.CallLines.{fieldByte, heardFirst, classWords, wishWords, burstWords, connectLine, shortLine, turnLine, longWishes, longLine, logLineRead, rangeLine};
+ghost use Rattle.call_lines.specs.CallLines.{fieldByte, heardFirst, classWords, wishWords, burstWords, connectLine, shortLine};
+ghost use Rattle.call_lines.specs.CallLines.{turnLine, longWishes, longLine, logLineRead, rangeLine};
 
 pub mod names;
 
@@ -218,7 +219,8 @@ pub struct LongLine {
 
 pub fn long_words(line: &[u8], r: Read, bytes: &mut [u8]) -> LongLine
     ensures { λ q. ⌜ q ≡ longLine (length (now (bytes .entry))) (now (line .entry)) r ⌝ }
-    ensures { λ _. ⌜ now (bytes .exit) ≡ hexInto (now (bytes .entry)) (charsOf (now (line .entry)) (nextWord (now (line .entry)) (longWishes (now (line .entry)) r .read))) ⌝ }
+    ensures { λ _. ⌜ now (bytes .exit)
+        ≡ hexInto (now (bytes .entry)) (charsOf (now (line .entry)) (nextWord (now (line .entry)) (longWishes (now (line .entry)) r .read))) ⌝ }
 {
     let h = heard_first(line, r);
     let heard = h.heard;

@@ -3,10 +3,6 @@ pub mod TotalOrder
 pub mod Intervals
 pub mod GearRanges
 pub mod Shares
-pub mod ExpRest
-pub mod NarrowBounds
-pub mod ExpBounds
 pub mod Durations
 pub mod Losses
-pub mod Holds
 pub mod Reports

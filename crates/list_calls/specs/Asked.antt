@@ -56,7 +56,8 @@ bytesIn n chars r = take n (hexInto room (charsOf chars (nextWord chars r)))
 unfoldable pub longAsked : Profile → Sender → List ℕ → List ℕ → Read → Asked × List ℕ
 longAsked p s a chars r =
     let q : LongLine = longLine (length room) chars r in
-    asked (q .ok) s a (answerNumber (receiveOf p s a (q .heard) (R.LongAck (q .reply)) (bytesIn (q .payload) chars (longWishes chars r .read))))
+    asked (q .ok) s a (answerNumber (receiveOf p s a (q .heard) (R.LongAck (q .reply))
+    (bytesIn (q .payload) chars (longWishes chars r .read))))
 
 unfoldable pub queueAsked : Profile → Sender → List ℕ → List ℕ → Read → Asked × List ℕ
 queueAsked p s a chars r =

@@ -1,6 +1,6 @@
 // The calls of a list that ask the sender, with their answers (docs/CALLS.md, Calls). Of the transcript's buffer t, n bytes are used.
 use crate::ask;
-use crate::least;
+use byte_copy::least;
 use call_lines::names::BURST;
 use call_lines::names::Named;
 use call_lines::names::PIECE;
@@ -74,7 +74,7 @@ fn burst(
         return wrong(n, s);
     }
     let size = frame_size(p, s);
-    let b = held::data_burst(p, s, area, out);
+    let b = numbered::data_burst(p, s, area, out);
     let next = b.next;
     let text = burst_text(b.burst, size, out, t, n);
     Said {
@@ -89,13 +89,13 @@ fn piece_text(at: u64, p: Profile, s: Sender, area: &[u8], t: &mut [u8], n: usiz
     ensures { λ r. ⌜ (r, now (t .exit)) ≡ appended (n, now (t .entry)) (pieceText p s (now (area .entry)) at) ⌝ }
 {
     let off = (at % 4294967296) as u32;
-    let found = held::find(p, s, area, off);
+    let found = numbered::find(p, s, area, off);
     let refusal = found.refusal;
     if refusal != 0 {
         return transcript::answer(t, n, b"piece", refusal);
     }
     if found.here & (at < 4294967296) {
-        return transcript::piece(t, n, held::piece(p, s, area, off));
+        return transcript::piece(t, n, sender::piece(p, s, area, off));
     }
     transcript::no_piece(t, n)
 }

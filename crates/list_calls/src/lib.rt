@@ -1,5 +1,6 @@
-// The lines of a call list that ask the sender, a queuing or a reply (docs/CALLS.md, Calls): each is read, and its call is made over a record
-// that is held by value. The module `answers` has these with their answers, a burst and the question for a piece.
+// The lines of a call list that ask the sender, a queuing or a reply (docs/CALLS.md, Calls): each is read, and its call is made over a
+// record by value. The module `answers` has these with their answers, a burst and the question for a piece.
+use byte_copy::least;
 use call_lines::connect_words;
 use call_lines::long_words;
 use call_lines::names::CONNECT;
@@ -16,8 +17,6 @@ use words::Read;
 use words::done;
 use words::hex;
 ghost use mathlib.Core.Path.{_≡_};
-ghost use Prim.Native.Nat.{_≤_};
-ghost use lib.ListN.{length, take};
 ghost use Rattle.list_calls.specs.Asked.{broken, connectAsked, shortAsked, turnAsked, longAsked, queueAsked, askedOf};
 
 pub mod answers;
@@ -43,15 +42,6 @@ fn broken(s: Sender) -> Asked
     }
 }
 
-// n, or all of a slice where that is less.
-pub(crate) fn least(n: usize, a: &[u8]) -> usize
-    ensures { λ r. ⌜ r ≤ length (now (a .entry)) ⌝ }
-    ensures { λ r. ⌜ r ≡ length (take r (now (a .entry))) ⌝ }
-    ensures { λ r. ⌜ take r (now (a .entry)) ≡ take n (now (a .entry)) ⌝ }
-{
-    if n < a.len() { n } else { a.len() }
-}
-
 fn connect(line: &[u8], r: Read, p: Profile, s: Sender, area: &mut [u8]) -> Asked
     ensures { λ q. ⌜ (q, now (area .exit)) ≡ connectAsked p s (now (area .entry)) (now (line .entry)) r ⌝ }
 {
@@ -59,7 +49,7 @@ fn connect(line: &[u8], r: Read, p: Profile, s: Sender, area: &mut [u8]) -> Aske
     if !q.ok {
         return broken(s);
     }
-    let left = held::connect(p, s, area, q.heard, q.reply);
+    let left = numbered::connect(p, s, area, q.heard, q.reply);
     Asked { ok: true, left }
 }
 
@@ -70,7 +60,7 @@ fn short(line: &[u8], r: Read, p: Profile, s: Sender, area: &mut [u8]) -> Asked
     if !q.ok {
         return broken(s);
     }
-    let left = held::short_ack(p, s, area, q.heard, q.reply);
+    let left = numbered::short_ack(p, s, area, q.heard, q.reply);
     Asked { ok: true, left }
 }
 
@@ -81,7 +71,7 @@ fn turn(line: &[u8], r: Read, p: Profile, s: Sender, area: &mut [u8]) -> Asked
     if !q.ok {
         return broken(s);
     }
-    let left = held::turn(p, s, area, q.heard, q.reply);
+    let left = numbered::turn(p, s, area, q.heard, q.reply);
     Asked { ok: true, left }
 }
 
@@ -94,7 +84,7 @@ fn long(line: &[u8], r: Read, p: Profile, s: Sender, area: &mut [u8]) -> Asked
         return broken(s);
     }
     let n = least(q.payload, &bytes);
-    let left = held::long_ack(p, s, area, q.heard, q.reply, &bytes[..n]);
+    let left = numbered::long_ack(p, s, area, q.heard, q.reply, &bytes[..n]);
     Asked { ok: true, left }
 }
 
@@ -107,7 +97,7 @@ fn queue(line: &[u8], r: Read, p: Profile, s: Sender, area: &mut [u8]) -> Asked
         return broken(s);
     }
     let n = least(q.value as usize, &bytes);
-    let left = held::queue(p, s, area, &bytes[..n]);
+    let left = numbered::queue(p, s, area, &bytes[..n]);
     Asked { ok: true, left }
 }
 

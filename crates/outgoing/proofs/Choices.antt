@@ -13,12 +13,19 @@ use Rattle.plan.proofs.Choices.{choice-range, choice-longer}
 use Rattle.record.specs.declared.Link.{Link}
 use Rattle.record.specs.declared.Sender.{Sender}
 use Rattle.outgoing.specs.Choosing.{chosen, choice, cue, nextNumber}
-use Rattle.plan.specs.PlanningCode.{CodesRange}
+use Rattle.plan.specs.PlanningCode.{AirRange, CodesRange}
 
 module _ (p : Profile) (r : Ranged p) where
+  chosen-air : (g : Gear) (k : Link) → g .level < 17 → AirRange (chosen p g k)
+  unfolding chosen
+  chosen-air g k l =
+      let v = r .air .level (g .level) l in
+      record { pre = v .pre; rate = v .rate; cue = cue-in (p .air .«cue_s») (r .air .cue) (cue p g) }
+
   pub chosen-codes : (g : Gear) (k : Link) → g .level < 17 → length (p .codes .ends) ≤ 6 → CodesRange (p .codes) (chosen p g k)
   unfolding chosen
-  chosen-codes g k l six = codes-range (p .codes) (chosen p g k) (r .air .level (g .level) l .slot) six (λ i h. r .codes .ends i h .1)
+  chosen-codes g k l six =
+      codes-range (p .codes) (chosen p g k) (chosen-air g k l) (r .air .level (g .level) l .slot) six (λ i h. r .codes .ends i h .1)
 
   module _ (s : Sender) (l : s .gear .level < 17) where
     pub choice-ranged : length (p .codes .ends) ≤ 6 → ChoiceRange (choice p s)
@@ -27,7 +34,6 @@ module _ (p : Profile) (r : Ranged p) where
         (omega (arith, burst-id-lt (s .link .«burst_id») (s .link .heard) (s .link .«peer_heard»)))
 
     pub choice-long : Longer (choice p s)
-    unfolding chosen
     choice-long =
-        let k = r .air .level (s .gear .level) l in
-        choice-longer (p .codes) (chosen p (s .gear) (s .link)) (p .«merge_pieces») (nextNumber (s .link)) (k .pre) (k .rate) (cue-in (p .air .«cue_s») (r .air .cue) (cue p (s .gear)))
+        let c = chosen p (s .gear) (s .link) in
+        choice-longer (p .codes) c (p .«merge_pieces») (nextNumber (s .link)) (chosen-air (s .gear) (s .link) l)

@@ -10,7 +10,7 @@ use Rattle.harq.specs.Held.{above, smallest, upTo, incrementOf}
 use Rattle.harq.specs.declared.Harq.{Harq}
 use Rattle.plan.specs.declared.Choice.{Choice}
 use Rattle.limits.specs.Limits.{maxBits}
-use Rattle.plan.specs.PlanningCode.{CodesRange}
+use Rattle.plan.specs.PlanningCode.{AirRange, CodesRange}
 
 module _ (h slot : ℕ) where
   -- the smallest of ends above h is above h, and no more than the first
@@ -36,9 +36,10 @@ module _ (q : Harq) (c : Choice) (r : CodesRange q c) where
   increment-range h = up-to-range h (c .slot) (r .slot) (q .ends) (r .ends)
 
 -- from the six ends of a profile
-pub codes-range : (q : Harq) (c : Choice) → (1 ≤ c .slot) × (c .slot ≤ maxBits) → length (q .ends) ≤ 6 → ((i : ℕ) → i < 6 → getD (q .ends) i 0 ≤ maxBits) → CodesRange q c
-codes-range q c s six e =
+pub codes-range : (q : Harq) (c : Choice) → AirRange c → (1 ≤ c .slot) × (c .slot ≤ maxBits) → length (q .ends) ≤ 6 → ((i : ℕ) → i < 6 → getD (q .ends) i 0 ≤ maxBits) → CodesRange q c
+codes-range q c air s six e =
     record {
+      air = air;
       slot = s;
       ends = λ k. test (ltb k 6) (λ t. e k (ltb-true k 6 t)) (λ t. omega (arith, List·getD-eq-default (q .ends) 0 {n = k} (omega (arith, ltb-false k 6 t))));
     }

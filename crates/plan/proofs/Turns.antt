@@ -2,8 +2,8 @@
 use mathlib.Core.Path.{_≡_, refl, sym, ap, ap₂, _∙_}
 use mathlib.Core.List.{List, [], _∷_, _++_}
 use mathlib.Core.Bool.{Bool, true, false, cond, _&&_, _||_}
-use Prim.Native.Nat.{ℕ, zero, suc, _+_, _-_, _*_, _≤_, _<_, max}
-use native.Mathlib.Nat.{zero-add, add-zero, add-assoc, mul-le-mul}
+use Prim.Native.Nat.{ℕ, zero, suc, _+_, _-_, _≤_, _<_, max}
+use native.Mathlib.Nat.{zero-add, add-zero, add-assoc}
 use native.Mathlib.Omega.{arith}
 use native.Mathlib.Numerals.{add-one}
 use lib.ListN.{length, take, drop, getD}
@@ -15,32 +15,8 @@ use Rattle.harq.specs.Held.{incrementOf}
 use Rattle.harq.specs.declared.Harq.{Harq}
 use Rattle.plan.specs.declared.Choice.{Choice}
 use Rattle.plan.specs.declared.Planned.{Planned}
-use Rattle.limits.specs.Limits.{maxSlots, maxBits, partialMax}
-use Rattle.plan.specs.PlanningCode.{tooBigFor, parityBitsOf, poppedFrom, parityOf, offeredOf, oneMoreFits, roomCounted, planned}
-
--- bits of whole pieces
-pub wholes-small : (r s : ℕ) → r ≤ maxSlots → s ≤ maxBits → (r + 1) * s ≤ 1064960
-wholes-small r s h k = let p : (r + 1) * s ≤ 65 * maxBits = mul-le-mul {n₂ = 65} (omega arith) k in omega arith
-
--- ---- room
-
-module _ (c : Choice) (n stored b r : ℕ) where
-  module _ (h : r < maxSlots) where
-    room-step : roomCounted c n stored b (maxSlots - r) r ≡ cond (oneMoreFits c n stored b r) (roomCounted c n stored b (maxSlots - (r + 1)) (r + 1)) r
-    unfolding roomCounted
-    room-step =
-        ap (λ (k : ℕ). roomCounted c n stored b k r) (let e : maxSlots - r ≡ suc (maxSlots - (r + 1)) = omega arith in e)
-        ∙ ap (λ (k : ℕ). cond (oneMoreFits c n stored b r) (roomCounted c n stored b (maxSlots - (r + 1)) k) r) (sym (add-one r))
-
-    pub room-more : oneMoreFits c n stored b r ≡ true → roomCounted c n stored b (maxSlots - r) r ≡ roomCounted c n stored b (maxSlots - (r + 1)) (r + 1)
-    room-more e = room-step ∙ rw e
-
-    pub room-stop : oneMoreFits c n stored b r ≡ false → roomCounted c n stored b (maxSlots - r) r ≡ r
-    room-stop e = room-step ∙ rw e
-
-  pub room-end : maxSlots ≤ r → roomCounted c n stored b (maxSlots - r) r ≡ r
-  unfolding roomCounted
-  room-end h = ap (λ (k : ℕ). roomCounted c n stored b k r) (let e : maxSlots - r ≡ 0 = omega arith in e)
+use Rattle.limits.specs.Limits.{maxSlots, partialMax}
+use Rattle.plan.specs.PlanningCode.{tooBigFor, parityBitsOf, poppedFrom, parityOf, offeredOf, roomCounted, planned}
 
 module _ (q : Harq) (c : Choice) where
   -- ---- the increments' bits

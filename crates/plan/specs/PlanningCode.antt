@@ -1,10 +1,12 @@
 -- The plan of `data_burst` (sender.rs; document 01, module 6), over the held pieces' bits: what follows the code or serves proofs; nothing here has to be believed.
 use mathlib.Core.List.{List, [], _∷_}
-use mathlib.Core.Bool.{Bool, cond, not, _&&_, _||_}
-use Prim.Native.Nat.{ℕ, zero, suc, _+_, _*_, _≤_, max}
+use mathlib.Core.Path.{_≡_}
+use mathlib.Core.Bool.{Bool, true, cond, not, _&&_, _||_}
+use Prim.Native.Nat.{ℕ, zero, suc, _+_, _-_, _*_, _^_, _≤_, min, max}
 use lib.Dec.{leb, ltb, eqb}
 use lib.ListN.{length, take, getD}
 use lib.Ieee.{Float}
+use Rattle.ieee.specs.Range.{In, w64}
 use Rattle.harq.specs.Held.{incrementOf}
 use Rattle.harq.specs.declared.Harq.{Harq}
 use Rattle.plan.specs.declared.Choice.{Choice}
@@ -12,8 +14,15 @@ use Rattle.plan.specs.declared.Planned.{Planned}
 use Rattle.limits.specs.Limits.{maxSlots, partialMax, tinyAckFrames, maxBits}
 use Rattle.plan.specs.Planning.{fits}
 
--- slot bits and rate ends in the profile's range
+-- seconds and bits per second in the profile's range
+pub record AirRange (c : Choice) : Type 0 where
+  pub pre : In (w64 0) (w64 60) (c .«pre_s»)
+  pub rate : In (w64 1) (w64 100000) (c .rate)
+  pub cue : In (w64 0) (w64 10) (c .«cue_s»)
+
+-- slot bits and rate ends too
 pub record CodesRange (q : Harq) (c : Choice) : Type 0 where
+  pub air : AirRange c
   pub slot : (1 ≤ c .slot) × (c .slot ≤ maxBits)
   pub ends : (k : ℕ) → getD (q .ends) k 0 ≤ maxBits
 
@@ -54,6 +63,25 @@ oneMoreFits c n stored b r =
 unfoldable pub roomCounted : Choice → ℕ → ℕ → ℕ → ℕ → ℕ → ℕ
 roomCounted c n stored b zero r = r
 roomCounted c n stored b (suc k) r = cond (oneMoreFits c n stored b r) (roomCounted c n stored b k (suc r)) r
+
+-- ---- the order of the planning sheet: from the most slots down to the first number that fits
+
+-- "a longer burst is never shorter on air"
+abbrev pub NeverShorter : Choice → Type 0
+NeverShorter c = (a b : ℕ) → a ≤ b → b ≤ 2 ^ 32 → fits c (c .«max_s») b ≡ true → fits c (c .«max_s») a ≡ true
+
+-- the slots that n increments and `stored` held pieces leave
+abbrev pub mostOf : Choice → ℕ → ℕ → ℕ
+mostOf c n stored = min (capOf c - n) (maxSlots - stored)
+
+-- r whole pieces fit beside increments of b bits
+unfoldable pub fitsWith : Choice → ℕ → ℕ → Bool
+fitsWith c b r = fits c (c .«max_s») (b + r * c .slot) && leb (b + r * c .slot) (c .«max_bits»)
+
+-- from r down; none is not tested
+unfoldable pub roomDown : Choice → ℕ → ℕ → ℕ
+roomDown c b zero = zero
+roomDown c b (suc r) = cond (fitsWith c b (suc r)) (suc r) (roomDown c b r)
 
 -- of increments all that the peer holds stays stored, of none nothing
 unfoldable pub planned : Harq → Choice → List ℕ → Planned

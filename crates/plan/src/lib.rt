@@ -8,7 +8,8 @@ ghost use Prim.Native.Nat.{_≤_};
 ghost use lib.ListN.{length};
 ghost use Rattle.plan.specs.Planning.{fits};
 ghost use Rattle.limits.specs.Limits.{maxSlots, maxBits, maxBurstBits};
-ghost use Rattle.plan.specs.PlanningCode.{CodesRange, parityBitsOf, capOf, tooBigFor, poppedFrom, parityOf, oneMoreFits, roomCounted, planned};
+ghost use Rattle.plan.specs.PlanningCode.{AirRange, CodesRange, parityBitsOf, capOf, tooBigFor, poppedFrom, parityOf};
+ghost use Rattle.plan.specs.PlanningCode.{mostOf, fitsWith, roomCounted, planned};
 
 // What the gear, the level and the profile say of the next burst: seconds on the air are pre_s + bits / rate + cue_s.
 pub struct Choice {
@@ -119,28 +120,44 @@ fn parity(q: Harq, c: Choice, bits: &[u32]) -> usize
     n
 }
 
-// Whether one more whole piece fits beside n increments of `bits` bits, with `stored` held, and r whole pieces.
-fn one_more(c: Choice, n: usize, stored: usize, bits: u32, r: usize) -> bool
-    requires { ⌜ (c .slot ≤ maxBits) × (n ≤ maxSlots) × (stored ≤ maxSlots) × (bits ≤ maxBurstBits) × (r ≤ maxSlots) ⌝ }
-    ensures { λ q. ⌜ q ≡ oneMoreFits c n stored bits r ⌝ }
+// How many whole pieces n increments and `stored` held pieces leave slots for.
+fn most(c: Choice, n: usize, stored: usize) -> usize
+    requires { ⌜ stored ≤ maxSlots ⌝ }
+    ensures { λ q. ⌜ (q ≡ mostOf c n stored) × (q ≤ maxSlots) ⌝ }
 {
-    let t = bits + (r as u32 + 1) * c.slot;
-    (n + r < c.cap()) & (stored + r < MAX_SLOTS) & c.fits(t, c.max_s) & (t <= c.max_bits)
+    let cap = c.cap();
+    let left = MAX_SLOTS - stored;
+    if cap <= n {
+        return 0;
+    }
+    if cap - n < left {
+        return cap - n;
+    }
+    left
 }
 
-// room, before at least one piece goes.
+// Whether r whole pieces fit beside increments of `bits` bits.
+fn fits_with(c: Choice, bits: u32, r: usize) -> bool
+    requires { ⌜ (c .slot ≤ maxBits) × (bits ≤ maxBurstBits) × (r ≤ maxSlots) ⌝ }
+    ensures { λ q. ⌜ q ≡ fitsWith c bits r ⌝ }
+{
+    let t = bits + r as u32 * c.slot;
+    c.fits(t, c.max_s) & (t <= c.max_bits)
+}
+
+// room, before at least one piece goes: from the most slots down to the first that fits.
 fn room(c: Choice, n: usize, stored: usize, bits: u32) -> usize
-    requires { ⌜ (c .slot ≤ maxBits) × (n ≤ maxSlots) × (stored ≤ maxSlots) × (bits ≤ maxBurstBits) ⌝ }
+    requires { ⌜ AirRange c × (c .slot ≤ maxBits) × (stored ≤ maxSlots) × (bits ≤ maxBurstBits) ⌝ }
     ensures { λ q. ⌜ (q ≡ roomCounted c n stored bits maxSlots 0) × (q ≤ maxSlots) ⌝ }
 {
-    let mut r = 0;
-    while r < MAX_SLOTS {
-        if !one_more(c, n, stored, bits, r) {
+    let mut r = most(c, n, stored);
+    while 0 < r {
+        if fits_with(c, bits, r) {
             return r;
         }
-        r += 1;
+        r = r - 1;
     }
-    r
+    0
 }
 
 // The plan of a burst, where the peer holds `bits` of each held piece.

@@ -10,7 +10,8 @@ use Rattle.laws.proofs.Picks.{cond-yes, cond-no}
 use Rattle.words.specs.declared.Read.{Read}
 use Rattle.laws.specs.Text.{text}
 use Rattle.words.specs.Lines.{readAs}
-use Rattle.profile_table.specs.ProfileLines.{levelKind, flagKind, meaningOf, kindAt, Line, lineOf, lines, lineAt, Reading, valueRead, lineRead, lineOk}
+use Rattle.profile_table.specs.ProfileLines.{levelKind, flagKind, meaningOf, kindAt, Line, lineOf, lines, lineAt, Reading, valueRead}
+use Rattle.profile_table.specs.ProfileLines.{lineRead, lineOk}
 
 module _ (chars : List ℕ) (kind at i : ℕ) where
   -- value i is read and stored

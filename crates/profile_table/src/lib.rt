@@ -12,7 +12,8 @@ use harq::Harq;
 ghost use mathlib.Core.Path.{_≡_};
 ghost use Prim.Native.Nat.{ℕ, _+_, _*_, _≤_, _<_};
 ghost use lib.ListN.{getD};
-ghost use Rattle.profile_table.specs.Table.{rowOf, orMost, u32At, u8At, doubleAt, singleOf, singleAt, flagAt, maybeDbAt, maybeLevelAt};
+ghost use Rattle.profile_table.specs.Table.{rowOf, orMost, u32At, u8At, doubleAt, singleOf, singleAt, flagAt, maybeDbAt};
+ghost use Rattle.profile_table.specs.Table.{maybeLevelAt};
 ghost use Rattle.profile_table.specs.Table.{airOf, codesOf, lengthsOf, holdTimesOf, marksFrom, profileOf};
 
 pub mod listed;

@@ -8,7 +8,7 @@ use native.Mathlib.Omega.{arith}
 use lib.ListN.{length, take, drop, length-append}
 use lib.Seq.{take-add, take-at, drop-at}
 use Rattle.laws.specs.Bytes.{overwrite, part, Bytes}
-use Rattle.laws.proofs.Bytes.{over-keep, over-comm, length-part, part-add}
+use Rattle.laws.proofs.Bytes.{over-part, over-keep, over-comm, length-part, part-add}
 use Rattle.limits.specs.Limits.{maxClass}
 use Rattle.ledger.specs.Ledger.{bytesOf, requeue}
 use Rattle.ledger.specs.Station.{takeIn}
@@ -117,6 +117,15 @@ module _ (s : Sender) (a : List ℕ) (c : Counted s a) (by : Bytes a) (bs : List
         ap₂ (λ (u : Counts) (v : AtPeer). withLastBurst (withAtPeer (withCounts (withLink s (storeLink (requeue put (view s a)) (s .link))) u) v) (storeSent (requeue put (view s a)) (s .«last_burst»)))
         put-counts put-held
         ∙ ap₂ (λ (u : Link) (v : LastBurst). withLastBurst (withLink (queuedTo s (w + length bs)) u) v) put-link put-sent
+
+-- WHAT IS SHOWN IS STORED ALREADY
+pub stored-already : (s : Sender) (a : List ℕ) → Counted s a → Bytes a → Arrays s →
+    (store (requeue (view s a .waiting) (view s a)) s ≡ s) × (storeArea (requeue (view s a .waiting) (view s a)) a ≡ a)
+unfolding view
+stored-already s a c by ar =
+    let w = s .counts .waiting in
+    (put-record s a c by [] 0 (omega arith) ar ∙ ap (queuedTo s) (let e : w + 0 ≡ w = omega arith in e),
+    put-area s a c by [] 0 (omega arith) (omega (arith, c .stream)) ∙ over-part a (s .counts .flying + 0) (w - 0))
 
 -- ---- a queuing
 

@@ -1,18 +1,11 @@
 // The transcript's buffer, of which n bytes are used. It is written out between lines, where the next answer might not fit into the rest.
+use byte_copy::least;
 use io::write_all;
 use libc::STDOUT_FILENO;
-ghost use Rattle.io.specs.Counts.{Counts};
 
 // Used at most before an answer: 81,920 bytes of the buffer's 131,072 are left. The longest answers are a line of 65,536 digits and some
 // words, a burst's 64 frames with 65,536 digits of HEX in all, and the lines of a state with 2,048 pieces.
 const FULL: usize = 49152;
-
-// n, or all of a slice where that is less.
-pub(crate) fn least(n: usize, a: &[u8]) -> usize
-    ensures { λ r. ⌜ Counts r (now (a .entry)) ⌝ }
-{
-    if n < a.len() { n } else { a.len() }
-}
 
 // What is in the buffer is written out.
 pub(crate) fn flush(t: &[u8], n: usize) {

@@ -1,7 +1,8 @@
 // The calls of a list with their answers (docs/CALLS.md, Calls).
 use crate::OUT_BYTES;
-use crate::buffer::least;
 use adif::Logged;
+use adif::log_link;
+use byte_copy::least;
 use call_lines::LinkLine;
 use call_lines::RangeLine;
 use call_lines::link_words;
@@ -14,7 +15,6 @@ use config::Profile;
 use list_calls::answers::say;
 use reachable::levels_under;
 use record::Sender;
-use station::vanitycrow_adif;
 use words::Input;
 use words::Number;
 use words::Read;
@@ -100,7 +100,7 @@ fn logged(q: LinkLine, most: usize, out: &mut [u8], bytes: &[u8]) -> Logged {
     let k = least(q.call, bytes);
     let lent = least(most, out);
     let acked = (q.acked % 4294967296) as u32;
-    vanitycrow_adif(&bytes[..k], q.start, q.end, acked, &mut out[..lent])
+    log_link(&bytes[..k], q.start, q.end, acked, &mut out[..lent])
 }
 
 fn log_call(q: LinkLine, run: Run, t: &mut [u8], bytes: &[u8]) -> Run {

@@ -4,8 +4,8 @@ mod calls;
 mod input;
 
 use buffer::flush;
-use buffer::least;
 use buffer::room;
+use byte_copy::least;
 use call_lines::names::LEVELS;
 use call_lines::names::NO_CALL;
 use call_lines::names::Named;

@@ -12,7 +12,7 @@ use lib.Ieee.Bits.{cond-no}
 use lib.Ieee.Fits.{up-pos, down-pos, fits-widens}
 use Rattle.ieee.proofs.Representable.{round-own}
 use Rattle.exp.specs.Narrow.{narrow}
-use Rattle.rounding.specs.Rounding.{dist, sign, above, below, Rounded, Sum}
+use Rattle.rounding.specs.Rounding.{dist, signOf, above, below, Rounded, Sum}
 use Rattle.rounding.proofs.Rule.{rounded}
 use Rattle.rounding.proofs.Sums.{clash, sum-is}
 
@@ -31,7 +31,7 @@ module _ (f : Format) (s t : Bool) (m n : ℕ) (e d : ℤ) where
       let minus = below s left + below t right in
       subst (λ (x : Float). Sum (prec f) (emax f) s left t right (down e * down d) (s && t) x)
       (sym (sum-is f s left t right (down e * down d)))
-      (rounded f (sign plus minus (s && t)) (dist plus minus) (down e * down d) (mul-pos (down-pos e) (down-pos d)))
+      (rounded f (signOf plus minus (s && t)) (dist plus minus) (down e * down d) (mul-pos (down-pos e) (down-pos d)))
 
   pub mul-rounded : Rounded (prec f) (emax f) (unlike s t) (m * up e * (n * up d)) (down e * down d) (mul f (fin s m e) (fin t n d))
   unfolding mul

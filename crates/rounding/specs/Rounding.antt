@@ -14,8 +14,8 @@ abbrev pub dist : ℕ → ℕ → ℕ
 dist a b = (a - b) + (b - a)
 
 -- the sign of a - b, where that is exactly zero z
-abbrev pub sign : ℕ → ℕ → Bool → Bool
-sign a b z = cond (ltb b a) false (cond (ltb a b) true z)
+abbrev pub signOf : ℕ → ℕ → Bool → Bool
+signOf a b z = cond (ltb b a) false (cond (ltb a b) true z)
 
 -- (-1)^s a is `above` - `below`
 abbrev pub above : Bool → ℕ → ℕ
@@ -77,7 +77,7 @@ module _ (p emax : ℕ) where
   Sum s a t b d z x =
       let plus = above s a + above t b in
       let minus = below s a + below t b in
-      Rounded (sign plus minus z) (dist plus minus) d x
+      Rounded (signOf plus minus z) (dist plus minus) d x
 
 -- 4.3.2, roundTowardZero: "closest to and no greater in magnitude than the infinitely precise result", for a whole number c and the
 -- magnitude a / d

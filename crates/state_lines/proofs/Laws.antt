@@ -11,7 +11,8 @@ use Rattle.pieces.specs.Lists.{heldOf, sentOf}
 
 -- ---- offsets and bits
 
-held-at : (os bs : List ℕ) (i : ℕ) → i < length os → i < length bs → drop i (heldOf os bs) ≡ record { off = getD os i 0; bits = getD bs i 0 } ∷ drop (suc i) (heldOf os bs)
+held-at : (os bs : List ℕ) (i : ℕ) → i < length os → i < length bs → drop i (heldOf os bs)
+    ≡ record { off = getD os i 0; bits = getD bs i 0 } ∷ drop (suc i) (heldOf os bs)
 held-at [] bs i h k = absurd (omega arith)
 held-at (o ∷ os) [] i h k = absurd (omega arith)
 held-at (o ∷ os) (b ∷ bs) zero h k = refl
@@ -32,7 +33,8 @@ sent-at (o ∷ os) (b ∷ bs) [] i h k l = absurd (omega arith)
 sent-at (o ∷ os) (b ∷ bs) (x ∷ hs) zero h k l = refl
 sent-at (o ∷ os) (b ∷ bs) (x ∷ hs) (suc i) h k l = sent-at os bs hs i (omega arith) (omega arith) (omega arith)
 
-sent-few : (os bs hs : List ℕ) → (length (sentOf os bs hs) ≤ length os) × (length (sentOf os bs hs) ≤ length bs) × (length (sentOf os bs hs) ≤ length hs)
+sent-few : (os bs hs : List ℕ) → (length (sentOf os bs hs) ≤ length os) × (length (sentOf os bs hs) ≤ length bs) ×
+    (length (sentOf os bs hs) ≤ length hs)
 sent-few [] bs hs = (omega arith, omega arith, omega arith)
 sent-few (o ∷ os) [] hs = (omega arith, omega arith, omega arith)
 sent-few (o ∷ os) (b ∷ bs) [] = (omega arith, omega arith, omega arith)
@@ -44,7 +46,8 @@ module _ (os bs : List ℕ) (to i : ℕ) where
   abbrev held : List Held
   held = heldOf (take to os) (take to bs)
 
-  pub held-more : i < to → i < length os → i < length bs → drop i held ≡ record { off = getD os i 0; bits = getD bs i 0 } ∷ drop (i + 1) held
+  pub held-more : i < to → i < length os → i < length bs → drop i held ≡ record { off = getD os i 0; bits = getD bs i 0 }
+      ∷ drop (i + 1) held
   held-more h k l =
       held-at (take to os) (take to bs) i (simp length-take (omega arith)) (simp length-take (omega arith))
       ∙ ap₂ (λ (o b : ℕ). record { off = o; bits = b } ∷ drop (suc i) held) (getD-take to os i 0 h) (getD-take to bs i 0 h)
@@ -66,9 +69,12 @@ module _ (os bs hs : List ℕ) (to i : ℕ) where
   pub sent-more : i < to → i < length os → i < length bs → i < length hs
       → drop i sent ≡ record { off = getD os i 0; bits = getD bs i 0; held = getD hs i 0 } ∷ drop (i + 1) sent
   sent-more h k l m =
-      sent-at (take to os) (take to bs) (take to hs) i (simp length-take (omega arith)) (simp length-take (omega arith)) (simp length-take (omega arith))
-      ∙ ap₂ (λ (o b : ℕ). record { off = o; bits = b; held = getD (take to hs) i 0 } ∷ drop (suc i) sent) (getD-take to os i 0 h) (getD-take to bs i 0 h)
-      ∙ ap₂ (λ (x j : ℕ). record { off = getD os i 0; bits = getD bs i 0; held = x } ∷ drop j sent) (getD-take to hs i 0 h) (sym (add-one i))
+      sent-at (take to os) (take to bs) (take to hs) i (simp length-take (omega arith)) (simp length-take (omega arith))
+      (simp length-take (omega arith))
+      ∙ ap₂ (λ (o b : ℕ). record { off = o; bits = b; held = getD (take to hs) i 0 } ∷ drop (suc i) sent) (getD-take to os i 0 h)
+      (getD-take to bs i 0 h)
+      ∙ ap₂ (λ (x j : ℕ). record { off = getD os i 0; bits = getD bs i 0; held = x } ∷ drop j sent) (getD-take to hs i 0 h)
+      (sym (add-one i))
 
   pub sent-over : to ≤ i → drop i sent ≡ []
   sent-over h = drop-of-length-le sent {i = i} (omega (arith, sent-few (take to os) (take to bs) (take to hs) .0, length-take to os))

@@ -24,7 +24,8 @@ use Rattle.record.specs.declared.Sender.{Sender}
 
 -- TAKEN WAITING FLYING ACKED
 abbrev pub tallyWords : Counts → List ℕ
-tallyWords c = numberWord (c .«next_offset» + c .waiting) ++ numberWord (c .waiting) ++ numberWord (c .flying) ++ numberWord (c .«bytes_acked»)
+tallyWords c = numberWord (c .«next_offset» + c .waiting) ++ numberWord (c .waiting) ++ numberWord (c .flying)
+    ++ numberWord (c .«bytes_acked»)
 
 -- `end TAKEN WAITING FLYING ACKED`
 abbrev pub endLine : Counts → List ℕ
@@ -50,18 +51,21 @@ given set w = cond set w []
 
 -- "the recent reports, oldest first": of three reports a is the oldest, and c is the newest of any
 unfoldable pub reports : Reports → List ℕ
-reports r = given (leb 3 (r .count)) (singleWord (r .a)) ++ given (leb 2 (r .count)) (singleWord (r .b)) ++ given (leb 1 (r .count)) (singleWord (r .c))
+reports r = given (leb 3 (r .count)) (singleWord (r .a)) ++ given (leb 2 (r .count)) (singleWord (r .b))
+    ++ given (leb 1 (r .count)) (singleWord (r .c))
 
 -- `aim AIM_DB LAST_REPORT_DB REPORT ..`
 unfoldable pub aimLine : Gear → List ℕ
 aimLine g =
-    text "aim" ++ maybe (g .«aim_db» .set) (singleWord (g .«aim_db» .db)) ++ maybe (g .«last_report_db» .set) (singleWord (g .«last_report_db» .db))
+    text "aim" ++ maybe (g .«aim_db» .set) (singleWord (g .«aim_db» .db))
+    ++ maybe (g .«last_report_db» .set) (singleWord (g .«last_report_db» .db))
     ++ reports (g .«snr_reports») ++ text "\n"
 
 -- `gear L SUCCESS SUCCESS_AT FAILS BLOCKED_UNTIL HOLD_ALL`
 abbrev pub gearLine : ℕ → Bool → Float → Float → ℕ → Float → Bool → List ℕ
 gearLine l tried success at fails until all =
-    text "gear" ++ numberWord l ++ maybe tried (singleWord success) ++ doubleWord at ++ numberWord fails ++ doubleWord until ++ flagWord all ++ text "\n"
+    text "gear" ++ numberWord l ++ maybe tried (singleWord success) ++ doubleWord at ++ numberWord fails ++ doubleWord until ++ flagWord all
+    ++ text "\n"
 
 -- level l's
 unfoldable pub gearOf : Gear → ℕ → List ℕ

@@ -1,5 +1,5 @@
-// The lines of a transcript that tell the sender's state (docs/CALLS.md): those of `state`, and `end`. As in `transcript`, a lent buffer has n
-// bytes that are used, and each function gives what is used then.
+// The lines of a transcript that tell the sender's state (docs/CALLS.md): those of `state`, and `end`. As in `transcript`, a lent buffer
+// has n bytes that are used, and each function gives what is used then.
 use gear::Gear;
 use levels::memory::Reports;
 use lists::held;
@@ -22,7 +22,8 @@ ghost use Prim.Native.Nat.{_<_};
 ghost use Rattle.laws.specs.Span.{upto};
 ghost use Rattle.text.specs.Buffer.{appended, each};
 ghost use Rattle.text.specs.Words.{singleWord};
-ghost use Rattle.state_lines.specs.State.{tallyWords, endLine, stateLine, linkLine, given, reports, aimLine, gearLine, gearOf, countsLine, stateLines};
+ghost use Rattle.state_lines.specs.State.{tallyWords, endLine, stateLine, linkLine, given, reports, aimLine, gearLine, gearOf};
+ghost use Rattle.state_lines.specs.State.{countsLine, stateLines};
 
 mod lists;
 

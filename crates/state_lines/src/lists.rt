@@ -26,7 +26,7 @@ fn entry(t: &mut [u8], n: usize, a: u32, b: u32) -> usize
 }
 
 // The smaller of two.
-fn least(a: usize, b: usize) -> usize
+fn smaller(a: usize, b: usize) -> usize
     ensures { λ r. ⌜ r ≡ min a b ⌝ }
 {
     if a < b {
@@ -72,7 +72,7 @@ pub(crate) fn pieces(t: &mut [u8], n: usize, area: &[u8], count: usize) -> usize
 {
     let n = puts(t, n, b"pieces");
     let n = number(t, n, count as u64);
-    let n = rows(t, n, area, least(count, rows_in(area)));
+    let n = rows(t, n, area, smaller(count, rows_in(area)));
     puts(t, n, b"\n")
 }
 

@@ -100,7 +100,8 @@ module _ (p : Profile) (t : Station) (a : List ℕ) where
     turned c r b said u = replied (R.Turn c) [] r b said
 
   pub sent : (out : List ℕ) (r : LeftBurst) (b o : List ℕ) → (r, (b, o)) ≡ burstNumber (burstCall p t a out)
-      → (l : Left) → l ≡ left (r .burst .refusal) (r .next) → Unit {0} → (after : Station) → after ≡ kept t (l .refusal) (l .next)
+      → (l : Left) → (l .refusal ≡ r .burst .refusal) × (l .next ≡ r .next)
+      → Unit {0} → (after : Station) → after ≡ kept t (l .refusal) (l .next)
       → (x : Burst) → x ≡ r .burst → (leftBurst x after, (b, o)) ≡ burstNumber (burstCall p t a out)
   sent out r b o said l e u after k x is =
       let v = burstVerdict p t a (length out) in
@@ -110,5 +111,5 @@ module _ (p : Profile) (t : Station) (a : List ℕ) where
       let same : passed v ≡ false → r .next ≡ t =
       λ f. d ∙ ap (λ (y : Bursted × (List ℕ × List ℕ)). y .0 .next) (burst-keeps p t a out f) in
       let stored : after ≡ r .next =
-      k ∙ ap (λ (y : Left). kept t (y .refusal) (y .next)) e ∙ kept-is t (r .burst .refusal) (r .next) v n same in
+      k ∙ ap₂ (kept t) (e .0) (e .1) ∙ kept-is t (r .burst .refusal) (r .next) v n same in
       ap₂ (λ (y : Burst) (z : Station). (leftBurst y z, (b, o))) is stored ∙ said

@@ -38,7 +38,7 @@ fn keep(t: &mut Station, refusal: u8, next: Station)
 
 // What a burst leaves, as of the other calls; and the burst.
 fn after_burst(q: LeftBurst) -> Left
-    ensures { λ r. ⌜ r ≡ left (q .burst .refusal) (q .next) ⌝ }
+    ensures { λ r. ⌜ (r .refusal ≡ q .burst .refusal) × (r .next ≡ q .next) ⌝ }
 {
     let refusal = q.burst.refusal;
     let next = q.next;

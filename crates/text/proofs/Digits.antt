@@ -29,7 +29,8 @@ decimal-same (suc k) zero n h i =
 decimal-same (suc k) (suc j) n h i = go (ltb n 10) refl (λ l. decimal-same k j (n / 10) (omega arith) (omega arith))
   where
     go : (b : Bool) → ltb n 10 ≡ b → (10 ≤ n → decimalBy k (n / 10) ≡ decimalBy j (n / 10))
-        → cond b (digitChar n ∷ []) (decimalBy k (n / 10) ++ (digitChar (n % 10) ∷ [])) ≡ cond b (digitChar n ∷ []) (decimalBy j (n / 10) ++ (digitChar (n % 10) ∷ []))
+        → cond b (digitChar n ∷ []) (decimalBy k (n / 10) ++ (digitChar (n % 10) ∷ []))
+        ≡ cond b (digitChar n ∷ []) (decimalBy j (n / 10) ++ (digitChar (n % 10) ∷ []))
     go true e f = refl
     go false e f = ap (λ (s : List ℕ). s ++ (digitChar (n % 10) ∷ [])) (f (ltb-false n 10 e))
 

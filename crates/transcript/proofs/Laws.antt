@@ -28,7 +28,8 @@ refused k h = cond-no _ _ _ _ (ne-eqb k 0 h) refl
 
 -- ---- a frame's bytes: it starts at k, or at the output's end where k lies past it, and ends with its `size` bytes or with the output
 
-module _ (out : List ℕ) (from size k to : ℕ) (h : from ≤ length out) (e : drop from out ≡ drop k out) (p : to ≡ min (from + size) (length out)) where
+module _ (out : List ℕ) (from size k to : ℕ) (h : from ≤ length out) (e : drop from out ≡ drop k out) (p : to
+    ≡ min (from + size) (length out)) where
   pub frame-bytes : take (to - from) (drop from out) ≡ part out k size
   frame-bytes =
       let d : length (drop k out) ≡ length out - from = ap length (sym e) ∙ length-drop from out in

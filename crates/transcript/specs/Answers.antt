@@ -25,12 +25,14 @@ answerLine name k = name ++ outcome k ++ text "\n"
 -- `burst ok WAVE CODE USER EXTRA CUE TD_EASE COUNT`
 abbrev pub burstLine : Outgoing → List ℕ
 burstLine b =
-    text "burst ok" ++ numberWord (b .wave) ++ numberWord (b .code) ++ numberWord (b .user) ++ numberWord (b .extra) ++ flagWord (b .cue) ++ flagWord (b .«td_ease»)
+    text "burst ok" ++ numberWord (b .wave) ++ numberWord (b .code) ++ numberWord (b .user) ++ numberWord (b .extra) ++ flagWord (b .cue)
+    ++ flagWord (b .«td_ease»)
     ++ numberWord (b .frames .n) ++ text "\n"
 
 -- `frame OFFSET LEN START BITS HEX`
 abbrev pub frameLine : ℕ → ℕ → ℕ → ℕ → List ℕ → List ℕ
-frameLine off len start bits bytes = text "frame" ++ numberWord off ++ numberWord len ++ numberWord start ++ numberWord bits ++ hex bytes ++ text "\n"
+frameLine off len start bits bytes = text "frame" ++ numberWord off ++ numberWord len ++ numberWord start ++ numberWord bits ++ hex bytes
+    ++ text "\n"
 
 -- frame i, of `size` bytes; the frames stand in the output one after the other
 abbrev pub frameEntry : Frames → ℕ → List ℕ → ℕ → List ℕ

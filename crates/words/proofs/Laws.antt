@@ -26,11 +26,13 @@ drop-more : (w : List ℕ) (i : ℕ) → i < length w → drop i w ≡ getD w i 
 drop-more w i h = rw add-one (drop-cons w i 0 h)
 
 module _ (w : List ℕ) (i : ℕ) where
-  pub spelled-more : (b : ℕ) (n : Number) → i < length w → spelled b n (drop i w) ≡ spelled b (oneDigitMore b n (getD w i 0)) (drop (i + 1) w)
+  pub spelled-more : (b : ℕ) (n : Number) → i < length w → spelled b n (drop i w)
+      ≡ spelled b (oneDigitMore b n (getD w i 0)) (drop (i + 1) w)
   unfolding spelled
   spelled-more b n h = rw (drop-more w i h) refl
 
-  pub spelled-turn : (b : ℕ) (n m z : Number) → z ≡ spelled b n (drop i w) → i < length w → m ≡ oneDigitMore b n (getD w i 0) → z ≡ spelled b
+  pub spelled-turn : (b : ℕ) (n m z : Number) → z ≡ spelled b n (drop i w) → i < length w → m ≡ oneDigitMore b n (getD w i 0) → z
+      ≡ spelled b
       m (drop (i + 1) w)
   spelled-turn b n m z p h q = rw q (p ∙ spelled-more b n h)
 
@@ -146,7 +148,8 @@ bytes-at (h ∷ l ∷ w) zero q = refl
 bytes-at (h ∷ l ∷ w) (suc k) q =
     let e : 2 * suc k ≡ suc (suc (2 * k)) = omega arith in
     let g : 2 * suc k + 1 ≡ suc (suc (2 * k + 1)) = omega arith in
-    bytes-at w k (omega arith) ∙ sym (ap₂ (λ (i j : ℕ). digitValue (getD (h ∷ l ∷ w) i 0) % 16 * 16 + digitValue (getD (h ∷ l ∷ w) j 0) % 16) e g)
+    bytes-at w k (omega arith) ∙ sym (ap₂ (λ (i j : ℕ). digitValue (getD (h ∷ l ∷ w) i 0) % 16 * 16 + digitValue
+    (getD (h ∷ l ∷ w) j 0) % 16) e g)
 
 -- there is room for the bytes of HEX
 pub hex-room : (room : ℕ) (w : List ℕ) → hexCount room w .ok ≡ true → length (pairBytes w) ≤ room
@@ -165,7 +168,8 @@ hex-room room w h =
 
 -- a word that is not `-`, with d for the test of its digits
 module _ (room : ℕ) (w : List ℕ) (d : Bool) (e : d ≡ digits w) (f : same w (45 ∷ []) ≡ false) where
-  pub hex-pairs : (((d && eqb (length w % 2) 0) && ltb 0 (length w)) && leb (length w / 2) room) ≡ true → is (length w / 2) ≡ hexCount room w
+  pub hex-pairs : (((d && eqb (length w % 2) 0) && ltb 0 (length w)) && leb (length w / 2) room) ≡ true → is (length w / 2)
+      ≡ hexCount room w
   unfolding hexCount
   hex-pairs t = cond-no _ _ _ _ f (cond-yes _ _ _ _ (rw e at t) refl)
 

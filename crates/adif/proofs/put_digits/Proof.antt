@@ -6,14 +6,14 @@ use denote.Ref.{now}
 use lib.ListN.{length, length-set}
 use borrow.Author.Needs.{needs}
 use Rattle.laws.specs.Bytes.{overwrite}
-use Rattle.adif.specs.Adif.{digits}
+use Rattle.adif.specs.Adif.{lastDigits}
 use Rattle.adif.proofs.Steps.{digits-next, digits-none}
 use Rattle.adif.proofs.put_digits.Statement.{statement}
 use Rattle.adif.proofs.put_digits.Tie as tie
 
 abbrev Inv-loop : tie.InvT-loop
 Inv-loop out₀ at k n i₀ rest₀ out i rest =
-    (i ≤ k) × (length out ≡ length out₀) × (overwrite out at (digits i rest) ≡ overwrite out₀ at (digits k n))
+    (i ≤ k) × (length out ≡ length out₀) × (overwrite out at (lastDigits i rest) ≡ overwrite out₀ at (lastDigits k n))
 
 abbrev μ-loop : tie.MeasureT-loop
 μ-loop out₀ at k n i₀ rest₀ out i rest = i
@@ -47,7 +47,7 @@ loop-again c =
       omega arith,
       simp length-set (p .loop .inv .1),
       digits-next (p .loop .out) (a .at) (p .loop .i - 1) (p .loop .rest)
-          ∙ ap (λ (j : ℕ). overwrite (p .loop .out) (a .at) (digits j (p .loop .rest))) e
+          ∙ ap (λ (j : ℕ). overwrite (p .loop .out) (a .at) (lastDigits j (p .loop .rest))) e
           ∙ p .loop .inv .2,
     )
 
@@ -60,7 +60,7 @@ returns c =
     let a = p .before .args in
     let e : 0 ≡ p .loop .i = omega arith in
     sym (digits-none (p .loop .out) (a .at) (p .loop .rest))
-    ∙ ap (λ (j : ℕ). overwrite (p .loop .out) (a .at) (digits j (p .loop .rest))) e
+    ∙ ap (λ (j : ℕ). overwrite (p .loop .out) (a .at) (lastDigits j (p .loop .rest))) e
     ∙ p .loop .inv .2
 
 pub put-digits-spec : {M : Type 1} → statement M

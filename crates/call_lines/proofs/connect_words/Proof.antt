@@ -37,7 +37,15 @@ returns c =
     let p3 = p4 .before in
     let p2 = p3 .before in
     let p1 = p2 .before .before in
-    rw (c .done .ensures, p6 .single-of .ensures, p5 .flag .ensures, p4 .class-words .ensures, p3 .single .ensures, p2 .whole .ensures, p1 .heard-first .ensures)
+    rw (
+      c .done .ensures,
+      p6 .single-of .ensures,
+      p5 .flag .ensures,
+      p4 .class-words .ensures,
+      p3 .single .ensures,
+      p2 .whole .ensures,
+      p1 .heard-first .ensures,
+    )
 
 pub connect-words-spec : {M : Type 1} → statement M
 connect-words-spec =

@@ -24,8 +24,10 @@ unfolding longLine
 returns c =
     let p3 = c .before .before .before in
     let p2 = p3 .before .before in
-    let p1 = p2 .before .before in
-    (rw (c .done .ensures, p3 .hex .ensures .0, p2 .wish-words .ensures, p1 .heard-first .ensures), rw (p3 .hex .ensures .1, p2 .wish-words .ensures, p1 .heard-first .ensures))
+    let p1 = p2 .before .before in (
+      rw (c .done .ensures, p3 .hex .ensures .0, p2 .wish-words .ensures, p1 .heard-first .ensures),
+      rw (p3 .hex .ensures .1, p2 .wish-words .ensures, p1 .heard-first .ensures),
+    )
 
 pub long-words-spec : {M : Type 1} → statement M
 long-words-spec =

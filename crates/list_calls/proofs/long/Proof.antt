@@ -43,7 +43,12 @@ returns-2 : tie.Need-returns-2
 unfolding longAsked
 returns-2 c =
     let w = c .before .before .before .before .before .before .before .before .before .before .long-words in
-    rw (← w .ensures .0, ← w .ensures .1, ← c .before .before .before .before .before .least .ensures .1 .1, not-false (w .result .ok) (c .before .before .before .before .before .before .before .if1 .left)) (made (c .before .before .long-ack .ensures))
+    rw (
+      ← w .ensures .0,
+      ← w .ensures .1,
+      ← c .before .before .before .before .before .least .ensures .1 .1,
+      not-false (w .result .ok) (c .before .before .before .before .before .before .before .if1 .left),
+    ) (made (c .before .before .long-ack .ensures))
 
 pub long-spec : {M : Type 1} → statement M
 long-spec =

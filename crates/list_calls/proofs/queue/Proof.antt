@@ -21,7 +21,11 @@ broken-requires c κs = search needs
 
 returns : tie.Need-returns
 unfolding queueAsked
-returns c = rw (← c .before .before .before .before .hex .ensures .0, told-no _ _ (c .before .before .done .ensures) (not-true _ (c .before .if1 .taken)), c .broken .ensures)
+returns c = rw (
+  ← c .before .before .before .before .hex .ensures .0,
+  told-no _ _ (c .before .before .done .ensures) (not-true _ (c .before .if1 .taken)),
+  c .broken .ensures,
+)
 
 slice-aggregate-least : tie.Need-slice-aggregate-least
 slice-aggregate-least c = search needs
@@ -45,7 +49,13 @@ returns-2 : tie.Need-returns-2
 unfolding queueAsked
 returns-2 c =
     let w = c .before .before .before .before .before .before .before .before .before .before .hex .ensures in
-    rw (← w .0, ← w .1, ← c .before .before .before .before .before .least .ensures .1 .1, told-yes _ _ (c .before .before .before .before .before .before .before .before .done .ensures) (not-false _ (c .before .before .before .before .before .before .before .if1 .left))) (made (c .before .before .queue .ensures))
+    rw (
+      ← w .0,
+      ← w .1,
+      ← c .before .before .before .before .before .least .ensures .1 .1,
+      told-yes _ _ (c .before .before .before .before .before .before .before .before .done .ensures)
+          (not-false _ (c .before .before .before .before .before .before .before .if1 .left)),
+    ) (made (c .before .before .queue .ensures))
 
 pub queue-spec : {M : Type 1} → statement M
 queue-spec =

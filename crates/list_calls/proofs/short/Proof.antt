@@ -28,7 +28,8 @@ returns-2 : tie.Need-returns-2
 unfolding shortAsked
 returns-2 c =
     let w = c .before .before .before .before .before .before .short-words in
-    rw (← w .ensures, not-false (w .result .ok) (c .before .before .before .before .if1 .left)) (made (c .before .before .short-ack .ensures))
+    rw (← w .ensures, not-false (w .result .ok) (c .before .before .before .before .if1 .left))
+    (made (c .before .before .short-ack .ensures))
 
 pub short-spec : {M : Type 1} → statement M
 short-spec =

@@ -17,7 +17,8 @@ same-length-2 : tie.Need-same-length-2
 same-length-2 c = search needs
 
 returns : tie.Need-returns
-returns c = burst-numbered _ _ _ _ (c .before .before .before .before .before .before .before .data-burst .ensures) (c .before .before .number .ensures)
+returns c = burst-numbered _ _ _ _ (c .before .before .before .before .before .before .before .data-burst .ensures)
+    (c .before .before .number .ensures)
 
 pub data-burst-spec : {M : Type 1} → statement M
 data-burst-spec =

@@ -1,40 +1,42 @@
-use Rattle.plan.proofs.Turns.{room-more, room-stop, room-end}
-use Prim.Native.Nat.{_-_, _≤_}
-use mathlib.Core.Path.{_≡_, refl, sym, _∙_}
+use Rattle.plan.proofs.Choices.{air-longer}
+use Rattle.plan.proofs.Down.{room-same, down-found, down-less, down-none}
+use Prim.Native.Nat.{_≤_}
+use mathlib.Core.Path.{_≡_, sym, ap, _∙_}
 use native.Mathlib.Omega.{arith}
 use borrow.Author.Needs.{needs}
-use borrow.Author.Tests.{not-true, not-false}
 use Rattle.plan.proofs.room.Statement.{statement}
 use Rattle.plan.proofs.room.Tie as tie
 use Rattle.limits.specs.Limits.{maxSlots}
-use Rattle.plan.specs.PlanningCode.{oneMoreFits, roomCounted}
+use Rattle.plan.specs.PlanningCode.{roomCounted, roomDown}
 
 abbrev Inv-loop : tie.InvT-loop
-Inv-loop c n stored bits r₀ r = (r ≤ maxSlots) × (roomCounted c n stored bits maxSlots 0 ≡ roomCounted c n stored bits (maxSlots - r) r)
+Inv-loop c n stored bits r₀ r = (r ≤ maxSlots) × (roomCounted c n stored bits maxSlots 0 ≡ roomDown c bits r)
 
 abbrev μ-loop : tie.MeasureT-loop
-μ-loop c n stored bits r₀ r = maxSlots - r
+μ-loop c n stored bits r₀ r = r
 
--- the test
-more : (d : tie.After-one-more Inv-loop μ-loop) → let p = d .before .before in let a = p .before .args in
-    d .one-more .result ≡ oneMoreFits (a .c) (a .n) (a .stored) (a .bits) (p .loop .r)
-more d = d .one-more .ensures
+most-requires : tie.Need-most-requires Inv-loop μ-loop
+most-requires c κs = search needs
 
 loop-holds : tie.Need-loop-holds Inv-loop μ-loop
-loop-holds c = (omega arith, refl)
+loop-holds c =
+    let s = c .before in
+    let a = s .args in
+    let same = room-same (a .c) (a .bits) (air-longer (a .c) (s .pre .0)) (s .pre .1) (s .pre .3) (a .n) (a .stored) in
+    (c .most .ensures .1, sym same ∙ ap (roomDown (a .c) (a .bits)) (sym (c .most .ensures .0)))
 
-one-more-requires : tie.Need-one-more-requires Inv-loop μ-loop
-one-more-requires c κs = search needs
+fits-with-requires : tie.Need-fits-with-requires Inv-loop μ-loop
+fits-with-requires c κs = search needs
 
 returns : tie.Need-returns Inv-loop μ-loop
 returns c =
     let i = c .before .before in
-    let p = i .before in
-    let a = p .before .args in
-    (sym (p .loop .inv .1 ∙ room-stop (a .c) (a .n) (a .stored) (a .bits) (p .loop .r) (i .loop-test .taken) (sym (more (c .before)) ∙ not-true _ (c .if1 .taken))), p .loop .inv .0)
+    let p = i .before .loop in
+    let fits = sym (c .before .fits-with .ensures) ∙ c .if1 .taken in
+    (sym (p .inv .1 ∙ down-found _ _ (p .r) (omega (arith, i .loop-test .taken)) fits), p .inv .0)
 
-add-r : tie.Need-add-r Inv-loop μ-loop
-add-r c = search needs
+sub-r : tie.Need-sub-r Inv-loop μ-loop
+sub-r c = search needs
 
 loop-less : tie.Need-loop-less Inv-loop μ-loop
 loop-less c = search needs
@@ -42,12 +44,12 @@ loop-less c = search needs
 loop-again : tie.Need-loop-again Inv-loop μ-loop
 loop-again c =
     let i = c .before .before in
-    let p = i .before in
-    let a = p .before .args in
-    (omega arith, p .loop .inv .1 ∙ room-more (a .c) (a .n) (a .stored) (a .bits) (p .loop .r) (i .loop-test .taken) (sym (more (c .before)) ∙ not-false _ (c .if1 .left)))
+    let p = i .before .loop in
+    let not = sym (c .before .fits-with .ensures) ∙ c .if1 .left in
+    (omega (arith, p .inv .0), p .inv .1 ∙ down-less _ _ (p .r) (omega (arith, i .loop-test .taken)) not)
 
 returns-2 : tie.Need-returns-2 Inv-loop μ-loop
-returns-2 c = let p = c .before in (sym (p .loop .inv .1 ∙ room-end _ _ _ _ _ (c .loop-test .left)), p .loop .inv .0)
+returns-2 c = let p = c .before .loop in (sym (p .inv .1 ∙ down-none _ _ (p .r) (omega (arith, c .loop-test .left))), omega arith)
 
 pub room-spec : {M : Type 1} → statement M
 room-spec =
@@ -55,10 +57,11 @@ room-spec =
     (tie.spec
     Inv-loop
     μ-loop
+    most-requires
     loop-holds
-    one-more-requires
+    fits-with-requires
     returns
-    add-r
+    sub-r
     loop-less
     loop-again
     returns-2)

@@ -9,7 +9,8 @@ use Rattle.replay.proofs.replay.Tie as tie
 
 abbrev Inv-loop : tie.InvT-loop
 Inv-loop chunk₀ line₀ area₀ t₀ v₀ q₀ n₀ chunk line area t v q n =
-    (n ≤ 18446744073709551615) × ((length chunk ≡ length chunk₀) × ((length line ≡ length line₀) × ((length area ≡ length area₀) × (length t ≡ length t₀))))
+    (n ≤ 18446744073709551615) × ((length chunk ≡ length chunk₀) ×
+    ((length line ≡ length line₀) × ((length area ≡ length area₀) × (length t ≡ length t₀))))
 
 abbrev μ-loop : tie.MeasureT-loop
 μ-loop chunk₀ line₀ area₀ t₀ v₀ q₀ n₀ chunk line area t v q n = 18446744073709551615 - n
@@ -73,17 +74,36 @@ returns : tie.Need-returns Inv-loop μ-loop
 returns c = search needs
 
 add-n : tie.Need-add-n Inv-loop μ-loop
-add-n c = omega (arith, c .before .before .before .before .before .before .before .before .before .before .before .before .before .before .before .before .before .before .before .before .before .loop-test .taken)
+add-n c = omega (
+  arith,
+  c .before .before .before .before .before .before .before .before .before .before .before .before .before .before
+      .before .before .before .before .before .before .before .loop-test .taken,
+)
 
 loop-less : tie.Need-loop-less Inv-loop μ-loop
-loop-less c = omega (arith, c .before .before .before .before .before .before .before .before .before .before .before .before .before .before .before .before .before .before .before .before .before .loop-test .taken)
+loop-less c = omega (
+  arith,
+  c .before .before .before .before .before .before .before .before .before .before .before .before .before
+      .before .before .before .before .before .before .before .before .loop-test .taken,
+)
 
 loop-again : tie.Need-loop-again Inv-loop μ-loop
 loop-again c =
     let p = c .before .before .before .before .before .before in
     let q = p .before .before .before .before .before .before .before .before .before .before .before in
-    let i = q .before .before .before .before .before .loop .inv in
-    (omega (arith, q .before .before .before .before .loop-test .taken), (q .read .kept .1 .0 ∙ i .1 .0, (q .read .kept .1 .1 .0 ∙ i .1 .1 .0, (p .step .kept .1 .1 .1 .0 ∙ i .1 .1 .1 .0, (p .step .kept .1 .1 .1 .1 .0 ∙ i .1 .1 .1 .1)))))
+    let i = q .before .before .before .before .before .loop .inv in (
+      omega (arith, q .before .before .before .before .loop-test .taken),
+      (
+        q .read .kept .1 .0 ∙ i .1 .0,
+        (
+          q .read .kept .1 .1 .0 ∙ i .1 .1 .0,
+          (
+            p .step .kept .1 .1 .1 .0 ∙ i .1 .1 .1 .0,
+            (p .step .kept .1 .1 .1 .1 .0 ∙ i .1 .1 .1 .1),
+          ),
+        ),
+      ),
+    )
 
 same-length-5 : tie.Need-same-length-5 Inv-loop μ-loop
 same-length-5 c = search needs

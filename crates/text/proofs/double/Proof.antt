@@ -36,7 +36,8 @@ returns-2 : tie.Need-returns-2
 unfolding doubleWord
 returns-2 c =
     let p1 = c .before .before in
-    told (by (p1 .bits .ensures)) (float-zero binary64 16 _ (c .before .before .before .before .before .if1 .left) (c .before .before .before .before .if2 .taken))
+    told (by (p1 .bits .ensures)) (float-zero binary64 16 _ (c .before .before .before .before .before .if1 .left)
+    (c .before .before .before .before .if2 .taken))
 
 to-bits64-requires : tie.Need-to-bits64-requires
 to-bits64-requires c κs = search needs
@@ -53,7 +54,9 @@ returns-3 : tie.Need-returns-3
 unfolding doubleWord
 returns-3 c =
     let p1 = c .before .before in
-    told (by (p1 .bits2 .ensures)) (float-bits binary64 16 _ 18446744073709551615 (c .before .before .before .before .before .before .if1 .left) (c .before .before .before .before .before .if2 .left) (p1 .before .to-bits64 .ensures))
+    told (by (p1 .bits2 .ensures)) (float-bits binary64 16 _ 18446744073709551615
+    (c .before .before .before .before .before .before .if1 .left) (c .before .before .before .before .before .if2 .left)
+    (p1 .before .to-bits64 .ensures))
 
 pub double-spec : {M : Type 1} → statement M
 double-spec =

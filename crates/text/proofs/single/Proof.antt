@@ -37,7 +37,8 @@ returns-2 : tie.Need-returns-2
 unfolding singleWord
 returns-2 c =
     let p1 = c .before .before in
-    told (by (p1 .bits .ensures)) (float-zero binary32 8 _ (c .before .before .before .before .before .if1 .left) (c .before .before .before .before .if2 .taken))
+    told (by (p1 .bits .ensures)) (float-zero binary32 8 _ (c .before .before .before .before .before .if1 .left)
+    (c .before .before .before .before .if2 .taken))
 
 to-bits32-requires : tie.Need-to-bits32-requires
 to-bits32-requires c κs = search needs
@@ -57,7 +58,9 @@ returns-3 : tie.Need-returns-3
 unfolding singleWord
 returns-3 c =
     let p1 = c .before .before in
-    told (by (p1 .bits2 .ensures)) (float-bits binary32 8 _ 4294967295 (c .before .before .before .before .before .before .before .if1 .left) (c .before .before .before .before .before .before .if2 .left) (p1 .before .wide .ensures
+    told (by (p1 .bits2 .ensures)) (float-bits binary32 8 _ 4294967295
+    (c .before .before .before .before .before .before .before .if1 .left)
+    (c .before .before .before .before .before .before .if2 .left) (p1 .before .wide .ensures
     ∙ p1 .before .before .to-bits32 .ensures))
 
 pub single-spec : {M : Type 1} → statement M

@@ -59,7 +59,16 @@ returns c =
     let p3 = p4 .before .before in
     let p2 = p3 .before .before in
     let p1 = p2 .before .before in
-    rw (c .or7 .ensures, p7 .or6 .ensures, p6 .or5 .ensures, p5 .or4 .ensures, p4 .or3 .ensures, p3 .or2 .ensures, p2 .or .ensures, p1 .asking .ensures)
+    rw (
+      c .or7 .ensures,
+      p7 .or6 .ensures,
+      p6 .or5 .ensures,
+      p5 .or4 .ensures,
+      p4 .or3 .ensures,
+      p3 .or2 .ensures,
+      p2 .or .ensures,
+      p1 .asking .ensures,
+    )
 
 pub call-of-spec : {M : Type 1} → statement M
 call-of-spec =

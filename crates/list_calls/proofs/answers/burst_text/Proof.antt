@@ -16,7 +16,8 @@ same-length c = search needs
 
 returns : tie.Need-returns
 unfolding burstText
-returns c = told (by (c .before .before .burst .ensures)) (cond-yes _ _ _ _ (eq-eqb _ _ (c .before .before .before .before .if1 .taken)) refl)
+returns c = told (by (c .before .before .burst .ensures)) (cond-yes _ _ _ _
+    (eq-eqb _ _ (c .before .before .before .before .if1 .taken)) refl)
 
 slice-aggregate-answer : tie.Need-slice-aggregate-answer
 slice-aggregate-answer c = search needs
@@ -29,7 +30,8 @@ same-length-2 c = search needs
 
 returns-2 : tie.Need-returns-2
 unfolding burstText
-returns-2 c = told (by (c .before .before .answer .ensures)) (cond-no _ _ _ _ (ne-eqb _ _ (c .before .before .before .before .before .if1 .left)) refl)
+returns-2 c = told (by (c .before .before .answer .ensures)) (cond-no _ _ _ _
+    (ne-eqb _ _ (c .before .before .before .before .before .if1 .left)) refl)
 
 pub burst-text-spec : {M : Type 1} → statement M
 burst-text-spec =

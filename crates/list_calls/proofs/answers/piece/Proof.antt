@@ -18,7 +18,11 @@ wrong-requires c κs = search needs
 
 returns : tie.Need-returns
 unfolding pieceSaid
-returns c = rw (← c .before .before .before .whole .ensures, told-no _ _ (c .before .before .done .ensures) (not-true _ (c .before .if1 .taken)), c .wrong .ensures)
+returns c = rw (
+  ← c .before .before .before .whole .ensures,
+  told-no _ _ (c .before .before .done .ensures) (not-true _ (c .before .if1 .taken)),
+  c .wrong .ensures,
+)
 
 piece-text-requires : tie.Need-piece-text-requires
 piece-text-requires c κs = search needs

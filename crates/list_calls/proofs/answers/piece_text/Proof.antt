@@ -21,7 +21,8 @@ same-length : tie.Need-same-length
 same-length c = search needs
 
 returns : tie.Need-returns
-returns c = told (by (c .before .before .answer .ensures)) (piece-refused _ _ (c .before .before .before .before .before .before .find .ensures) (c .before .before .before .before .before .if1 .taken))
+returns c = told (by (c .before .before .answer .ensures)) (piece-refused _ _
+    (c .before .before .before .before .before .before .find .ensures) (c .before .before .before .before .before .if1 .taken))
 
 piece-requires : tie.Need-piece-requires
 piece-requires c κs = search needs
@@ -33,7 +34,9 @@ same-length-2 : tie.Need-same-length-2
 same-length-2 c = search needs
 
 returns-2 : tie.Need-returns-2
-returns-2 c = told (by (c .before .before .piece2 .ensures)) (piece-there _ _ (c .before .before .before .before .before .before .before .before .find .ensures) _ (c .before .before .before .piece .ensures) (c .before .before .before .before .before .before .before .if1 .left) (c .before .before .before .before .before .if2 .taken))
+returns-2 c = told (by (c .before .before .piece2 .ensures)) (piece-there _ _
+    (c .before .before .before .before .before .before .before .before .find .ensures) _ (c .before .before .before .piece .ensures)
+    (c .before .before .before .before .before .before .before .if1 .left) (c .before .before .before .before .before .if2 .taken))
 
 no-piece-requires : tie.Need-no-piece-requires
 no-piece-requires c κs = search needs
@@ -42,7 +45,9 @@ same-length-3 : tie.Need-same-length-3
 same-length-3 c = search needs
 
 returns-3 : tie.Need-returns-3
-returns-3 c = told (by (c .before .before .no-piece .ensures)) (piece-none _ _ (c .before .before .before .before .before .before .before .find .ensures) (c .before .before .before .before .before .before .if1 .left) (c .before .before .before .before .if2 .left))
+returns-3 c = told (by (c .before .before .no-piece .ensures))
+    (piece-none _ _ (c .before .before .before .before .before .before .before .find .ensures)
+    (c .before .before .before .before .before .before .if1 .left) (c .before .before .before .before .if2 .left))
 
 pub piece-text-spec : {M : Type 1} → statement M
 piece-text-spec =

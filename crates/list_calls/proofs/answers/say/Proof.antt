@@ -26,7 +26,8 @@ returns : tie.Need-returns
 unfolding saidOf
 returns c =
     rw (← c .before .before .before .before .before .before .before .before .before .before .before .before .profile-of .ensures)
-    (cond-yes _ _ _ _ (eq-eqb _ _ (c .before .before .before .before .before .before .before .before .before .before .if1 .taken)) (c .before .before .before .before .before .before .burst .ensures))
+    (cond-yes _ _ _ _ (eq-eqb _ _ (c .before .before .before .before .before .before .before .before .before .before .if1 .taken))
+    (c .before .before .before .before .before .before .burst .ensures))
 
 piece-requires : tie.Need-piece-requires
 piece-requires c κs = search needs
@@ -58,7 +59,8 @@ unfolding saidOf
 returns-3 c =
     rw (← c .before .before .before .before .before .before .before .before .before .before .before .profile-of .ensures)
     (cond-no _ _ _ _ (ne-eqb _ _ (c .before .before .before .before .before .before .before .before .before .if1 .left))
-    (cond-no _ _ _ _ (ne-eqb _ _ (c .before .before .before .before .before .before .before .if2 .left)) (kept (c .before .before .before .before .asked .ensures))))
+    (cond-no _ _ _ _ (ne-eqb _ _ (c .before .before .before .before .before .before .before .if2 .left))
+    (kept (c .before .before .before .before .asked .ensures))))
 
 pub say-spec : {M : Type 1} → statement M
 say-spec =

@@ -14,7 +14,8 @@ use Rattle.state_lines.proofs.lists.held_from.Tie as tie
 
 abbrev Inv-loop : tie.InvT-loop
 Inv-loop t₀ n off bits from to n₀ i₀ t n' i =
-    Left (appended (n, t₀) (each heldWord (drop from (heldOf (take to off) (take to bits))))) (each heldWord (drop i (heldOf (take to off) (take to bits)))) (n', t)
+    Left (appended (n, t₀) (each heldWord (drop from (heldOf (take to off) (take to bits)))))
+    (each heldWord (drop i (heldOf (take to off) (take to bits)))) (n', t)
     × (length t ≡ length t₀)
 
 abbrev μ-loop : tie.MeasureT-loop

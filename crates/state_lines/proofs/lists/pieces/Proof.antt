@@ -21,8 +21,8 @@ number-requires c κs = search needs
 rows-in-requires : tie.Need-rows-in-requires
 rows-in-requires c κs = search needs
 
-least-requires : tie.Need-least-requires
-least-requires c κs = search needs
+smaller-requires : tie.Need-smaller-requires
+smaller-requires c κs = search needs
 
 rows-requires : tie.Need-rows-requires
 rows-requires c κs = search needs
@@ -50,7 +50,8 @@ returns c =
     let p1 = p2 .before .before .before .before in
     let a = p1 .before .before .before .before .before .args in
     (by (p1 .puts .ensures) ⨾ by (p2 .number .ensures)
-    ⨾ by (told (by (p3 .rows .ensures)) (ap (λ (k : ℕ). each pieceWord (rowsFrom (a .area .now) 0 k)) (p3 .before .least .ensures ∙ ap (min (a .count)) (p3 .before .before .rows-in .ensures))))
+    ⨾ by (told (by (p3 .rows .ensures)) (ap (λ (k : ℕ). each pieceWord (rowsFrom (a .area .now) 0 k)) (p3 .before .smaller .ensures
+    ∙ ap (min (a .count)) (p3 .before .before .rows-in .ensures))))
     ⨾ by (p4 .puts2 .ensures)) .is
 
 pub pieces-spec : {M : Type 1} → statement M
@@ -61,7 +62,7 @@ pieces-spec =
     puts-requires
     number-requires
     rows-in-requires
-    least-requires
+    smaller-requires
     rows-requires
     slice-aggregate-puts-2
     puts-requires-2

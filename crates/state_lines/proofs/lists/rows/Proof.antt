@@ -40,7 +40,8 @@ loop-again c = let q = c .before .before in
     let p = l .before in
     let a = p .before .before .before .args in (
       omega arith,
-      each-turn pieceWord (rows-turn (a .area .now) (p .loop .i) (a .count) _ (l .loop-test .taken) refl) (p .loop .inv .1) (by (q .row .ensures)),
+      each-turn pieceWord (rows-turn (a .area .now) (p .loop .i) (a .count) _ (l .loop-test .taken) refl) (p .loop .inv .1)
+          (by (q .row .ensures)),
       q .row .kept .0
           ∙ p .loop .inv .2,
     )

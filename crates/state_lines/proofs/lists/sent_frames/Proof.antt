@@ -14,7 +14,8 @@ use Rattle.state_lines.proofs.lists.sent_frames.Tie as tie
 
 abbrev Inv-loop : tie.InvT-loop
 Inv-loop t₀ n off bits held to n₀ i₀ t n' i =
-    Left (appended (n, t₀) (each sentWord (sentOf (take to off) (take to bits) (take to held)))) (each sentWord (drop i (sentOf (take to off) (take to bits) (take to held)))) (n', t)
+    Left (appended (n, t₀) (each sentWord (sentOf (take to off) (take to bits) (take to held))))
+    (each sentWord (drop i (sentOf (take to off) (take to bits) (take to held)))) (n', t)
     × (length t ≡ length t₀)
 
 abbrev μ-loop : tie.MeasureT-loop
@@ -80,7 +81,8 @@ loop-again c = let q = c .before .before in
     let l = e .before .before .before in
     let p = l .before in
     let a = p .before .before .before .before .before .args in
-    let more = sent-more (a .off .now) (a .bits .now) (a .held .now) (a .to) (p .loop .i) (l .loop-test .taken) (e .before .before .if1 .left) (e .before .if2 .left) (e .if3 .left) in
+    let more = sent-more (a .off .now) (a .bits .now) (a .held .now) (a .to) (p .loop .i) (l .loop-test .taken)
+    (e .before .before .if1 .left) (e .before .if2 .left) (e .if3 .left) in
     (each-turn sentWord more (p .loop .inv .0) (by (q .long-entry .ensures)), q .long-entry .kept .0 ∙ p .loop .inv .1)
 
 same-length-4 : tie.Need-same-length-4 Inv-loop μ-loop

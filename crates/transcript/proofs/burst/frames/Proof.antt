@@ -85,7 +85,8 @@ loop-again c = let q = c .before .before in
     let to = z .end-of .result in
     let v = p .loop .inv in
     let bytes = frame-bytes out from (a .size) (a .size * i) to (v .1) (v .2) (z .end-of .ensures) in
-    let turn = each-turn (frameEntry (a .t3) (a .size) out) (upto-more i (a .count) (l .loop-test .taken)) (v .3) (by (told (by (q .frame .ensures)) (ap (frameLine _ _ _ _) bytes))) in (
+    let turn = each-turn (frameEntry (a .t3) (a .size) out) (upto-more i (a .count) (l .loop-test .taken)) (v .3)
+    (by (told (by (q .frame .ensures)) (ap (frameLine _ _ _ _) bytes))) in (
       omega arith,
       omega (arith, z .end-of .ensures),
       frame-next out from (a .size) (a .size * i) to (v .1) (v .2) (z .end-of .ensures)

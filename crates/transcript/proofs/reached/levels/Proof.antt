@@ -41,7 +41,8 @@ returns c =
     let p2 = p3 .before .before .before .before .before in
     let p1 = p2 .before .before .before .before .before in
     let found = p1 .before .before .before .before .args .found in
-    (by (p1 .puts .ensures) ⨾ by (told (by (p2 .entries .ensures)) (ap (λ (k : ℕ). each (levelEntry found) (upto 0 k)) (p2 .before .smaller .ensures)))
+    (by (p1 .puts .ensures) ⨾ by (told (by (p2 .entries .ensures))
+    (ap (λ (k : ℕ). each (levelEntry found) (upto 0 k)) (p2 .before .smaller .ensures)))
     ⨾ by (p3 .puts2 .ensures)) .is
 
 pub levels-spec : {M : Type 1} → statement M

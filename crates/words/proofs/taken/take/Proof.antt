@@ -29,7 +29,8 @@ returns-2 c = let t = or-right (leb (c .before .before .before .before .before .
       c .ended2 .ensures ∙ taken-ended (c .before .before .before .before .before .before .args .chunk .now)
           (c .before .before .before .before .before .before .args .i) t _,
       line-ended
-          (c .before .before .before .before .before .before .args .chunk .now) (c .before .before .before .before .before .before .args .i) t
+          (c .before .before .before .before .before .before .args .chunk .now)
+          (c .before .before .before .before .before .before .args .i) t
           _,
     )
 

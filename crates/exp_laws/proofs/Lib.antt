@@ -1,0 +1,4 @@
+pub mod ExpRest
+pub mod NarrowBounds
+pub mod ExpBounds
+pub mod Holds
