@@ -88,7 +88,13 @@ fn connect_step(p: Profile, a: &mut [u8], t: &mut [u8]) -> Step {
 
 fn queue_step(p: Profile, last: Step, a: &mut [u8], t: &mut [u8]) -> Step {
     let routine = Message { class: 3 };
-    let q = queue(p, last.s, a, routine, b"Snow since midnight, 40 cm at the door.\n");
+    let q = queue(
+        p,
+        last.s,
+        a,
+        routine,
+        b"Snow since midnight, 40 cm at the door.\n",
+    );
     answered(q, t, last.n, b"queue")
 }
 
