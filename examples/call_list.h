@@ -121,12 +121,23 @@ static inline void list_connect(struct call_list l, struct vanitycrow_heard h, s
     list_answer(l, "connect", refusal);
 }
 
-static inline void list_queue(struct call_list l, const uint8_t *bytes, size_t n, uint8_t refusal) {
+/* A queuing; class 3 needs no word. */
+static inline void list_queue(struct call_list l, struct vanitycrow_message m, const uint8_t *bytes, size_t n, uint8_t refusal) {
     if (!l.calls) return;
     fputs("queue", l.calls);
     word_hex(l.calls, bytes, n);
+    if (m.class_ != VANITYCROW_ROUTINE) fprintf(l.calls, " %u", (unsigned)m.class_);
     fputc('\n', l.calls);
     list_answer(l, "queue", refusal);
+}
+
+/* The line of `messages`; labels and withdrawn bytes are 0. */
+static inline void list_messages(struct call_list l, const struct vanitycrow_messages *m) {
+    if (!l.calls) return;
+    fputs("messages\n", l.calls);
+    fprintf(l.transcript, "messages %zu %d 0", m->n, m->n && m->begun);
+    for (size_t i = 0; i < m->n; i++) fprintf(l.transcript, " %u:0:%u", (unsigned)m->class_[i], (unsigned)m->left[i]);
+    fputc('\n', l.transcript);
 }
 
 static inline void list_short(struct call_list l, struct vanitycrow_heard h, struct vanitycrow_ack r, uint8_t refusal) {

@@ -1,6 +1,6 @@
 /* The sender of an HF station: six calls over one record and one work area, a lookup, the link log, and the levels within reach.
  *
- * Link with libstation.a (`rt staticlib station`). A sender is a struct vanitycrow_sender and a work area of VANITYCROW_AREA_BYTES
+ * Link with libstation.a (`rt staticlib station`). A sender is a struct vanitycrow_station and a work area of VANITYCROW_AREA_BYTES
  * bytes, all zero at first; vanitycrow_fresh makes the record. Each call changes both, and nothing else may. One profile serves a sender
  * for all its calls. No call asks anything of its values: what it cannot take it refuses, with the number of the first refusal below that
  * holds, and then record, work area and output keep every byte.
@@ -18,9 +18,9 @@ extern "C" {
 #endif
 
 /* The version of this interface (CHANGELOG.md). */
-#define VANITYCROW_VERSION "0.5.0"
+#define VANITYCROW_VERSION "0.6.0"
 #define VANITYCROW_VERSION_MAJOR 0
-#define VANITYCROW_VERSION_MINOR 4
+#define VANITYCROW_VERSION_MINOR 6
 #define VANITYCROW_VERSION_PATCH 0
 
 #define VANITYCROW_AREA_BYTES 49152
@@ -28,6 +28,8 @@ extern "C" {
 #define VANITYCROW_WAVES 6   /* 0 to 5, by rank */
 #define VANITYCROW_MAX_SLOTS 64 /* frames of a burst */
 #define VANITYCROW_MAX_WAITING 16384 /* bytes that may wait */
+#define VANITYCROW_MAX_MESSAGES 256 /* messages that may wait */
+#define VANITYCROW_MAX_CLASS 3 /* classes of messages: VANITYCROW_FLASH to VANITYCROW_ROUTINE */
 #define VANITYCROW_ADIF_BYTES 256 /* least output of a link log */
 #define VANITYCROW_LAST_SECOND 4102444799u /* since 1970: the end of 2099 */
 
@@ -44,6 +46,8 @@ enum {
     VANITYCROW_QUEUE_FULL = 8,           /* more than VANITYCROW_MAX_WAITING bytes would wait */
     VANITYCROW_ALL_TAKEN = 9,            /* more than 2^32 - 1 bytes would be taken in all */
     VANITYCROW_SHORT_OUTPUT = 10,        /* the output is shorter than VANITYCROW_MAX_SLOTS long frames */
+    VANITYCROW_BAD_CLASS = 11,           /* a message's class is above VANITYCROW_MAX_CLASS */
+    VANITYCROW_TOO_MANY_MESSAGES = 12,   /* more than VANITYCROW_MAX_MESSAGES messages would wait */
     VANITYCROW_BAD_RANGE = 19,           /* the lowest report is above the highest */
     VANITYCROW_BAD_CALL_SIGN = 20,       /* not 1 to 12 capitals, digits and slashes */
     VANITYCROW_BAD_LINK_TIME = 21,       /* past VANITYCROW_LAST_SECOND, or the end before the start */
@@ -192,8 +196,6 @@ struct vanitycrow_last_burst {
     size_t n;
 };
 
-/* The record that a station holds. The bytes between its fields have no meaning: an accepted call may leave anything there, a refused one writes nothing.
- * Two records are compared field by field. */
 struct vanitycrow_sender {
     struct vanitycrow_gear gear;
     struct vanitycrow_link link;
@@ -201,6 +203,30 @@ struct vanitycrow_sender {
     struct vanitycrow_at_peer at_peer;
     struct vanitycrow_last_burst last_burst;
 };
+
+/* The n messages of which bytes wait, in the order in which they will go; the bytes left of them sum to counts.waiting. A message is there until its last
+ * byte begins to fly. begun: bytes of the first have begun to fly; it says nothing with no message. */
+struct vanitycrow_messages {
+    uint16_t left[VANITYCROW_MAX_MESSAGES]; /* bytes that wait, 1 or more */
+    uint8_t class_[VANITYCROW_MAX_MESSAGES];
+    size_t n;
+    bool begun;
+};
+
+/* The record that a station holds. The bytes between its fields have no meaning: an accepted call may leave anything there, a refused one writes nothing.
+ * Two records are compared field by field. */
+struct vanitycrow_station {
+    struct vanitycrow_sender sender;
+    struct vanitycrow_messages messages;
+};
+
+/* ---- messages */
+
+/* Precedence classes. A message once begun is finished; then the lowest class waiting goes, the earliest of it first. */
+enum { VANITYCROW_FLASH = 0, VANITYCROW_IMMEDIATE = 1, VANITYCROW_PRIORITY = 2, VANITYCROW_ROUTINE = 3 };
+
+/* What a queuing says of its message. */
+struct vanitycrow_message { uint8_t class_; };
 
 /* ---- replies */
 
@@ -268,37 +294,38 @@ struct vanitycrow_logged { uint8_t refusal; size_t len; };
  * are 0, and n is 0 where the call is refused. */
 struct vanitycrow_listing { uint8_t refusal; size_t n; uint8_t level[VANITYCROW_LEVELS]; uint8_t q[VANITYCROW_LEVELS]; };
 
-/* ---- calls: p the profile, s the record, a the work area of a_len bytes */
+/* ---- calls: p the profile, t the record, a the work area of a_len bytes */
 
-/* Makes *s the record of a new sender, whatever it was. */
-void vanitycrow_fresh(struct vanitycrow_sender *s);
+/* Makes *t the record of a new sender, whatever it was. */
+void vanitycrow_fresh(struct vanitycrow_station *t);
 
-/* Queues n bytes to send; 0 are accepted. Refusals 1 2 3 4 8 9. */
-uint8_t vanitycrow_queue(const struct vanitycrow_profile *p, struct vanitycrow_sender *s, uint8_t *a, size_t a_len, const uint8_t *bytes, size_t n);
+/* Queues n bytes to send as one message; 0 are accepted, make none and change nothing. Refusals 1 2 3 4 11 8 9 12, in this order. */
+uint8_t vanitycrow_queue(const struct vanitycrow_profile *p, struct vanitycrow_station *t, uint8_t *a, size_t a_len, struct vanitycrow_message m,
+                         const uint8_t *bytes, size_t n);
 
 /* A connect answer. Refusals 1 to 6. */
-uint8_t vanitycrow_connect(const struct vanitycrow_profile *p, struct vanitycrow_sender *s, uint8_t *a, size_t a_len, struct vanitycrow_heard h,
+uint8_t vanitycrow_connect(const struct vanitycrow_profile *p, struct vanitycrow_station *t, uint8_t *a, size_t a_len, struct vanitycrow_heard h,
                            struct vanitycrow_conn_ack r);
 
 /* A short ack. Refusals 1 to 6. */
-uint8_t vanitycrow_short_ack(const struct vanitycrow_profile *p, struct vanitycrow_sender *s, uint8_t *a, size_t a_len, struct vanitycrow_heard h,
+uint8_t vanitycrow_short_ack(const struct vanitycrow_profile *p, struct vanitycrow_station *t, uint8_t *a, size_t a_len, struct vanitycrow_heard h,
                              struct vanitycrow_ack r);
 
 /* A long ack and the n bytes of its payload. Refusals 1 to 7. */
-uint8_t vanitycrow_long_ack(const struct vanitycrow_profile *p, struct vanitycrow_sender *s, uint8_t *a, size_t a_len, struct vanitycrow_heard h,
+uint8_t vanitycrow_long_ack(const struct vanitycrow_profile *p, struct vanitycrow_station *t, uint8_t *a, size_t a_len, struct vanitycrow_heard h,
                             struct vanitycrow_long_ack r, const uint8_t *payload, size_t n);
 
 /* A turn. Refusals 1 to 6. */
-uint8_t vanitycrow_turn(const struct vanitycrow_profile *p, struct vanitycrow_sender *s, uint8_t *a, size_t a_len, struct vanitycrow_heard h,
+uint8_t vanitycrow_turn(const struct vanitycrow_profile *p, struct vanitycrow_station *t, uint8_t *a, size_t a_len, struct vanitycrow_heard h,
                         struct vanitycrow_turn r);
 
 /* The next burst: frames.n frames back to back in out, each of the level's frame size; what lies past them keeps its bytes.
  * Refusals 1 2 3 4 10. */
-struct vanitycrow_burst vanitycrow_data_burst(const struct vanitycrow_profile *p, struct vanitycrow_sender *s, uint8_t *a, size_t a_len, uint8_t *out,
+struct vanitycrow_burst vanitycrow_data_burst(const struct vanitycrow_profile *p, struct vanitycrow_station *t, uint8_t *a, size_t a_len, uint8_t *out,
                                               size_t n);
 
 /* Where the bytes of the flying piece at this offset lie in the work area. Refusals 1 to 4. */
-struct vanitycrow_place vanitycrow_find(const struct vanitycrow_profile *p, const struct vanitycrow_sender *s, const uint8_t *a, size_t a_len,
+struct vanitycrow_place vanitycrow_find(const struct vanitycrow_profile *p, const struct vanitycrow_station *t, const uint8_t *a, size_t a_len,
                                         uint32_t off);
 
 /* A finished link as one record of ADIF 3 at the start of out, with no line end and no zero behind it; what lies past it keeps its bytes.

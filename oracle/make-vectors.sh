@@ -7,15 +7,16 @@ vectors=$here/../vectors
 find "$vectors" -maxdepth 1 -name '*-[0-9]*-[0-9]*.calls' -exec rm {} +
 find "$vectors" -maxdepth 1 -name '*.transcript' -exec rm {} +
 
-# vectors KIND CALLS SEED..
+# vectors KIND CALLS SEED.., into $into
 vectors() {
     kind=$1
     calls=$2
     shift 2
     for seed; do
-        "$here/run" generate "$seed" 1 "$calls" "$kind" >"$vectors/$kind-$calls-$seed.calls"
+        "$here/run" generate "$seed" 1 "$calls" "$kind" >"$into/$kind-$calls-$seed.calls"
     done
 }
+into=$vectors
 
 vectors usual 26 6 16 33 41 43 47 50 59 62 64 67 74 79
 vectors usual 30 411
@@ -35,8 +36,12 @@ vectors profiles 24 3 4 5 8
 vectors lines 5 0 18 25 37 64 89 131 133 143 145 169 184 188 196 197 210 234 241 245 259 263 265 279 296 299 302 309 369 \
     389 392
 
-"$here/run" generate 12 1 180 levels >"$vectors/changes/levels-180-12.calls"
+into=$vectors/changes
+vectors levels 180 12
+vectors classes 40 2 5 12 14 15 21 32 33 41 51
+vectors classes 70 9 18 42 53
 
-for list in "$vectors"/*.calls "$vectors"/changes/levels-*.calls "$here/../examples/levels.calls"; do
+examples=$here/../examples
+for list in "$vectors"/*.calls "$vectors"/changes/levels-*.calls "$vectors"/changes/classes-*.calls "$examples/levels.calls" "$examples/classes.calls"; do
     "$here/run" transcript "$list" >"${list%.calls}.transcript"
 done

@@ -15,10 +15,11 @@ static void bools(const char *what, const void *at, size_t n) {
     for (size_t i = 0; i < n; i++) same(what, bytes_at[i] > 1, 0);
 }
 
-static void record_bools(const char *what, const struct vanitycrow_sender *s) {
+static void record_bools(const char *what, const struct vanitycrow_station *t) {
+    const struct vanitycrow_sender *s = &t->sender;
     const bool *single[] = {
         &s->gear.aim_db.set, &s->gear.last_report_db.set, &s->gear.peer_class.echo, &s->gear.peer_class.doppler, &s->gear.cue,
-        &s->link.connected, &s->link.awaiting, &s->link.heard, &s->link.peer_wants_turn, &s->link.peer_wants_disc,
+        &s->link.connected, &s->link.awaiting, &s->link.heard, &s->link.peer_wants_turn, &s->link.peer_wants_disc, &t->messages.begun,
     };
     for (size_t i = 0; i < sizeof single / sizeof *single; i++) bools(what, single[i], 1);
     bools(what, s->gear.tries.tried, VANITYCROW_LEVELS);
@@ -26,31 +27,31 @@ static void record_bools(const char *what, const struct vanitycrow_sender *s) {
 }
 
 static void written_bools(void) {
-    struct vanitycrow_sender s;
-    memset(&s, 0xFF, sizeof s);
-    vanitycrow_fresh(&s);
-    record_bools("a fresh record over bytes 255", &s);
-    record_bools("a record that is connected", &open_one.s);
-    record_bools("a record with pieces in flight", &flown_one.s);
+    struct vanitycrow_station t;
+    memset(&t, 0xFF, sizeof t);
+    vanitycrow_fresh(&t);
+    record_bools("a fresh record over bytes 255", &t);
+    record_bools("a record that is connected", &open_one.record);
+    record_bools("a record with pieces in flight and a begun message", &flown_one.record);
     memcpy(&tried, &open_one, sizeof tried);
-    struct vanitycrow_burst b = vanitycrow_data_burst(&tried.p, &tried.s, tried.area, VANITYCROW_AREA_BYTES, tried.out, OUT_BYTES);
+    struct vanitycrow_burst b = vanitycrow_data_burst(&tried.p, &tried.record, tried.area, VANITYCROW_AREA_BYTES, tried.out, OUT_BYTES);
     same("a burst", b.refusal, 0);
     bools("a burst's cue", &b.outgoing.cue, 1);
     bools("a burst's td_ease", &b.outgoing.td_ease, 1);
-    struct vanitycrow_place here = vanitycrow_find(&tried.p, &tried.s, tried.area, VANITYCROW_AREA_BYTES, 0);
+    struct vanitycrow_place here = vanitycrow_find(&tried.p, &tried.record, tried.area, VANITYCROW_AREA_BYTES, 0);
     same("a piece", here.here, 1);
     bools("a piece's place", &here.here, 1);
 }
 
 /* Each call with no work area at all: refused by 3, as with an empty one. */
 static void no_area(struct station *t, const struct arguments *g) {
-    same("connect, no area", vanitycrow_connect(&t->p, &t->s, NULL, 0, g->h, g->connect), 3);
-    same("queue, no area", vanitycrow_queue(&t->p, &t->s, NULL, 0, NULL, 0), 3);
-    same("short ack, no area", vanitycrow_short_ack(&t->p, &t->s, NULL, 0, g->h, g->ack), 3);
-    same("long ack, no area", vanitycrow_long_ack(&t->p, &t->s, NULL, 0, g->h, g->long_ack, NULL, 0), 3);
-    same("turn, no area", vanitycrow_turn(&t->p, &t->s, NULL, 0, g->h, g->turn), 3);
-    same("burst, no area", vanitycrow_data_burst(&t->p, &t->s, NULL, 0, NULL, 0).refusal, 3);
-    same("find, no area", vanitycrow_find(&t->p, &t->s, NULL, 0, 0).refusal, 3);
+    same("connect, no area", vanitycrow_connect(&t->p, &t->record, NULL, 0, g->h, g->connect), 3);
+    same("queue, no area", vanitycrow_queue(&t->p, &t->record, NULL, 0, g->message, NULL, 0), 3);
+    same("short ack, no area", vanitycrow_short_ack(&t->p, &t->record, NULL, 0, g->h, g->ack), 3);
+    same("long ack, no area", vanitycrow_long_ack(&t->p, &t->record, NULL, 0, g->h, g->long_ack, NULL, 0), 3);
+    same("turn, no area", vanitycrow_turn(&t->p, &t->record, NULL, 0, g->h, g->turn), 3);
+    same("burst, no area", vanitycrow_data_burst(&t->p, &t->record, NULL, 0, NULL, 0).refusal, 3);
+    same("find, no area", vanitycrow_find(&t->p, &t->record, NULL, 0, 0).refusal, 3);
 }
 
 static void no_memory(void) {
@@ -62,11 +63,12 @@ static void no_memory(void) {
     memcpy(t, &open_one, sizeof *t);
     no_area(t, &given);
     same("record and buffers, no area", (unsigned)memcmp(t, &open_one, sizeof *t), 0);
-    same("queue of nothing", vanitycrow_queue(&t->p, &t->s, t->area, n, NULL, 0), 0);
-    same("bytes that wait after it", t->s.counts.waiting, open_one.s.counts.waiting);
-    same("a long ack of nothing", vanitycrow_long_ack(&t->p, &t->s, t->area, n, given.h, given.long_ack, NULL, 0), 7);
-    same("a burst into nothing", vanitycrow_data_burst(&t->p, &t->s, t->area, n, NULL, 0).refusal, 10);
-    same("a burst into an empty output", vanitycrow_data_burst(&t->p, &t->s, t->area, n, t->out, 0).refusal, 10);
+    same("queue of nothing", vanitycrow_queue(&t->p, &t->record, t->area, n, given.message, NULL, 0), 0);
+    same("bytes that wait after it", t->record.sender.counts.waiting, open_one.record.sender.counts.waiting);
+    same("messages that wait after it", (unsigned)t->record.messages.n, (unsigned)open_one.record.messages.n);
+    same("a long ack of nothing", vanitycrow_long_ack(&t->p, &t->record, t->area, n, given.h, given.long_ack, NULL, 0), 7);
+    same("a burst into nothing", vanitycrow_data_burst(&t->p, &t->record, t->area, n, NULL, 0).refusal, 10);
+    same("a burst into an empty output", vanitycrow_data_burst(&t->p, &t->record, t->area, n, t->out, 0).refusal, 10);
     same("a link log of no call sign", vanitycrow_adif(NULL, 0, 0, 0, 0, t->out, OUT_BYTES).refusal, 20);
     same("a link log into nothing", vanitycrow_adif((const uint8_t *)"A", 1, 0, 0, 0, NULL, 0).refusal, 22);
 }

@@ -18,17 +18,19 @@ static const char *const kind_names[KINDS] = {"connect", "queue", "short ack", "
 /* What a run has seen. */
 struct seen {
     unsigned long long calls[KINDS];
-    unsigned long long answers[11];
+    unsigned long long answers[VANITYCROW_TOO_MANY_MESSAGES + 1];
     unsigned long long acked;
     unsigned long long frames;
-    size_t most_pieces, most_flying, most_held, most_frames;
+    unsigned long long overtaking; /* queuings */
+    size_t most_pieces, most_flying, most_held, most_frames, most_messages;
 };
 
 struct run {
     const char *name;
     struct lent profile, record, area, out;
     const struct vanitycrow_profile *p;
-    struct vanitycrow_sender *s;
+    struct vanitycrow_station *station;
+    struct vanitycrow_sender *s; /* of it */
     struct tally t;
     struct far_station far;
     struct call_list list;
@@ -91,7 +93,7 @@ static void before(struct run *r) {
 
 /* An offset that is listed as held before and after has a piece of the same length both times. */
 static void compare_held(const struct run *r, enum kind k) {
-    const struct vanitycrow_sender *old = (const struct vanitycrow_sender *)(r->record.before + watched);
+    const struct vanitycrow_sender *old = &((const struct vanitycrow_station *)(r->record.before + watched))->sender;
     const uint8_t *old_area = r->area.before + watched;
     for (size_t i = 0; i < r->s->at_peer.n; i++)
         for (size_t j = 0; j < old->at_peer.n; j++) {
@@ -108,7 +110,7 @@ static void most(size_t *m, size_t n) {
 
 /* Whether the record is as noted, the bytes between its fields too. */
 static int record_kept(const struct run *r) {
-    uint8_t now[sizeof *r->s];
+    uint8_t now[sizeof *r->station];
     uint8_t *before = r->record.before + watched;
     memcpy(now, r->record.bytes, sizeof now);
     VALGRIND_MAKE_MEM_DEFINED(now, sizeof now);
@@ -131,13 +133,15 @@ static void after(struct run *r, enum kind k, uint8_t answer, uint8_t expected, 
     if (!kept_from(&r->area, VANITYCROW_AREA_BYTES)) differ(r, k, "bytes around the work area changed");
     if (!kept_from(&r->out, written)) differ(r, k, "the output past the frames changed");
     if ((answer || k == FIND) && !(record_kept(r) && kept(&r->area))) differ(r, k, "record or work area changed");
-    if ((wrong = compare_tally(&r->t, r->s, r->area.bytes))) differ(r, k, wrong);
+    if ((wrong = compare_tally(&r->t, r->station, r->area.bytes))) differ(r, k, wrong);
     if (r->s->counts.airtime_ms != r->airtime_ms) differ(r, k, "another time on the air");
     compare_held(r, k);
     most(&r->seen.most_pieces, r->s->counts.pieces);
     most(&r->seen.most_flying, r->s->counts.flying);
     most(&r->seen.most_held, r->s->at_peer.n);
+    most(&r->seen.most_messages, r->station->messages.n);
     list_state(r->list, r->p, r->s, r->area.bytes);
+    list_messages(r->list, &r->station->messages);
 }
 
 static void connect_call(struct run *r, uint32_t wild) {
@@ -145,7 +149,7 @@ static void connect_call(struct run *r, uint32_t wild) {
     struct vanitycrow_conn_ack c = far_answer(&r->far, wild);
     uint8_t expected = expect_reply(r, CONNECT, h, db_in_range(c.snr_db) && c.slot <= 2);
     before(r);
-    uint8_t answer = vanitycrow_connect(r->p, r->s, r->area.bytes, r->area_len, h, c);
+    uint8_t answer = vanitycrow_connect(r->p, r->station, r->area.bytes, r->area_len, h, c);
     list_connect(r->list, h, c, answer);
     if (!answer) {
         r->connected = true;
@@ -154,18 +158,29 @@ static void connect_call(struct run *r, uint32_t wild) {
     after(r, CONNECT, answer, expected, 0);
 }
 
-/* Queues n bytes, out of a buffer of that length. */
-static void queue_call(struct run *r, size_t n) {
+/* Refusals 11, 8 and 12 of a queuing of n bytes; 9 comes never, as fewer are taken. */
+static uint8_t expect_room(const struct run *r, struct vanitycrow_message m, size_t n) {
+    if (m.class_ > VANITYCROW_MAX_CLASS) return 11;
+    if (r->t.waiting + n > VANITYCROW_MAX_WAITING) return 8;
+    return n && r->t.count == VANITYCROW_MAX_MESSAGES ? 12 : 0;
+}
+
+/* Queues n bytes as a message, out of a buffer of that length. */
+static void queue_call(struct run *r, struct vanitycrow_message m, size_t n) {
     struct lent bytes = lend(n, 0);
     for (size_t i = 0; i < n; i++) bytes.bytes[i] = (uint8_t)chance();
     note(&bytes);
     uint8_t expected = expect_standing(r, QUEUE);
-    if (!expected && r->t.waiting + n > VANITYCROW_MAX_WAITING) expected = 8;
+    if (!expected) expected = expect_room(r, m, n);
     before(r);
-    uint8_t answer = vanitycrow_queue(r->p, r->s, r->area.bytes, r->area_len, bytes.bytes, n);
-    list_queue(r->list, bytes.bytes, n, answer);
+    uint8_t answer = vanitycrow_queue(r->p, r->station, r->area.bytes, r->area_len, m, bytes.bytes, n);
+    list_queue(r->list, m, bytes.bytes, n, answer);
     if (!kept(&bytes)) differ(r, QUEUE, "the queued bytes changed");
-    if (!answer) tally_queue(&r->t, bytes.bytes, n);
+    if (!answer) {
+        const struct vanitycrow_messages *w = &r->station->messages;
+        tally_queue(&r->t, m, bytes.bytes, n);
+        r->seen.overtaking += n && w->n && w->class_[w->n - 1] > m.class_;
+    }
     give_back(&bytes);
     after(r, QUEUE, answer, expected, 0);
 }
@@ -175,7 +190,7 @@ static void short_call(struct run *r, uint32_t wild) {
     struct vanitycrow_ack a = far_short(&r->far, wild);
     uint8_t expected = expect_reply(r, SHORT_ACK, h, a.burst <= 3 && a.bitmap <= 63 && db_in_range(a.snr_db) && a.slot <= 2);
     before(r);
-    uint8_t answer = vanitycrow_short_ack(r->p, r->s, r->area.bytes, r->area_len, h, a);
+    uint8_t answer = vanitycrow_short_ack(r->p, r->station, r->area.bytes, r->area_len, h, a);
     list_short(r->list, h, a, answer);
     if (!answer) {
         tally_short(&r->t, a);
@@ -195,7 +210,7 @@ static void long_call(struct run *r, uint32_t wild) {
     uint8_t expected = expect_reply(r, LONG_ACK, h, true);
     if (!expected && n < 13) expected = 7;
     before(r);
-    uint8_t answer = vanitycrow_long_ack(r->p, r->s, r->area.bytes, r->area_len, h, a, payload.bytes, n);
+    uint8_t answer = vanitycrow_long_ack(r->p, r->station, r->area.bytes, r->area_len, h, a, payload.bytes, n);
     list_long(r->list, h, a, bytes, n, answer);
     if (!kept(&payload)) differ(r, LONG_ACK, "the payload changed");
     give_back(&payload);
@@ -212,7 +227,7 @@ static void turn_call(struct run *r, uint32_t wild) {
     if (percent(50)) h.wave = (uint8_t)below(6); /* this drops the level to the wave's */
     uint8_t expected = expect_reply(r, TURN, h, !a.report.set || db_in_range(a.report.db));
     before(r);
-    uint8_t answer = vanitycrow_turn(r->p, r->s, r->area.bytes, r->area_len, h, a);
+    uint8_t answer = vanitycrow_turn(r->p, r->station, r->area.bytes, r->area_len, h, a);
     list_turn(r->list, h, a, answer);
     if (!answer) {
         tally_turn(&r->t);
@@ -237,7 +252,7 @@ static void burst_call(struct run *r) {
     const char *wrong;
     if (!expected && r->out_len < VANITYCROW_MAX_SLOTS * r->p->long_bytes) expected = 10;
     before(r);
-    struct vanitycrow_burst b = vanitycrow_data_burst(r->p, r->s, r->area.bytes, r->area_len, r->out.bytes, r->out_len);
+    struct vanitycrow_burst b = vanitycrow_data_burst(r->p, r->station, r->area.bytes, r->area_len, r->out.bytes, r->out_len);
     list_burst(r->list, &b, r->out.bytes, size);
     if (!b.refusal) {
         tally_burst(&r->t, &b.outgoing);
@@ -266,7 +281,7 @@ static void find_call(struct run *r) {
     for (size_t i = 0; i < n && row_word(r->area.bytes, i, 0) < off; i++) start += row_word(r->area.bytes, i, 1);
     uint8_t expected = expect_standing(r, FIND);
     before(r);
-    struct vanitycrow_place w = vanitycrow_find(r->p, r->s, r->area.bytes, r->area_len, off);
+    struct vanitycrow_place w = vanitycrow_find(r->p, r->station, r->area.bytes, r->area_len, off);
     list_piece(r->list, off, w, r->area.bytes);
     if (w.here != (len > 0 && !expected) || (w.here && (w.len != len || w.start != start))) differ(r, FIND, "another place");
     after(r, FIND, w.refusal, expected, 0);

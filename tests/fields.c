@@ -1,6 +1,6 @@
-/* Every limit of document 01 through the C interface, field by field: accepted on the limit and just inside, refused by its number just
- * outside; and after each refused call every byte of profile, record, work area and output is as before, and all of them on pages that may
- * only be read. The last line counts the checks; the status is 1 where one failed. */
+/* Every limit of documents 01 and 02 through the C interface, field by field: accepted on the limit and just inside, refused by its number
+ * just outside; and after each refused call every byte of profile, record, work area and output is as before, and all of them on pages that
+ * may only be read. The last line counts the checks; the status is 1 where one failed. */
 #include <math.h>
 #include <stdio.h>
 #include <string.h>
@@ -169,8 +169,8 @@ static void record_check(const char *what, uint8_t number) {
 }
 
 static void record_numbers(void) {
-    struct vanitycrow_gear *g = &subject.s.gear;
-    struct vanitycrow_link *k = &subject.s.link;
+    struct vanitycrow_gear *g = &subject.record.sender.gear;
+    struct vanitycrow_link *k = &subject.record.sender.link;
     const struct field fields[] = {
         {"gear.level", &g->level, SIZE, 1, 0, 16, BOTH},
         {"gear.target", &g->target, SIZE, 1, 0, 16, BOTH},
@@ -191,7 +191,6 @@ static void record_numbers(void) {
         {"link.peer_slot", &k->peer_slot, U8, 1, 0, 255, BOTH},
         {"link.peer_doppler_hz", &k->peer_doppler_hz, F32, 1, 0, 63.5, OR_NAN},
         {"link.peer_wave", &k->peer_wave, U8, 1, 0, 255, BOTH},
-        {"counts.waiting", &subject.s.counts.waiting, U32, 1, 0, 16384, BOTH},
     };
     memcpy(&subject, &flown_one, sizeof subject);
     g->aim_db.set = g->last_report_db.set = k->heard = true;
@@ -202,7 +201,7 @@ static void record_numbers(void) {
 
 /* Of the reports as many are looked at as are there, the newest first; a count above three reads as three. */
 static void record_reports(void) {
-    struct vanitycrow_reports *r = &subject.s.gear.snr_reports;
+    struct vanitycrow_reports *r = &subject.record.sender.gear.snr_reports;
     float *const newest_first[] = {&r->c, &r->b, &r->a};
     memcpy(&subject, &flown_one, sizeof subject);
     for (int count = 0; count <= UINT8_MAX; count++)
@@ -215,8 +214,8 @@ static void record_reports(void) {
 
 /* What is not there is not looked at; a field still at its value in a fresh record is sound. */
 static void record_not_there(void) {
-    struct vanitycrow_gear *g = &subject.s.gear;
-    struct vanitycrow_link *k = &subject.s.link;
+    struct vanitycrow_gear *g = &subject.record.sender.gear;
+    struct vanitycrow_link *k = &subject.record.sender.link;
     memcpy(&subject, &flown_one, sizeof subject);
     g->aim_db = g->last_report_db = (struct vanitycrow_maybe_db){false, NAN};
     record_check("dB beside flags that are off", 0);
@@ -243,13 +242,13 @@ static void record_not_there(void) {
 
 /* Held pieces, the outstanding burst and their counts. */
 static void record_lists(void) {
-    struct vanitycrow_at_peer *h = &subject.s.at_peer;
-    struct vanitycrow_last_burst *b = &subject.s.last_burst;
+    struct vanitycrow_at_peer *h = &subject.record.sender.at_peer;
+    struct vanitycrow_last_burst *b = &subject.record.sender.last_burst;
     uint32_t mother = subject.p.codes.mother;
     const struct field fields[] = {
-        {"at_peer.bits", h->bits, U32, flown_one.s.at_peer.n, 1, 2.0 * mother - 1, BOTH},
-        {"last_burst.held", b->held, U32, flown_one.s.last_burst.n, 16384, 49151, BOTH},
-        {"last_burst.bits", b->bits, U32, flown_one.s.last_burst.n, 1, 16384, BOTH},
+        {"at_peer.bits", h->bits, U32, flown_one.record.sender.at_peer.n, 1, 2.0 * mother - 1, BOTH},
+        {"last_burst.held", b->held, U32, flown_one.record.sender.last_burst.n, 16384, 49151, BOTH},
+        {"last_burst.bits", b->bits, U32, flown_one.record.sender.last_burst.n, 1, 16384, BOTH},
     };
     memcpy(&subject, &flown_one, sizeof subject);
     check_field(fields, 3, record_check);
@@ -275,15 +274,15 @@ static void record_lists(void) {
 struct change { const char *name; size_t *at; size_t value; uint8_t number; };
 
 static void record_list_counts(void) {
-    struct vanitycrow_sender *s = &subject.s;
-    const size_t held = flown_one.s.at_peer.n;
+    struct vanitycrow_sender *s = &subject.record.sender;
+    const size_t held = flown_one.record.sender.at_peer.n;
     const struct change changes[] = {
         {"held 65", &s->at_peer.n, 65, 3}, {"held 2^64 - 1", &s->at_peer.n, SIZE_MAX, 3},
         {"rest over held", &s->at_peer.rest, held + 1, 3}, {"rest 2^64 - 1", &s->at_peer.rest, SIZE_MAX, 3},
         {"none held", &s->at_peer.n, 0, 0}, {"outstanding 65", &s->last_burst.n, 65, 3},
         {"outstanding 2^64 - 1", &s->last_burst.n, SIZE_MAX, 3}, {"none outstanding", &s->last_burst.n, 0, 0},
-        {"a piece more", &s->counts.pieces, flown_one.s.counts.pieces + 1, 3},
-        {"a piece less", &s->counts.pieces, flown_one.s.counts.pieces - 1, 3},
+        {"a piece more", &s->counts.pieces, flown_one.record.sender.counts.pieces + 1, 3},
+        {"a piece less", &s->counts.pieces, flown_one.record.sender.counts.pieces - 1, 3},
         {"2,049 pieces", &s->counts.pieces, 2049, 3}, {"2^64 - 1 pieces", &s->counts.pieces, SIZE_MAX, 3},
     };
     for (size_t i = 0; i < COUNT(changes); i++) {
@@ -296,7 +295,7 @@ static void record_list_counts(void) {
 
 /* An offset is both outstanding and in the unsent rest; then the rest is what is not outstanding. */
 static void record_rest(void) {
-    struct vanitycrow_sender *s = &subject.s;
+    struct vanitycrow_sender *s = &subject.record.sender;
     memcpy(&subject, &flown_one, sizeof subject);
     s->at_peer.off[0] = s->last_burst.off[0];
     s->at_peer.bits[0] = 1;
@@ -307,7 +306,7 @@ static void record_rest(void) {
 }
 
 static void record_counts(void) {
-    struct vanitycrow_counts *c = &subject.s.counts;
+    struct vanitycrow_counts *c = &subject.record.sender.counts;
     uint32_t *const counts[] = {&c->next_offset, &c->flying, &c->bytes_acked};
     for (size_t i = 0; i < COUNT(counts); i++)
         for (int up = 0; up < 2; up++) {
@@ -325,6 +324,106 @@ static void record_counts(void) {
     record_check("2^32 taken", 3);
 }
 
+/* n messages of routine class with these bytes left each, and as many bytes that wait. */
+static void put_messages(size_t n, uint16_t left) {
+    struct vanitycrow_messages *m = &subject.record.messages;
+    for (size_t i = 0; i < n; i++) {
+        m->left[i] = left;
+        m->class_[i] = VANITYCROW_ROUTINE;
+    }
+    m->n = n;
+    subject.record.sender.counts.waiting = (uint32_t)n * left;
+}
+
+/* Bytes wait in one message, or none. */
+static void record_waiting(void) {
+    memcpy(&subject, &flown_one, sizeof subject);
+    put_messages(0, 0);
+    record_check("none waits", 0);
+    subject.record.messages.begun = false;
+    record_check("none waits, none has begun", 0);
+    for (uint32_t n = 1; n <= 16385; n += n < 3 || n > 16380 ? 1 : 16379) {
+        put_messages(1, (uint16_t)n);
+        record_check("bytes that wait", n <= 16384 ? 0 : 3);
+        subject.record.sender.counts.waiting = n - 1;
+        record_check("fewer bytes wait than messages have", 3);
+        subject.record.sender.counts.waiting = n + 1;
+        record_check("more bytes wait than messages have", 3);
+    }
+}
+
+/* Each of 256 messages: its class, its bytes left, and the sum of these. */
+static void record_each_message(void) {
+    struct vanitycrow_messages *m = &subject.record.messages;
+    uint32_t *waiting = &subject.record.sender.counts.waiting;
+    const struct field classes = {"messages.class", m->class_, U8, VANITYCROW_MAX_MESSAGES, 0, 3, BOTH};
+    memcpy(&subject, &flown_one, sizeof subject);
+    put_messages(VANITYCROW_MAX_MESSAGES, 2);
+    check_field(&classes, 3, record_check);
+    for (size_t i = 0; i < VANITYCROW_MAX_MESSAGES; i++) {
+        m->left[i] = 1;
+        record_check("a byte too few left", 3);
+        *waiting = 511;
+        record_check("one byte left", 0);
+        m->left[i] = 0;
+        *waiting = 510;
+        record_check("no byte left", 3);
+        m->left[i] = 3;
+        record_check("a byte too many left", 3);
+        *waiting = 513;
+        record_check("three bytes left", 0);
+        m->left[i] = 2;
+        *waiting = 512;
+    }
+}
+
+/* How many messages; what is not there is not looked at; a sum past 16 bits; orders that no list of calls makes. */
+static void record_messages(void) {
+    struct vanitycrow_messages *m = &subject.record.messages;
+    uint32_t *waiting = &subject.record.sender.counts.waiting;
+    memcpy(&subject, &flown_one, sizeof subject);
+    put_messages(VANITYCROW_MAX_MESSAGES, 1);
+    for (int begun = 0; begun < 2; begun++) {
+        m->begun = begun;
+        m->n = 256;
+        record_check("256 messages", 0);
+        m->n = 255;
+        record_check("256 bytes of 255 messages", 3);
+        m->n = 257;
+        record_check("257 messages", 3);
+        m->n = SIZE_MAX;
+        record_check("2^64 - 1 messages", 3);
+        m->n = 0;
+        record_check("256 bytes of no message", 3);
+    }
+    put_messages(2, 9);
+    for (size_t i = 2; i < VANITYCROW_MAX_MESSAGES; i++) {
+        m->class_[i] = 255;
+        m->left[i] = i % 2 ? 0 : UINT16_MAX;
+    }
+    record_check("messages that are not there", 0);
+    m->class_[0] = 3;
+    m->class_[1] = 0;
+    record_check("a lower class behind a higher one that has not begun", 0);
+    m->left[0] = UINT16_MAX;
+    m->left[1] = 11;
+    *waiting = 10;
+    record_check("a sum that is right modulo 65,536", 3);
+    *waiting = 65546;
+    record_check("a sum above 16,384", 3);
+}
+
+/* Unsound messages come behind a refused profile, before a call out of turn. */
+static void messages_in_turn(void) {
+    memcpy(&subject, &fresh_one, sizeof subject);
+    subject.record.messages.n = 257;
+    record_check("257 messages, not connected", 3);
+    subject.p.short_bytes = 181;
+    record_check("257 messages, short over long", 2);
+    subject.p.power = 3;
+    record_check("257 messages, a number out of range", 1);
+}
+
 /* Row i of the table of pieces. */
 static void put_row(size_t i, uint32_t off, uint32_t len) {
     for (int k = 0; k < 4; k++) subject.area[32768 + 8 * i + k] = (uint8_t)(off >> (8 * k));
@@ -340,7 +439,7 @@ static void area_rows(void) {
         {"an empty piece", 0, 0, 0, 170, 3},
         {"another sum", 0, 100, 100, 169, 3},              {"past the next offset", 0, 100, 131, 170, 3},
     };
-    struct vanitycrow_counts *c = &subject.s.counts;
+    struct vanitycrow_counts *c = &subject.record.sender.counts;
     for (size_t i = 0; i < COUNT(rows); i++) {
         memcpy(&subject, &open_one, sizeof subject);
         c->next_offset = 300;
@@ -355,7 +454,7 @@ static void area_rows(void) {
 
 /* The most that may fly: 16,320 bytes; and the pieces that short frames would make of it, 2,048. */
 static void area_most(void) {
-    struct vanitycrow_counts *c = &subject.s.counts;
+    struct vanitycrow_counts *c = &subject.record.sender.counts;
     for (uint32_t more = 0; more < 2; more++) {
         memcpy(&subject, &open_one, sizeof subject);
         subject.p.long_bytes = 265;
@@ -435,9 +534,9 @@ static void reply_times(void) {
         if (c == QUEUE) continue;
         replied = (enum call)c;
         memcpy(&subject, c == CONNECT ? &fresh_one : &flown_one, sizeof subject);
-        subject.s.link.last_time = 0;
+        subject.record.sender.link.last_time = 0;
         check_field(&time, 5, reply_check);
-        subject.s.link.last_time = 77.5;
+        subject.record.sender.link.last_time = 77.5;
         given.h.time = 77.5;
         reply_check("the last accepted time", 0);
         given.h.time = nextafter(77.5, 0);
@@ -459,14 +558,14 @@ static void payload_lengths(void) {
     given = usual_arguments();
 }
 
-/* ---- queuing: refusals 8 and 9; the output: 10 */
+/* ---- queuing: refusals 11, 8, 9 and 12; the output: 10 */
 
 static void queue_lengths(void) {
-    struct vanitycrow_counts *c = &subject.s.counts;
+    struct vanitycrow_counts *c = &subject.record.sender.counts;
     replied = QUEUE;
     memcpy(&subject, &open_one, sizeof subject);
     for (uint32_t waiting = 0; waiting <= 16384; waiting += 4096) {
-        c->waiting = waiting;
+        put_messages(waiting > 0, (uint16_t)waiting);
         given.bytes_len = 16384 - waiting;
         reply_check("16,384 bytes wait", 0);
         given.bytes_len++;
@@ -478,6 +577,96 @@ static void queue_lengths(void) {
         given.bytes_len = 0;
         reply_check("none more is taken", 0);
         c->next_offset = c->bytes_acked = 0;
+    }
+    given = usual_arguments();
+}
+
+/* Every class, with no byte, with some, and with more than may wait. */
+static void queue_classes(void) {
+    static const size_t lengths[] = {0, 1, 16374, 16375, 16385};
+    replied = QUEUE;
+    memcpy(&subject, &open_one, sizeof subject);
+    for (unsigned class_ = 0; class_ < 256; class_++)
+        for (size_t i = 0; i < COUNT(lengths); i++) {
+            given.message.class_ = (uint8_t)class_;
+            given.bytes_len = lengths[i];
+            reply_check("a message's class", class_ > 3 ? 11 : lengths[i] > 16374 ? 8 : 0);
+        }
+    given = usual_arguments();
+}
+
+/* A 257th message, whether one has begun or not; none of no bytes; 11, 8 and 9 come before it. */
+static void queue_messages(void) {
+    struct vanitycrow_counts *c = &subject.record.sender.counts;
+    replied = QUEUE;
+    for (int begun = 0; begun < 2; begun++)
+        for (uint8_t class_ = 0; class_ < 4; class_++)
+            for (size_t n = 254; n <= 256; n++) {
+                memcpy(&subject, &open_one, sizeof subject);
+                put_messages(n, 1);
+                subject.record.messages.begun = begun;
+                given.message.class_ = class_;
+                given.bytes_len = 0;
+                reply_check("no message more", 0);
+                given.bytes_len = 16384 - n;
+                reply_check("a message more", n < 256 ? 0 : 12);
+                given.bytes_len++;
+                reply_check("a message and a byte too many", 8);
+                given.message.class_ = 4;
+                reply_check("a message, a byte and a class too many", 11);
+                given.message.class_ = class_;
+                given.bytes_len = 1;
+                c->next_offset = c->bytes_acked = UINT32_MAX - (uint32_t)n;
+                reply_check("a message more, and 2^32 bytes taken", 9);
+                c->next_offset = c->bytes_acked = UINT32_MAX - (uint32_t)n - 1;
+                reply_check("a message more, and 2^32 - 1 bytes taken", n < 256 ? 0 : 12);
+            }
+    given = usual_arguments();
+}
+
+/* A queuing of n bytes of a class among four messages, of five bytes and classes 0 1 3 3 or, where the first has begun, 3 1 3 3: its message and its
+ * bytes, which are 0, come in at `row`; no bytes change nothing. */
+static void place_check(const char *name, bool begun, uint8_t class_, size_t row, size_t n) {
+    struct vanitycrow_messages *m = &subject.record.messages, want;
+    uint8_t waiting[20 + 3];
+    memcpy(&subject, &open_one, sizeof subject);
+    put_messages(4, 5);
+    memcpy(m->class_, begun ? "\3\1\3\3" : "\0\1\3\3", 4);
+    m->begun = begun;
+    for (size_t i = 0; i < 20; i++) subject.area[i] = (uint8_t)(i + 1);
+    want = *m;
+    memcpy(waiting, subject.area, 20);
+    if (n) {
+        memmove(want.class_ + row + 1, want.class_ + row, 4 - row);
+        want.class_[row] = class_;
+        want.left[4] = 5;
+        want.left[row] = (uint16_t)n;
+        want.n = 5;
+        memmove(waiting + 5 * row + n, waiting + 5 * row, 20 - 5 * row);
+        memset(waiting + 5 * row, 0, n);
+    }
+    given.message.class_ = class_;
+    given.bytes_len = n;
+    uint8_t refusal = make_call(QUEUE, &subject, &given);
+    checks++;
+    if (!refusal && m->n == want.n && m->begun == begun && memcmp(m->class_, want.class_, want.n) == 0 &&
+        memcmp(m->left, want.left, want.n * sizeof *want.left) == 0 && memcmp(subject.area, waiting, 20 + n) == 0 &&
+        subject.record.sender.counts.waiting == 20 + n)
+        return;
+    printf("fields: %s of %zu bytes: refusal %u, or at another place\n", name, n, (unsigned)refusal);
+    failures++;
+}
+
+static void queue_places(void) {
+    for (size_t n = 0; n <= 3; n++) {
+        place_check("flash", false, 0, 1, n);
+        place_check("immediate", false, 1, 2, n);
+        place_check("priority", false, 2, 2, n);
+        place_check("routine", false, 3, 4, n);
+        place_check("flash behind a begun one", true, 0, 1, n);
+        place_check("immediate behind a begun one", true, 1, 2, n);
+        place_check("priority behind a begun one", true, 2, 2, n);
+        place_check("routine behind a begun one", true, 3, 4, n);
     }
     given = usual_arguments();
 }
@@ -517,7 +706,7 @@ static void order_of_refusals(void) {
     reply_check("all but the profile", 3);
     given.area_len = 49152;
     reply_check("not connected", 4);
-    subject.s.link.connected = true;
+    subject.record.sender.link.connected = true;
     reply_check("time, values, payload", 5);
     given.h.time = 0;
     reply_check("values, payload", 6);
@@ -529,13 +718,44 @@ static void order_of_refusals(void) {
     given = usual_arguments();
 }
 
+/* All is wrong with a queuing; one thing after another is put right. */
+static void order_of_queue_refusals(void) {
+    struct vanitycrow_counts *c = &subject.record.sender.counts;
+    replied = QUEUE;
+    memcpy(&subject, &fresh_one, sizeof subject);
+    given = (struct arguments){.area_len = 49151, .message = {4}, .bytes_len = 16385};
+    put_messages(256, 1);
+    c->next_offset = c->bytes_acked = UINT32_MAX - 256;
+    subject.p.power = 3;
+    subject.p.short_bytes = 181;
+    reply_check("all wrong with a queuing", 1);
+    subject.p.power = 2;
+    reply_check("all but the profile's numbers", 2);
+    subject.p.short_bytes = 180;
+    reply_check("all but the profile", 3);
+    given.area_len = 49152;
+    reply_check("not connected", 4);
+    subject.record.sender.link.connected = true;
+    reply_check("class, bytes, taken, messages", 11);
+    given.message.class_ = 3;
+    reply_check("bytes, taken, messages", 8);
+    given.bytes_len = 1;
+    reply_check("taken, messages", 9);
+    c->next_offset = c->bytes_acked = 0;
+    reply_check("messages", 12);
+    put_messages(255, 1);
+    reply_check("all right", 0);
+    given = usual_arguments();
+}
+
 /* Each call was refused by each of its numbers, and by no other, on pages that may only be read. */
 static unsigned every_number(void) {
     static const uint8_t last[CALLS] = {[CONNECT] = 6, [QUEUE] = 4, [SHORT_ACK] = 6, [LONG_ACK] = 7, [TURN] = 6, [BURST] = 4, [FIND] = 4};
     unsigned calls = 0;
     for (int c = 0; c < CALLS; c++)
         for (uint8_t number = 1; number < COUNT(read_only[c]); number++) {
-            int wanted = number <= last[c] || (c == QUEUE && (number == 8 || number == 9)) || (c == BURST && number == 10);
+            int of_queue = number == 8 || number == 9 || number == 11 || number == 12;
+            int wanted = number <= last[c] || (c == QUEUE && of_queue) || (c == BURST && number == 10);
             calls += read_only[c][number];
             if (wanted == (read_only[c][number] > 0)) continue;
             printf("fields: %s, %u times refused by %u\n", call_names[c], read_only[c][number], (unsigned)number);
@@ -563,6 +783,10 @@ int main(void) {
     record_list_counts();
     record_rest();
     record_counts();
+    record_waiting();
+    record_each_message();
+    record_messages();
+    messages_in_turn();
     area_rows();
     area_most();
     area_lengths();
@@ -570,9 +794,13 @@ int main(void) {
     reply_times();
     payload_lengths();
     queue_lengths();
+    queue_classes();
+    queue_messages();
+    queue_places();
     output_lengths();
     level_ranges();
     order_of_refusals();
+    order_of_queue_refusals();
     unsigned again = every_number();
     printf("fields: %u checks, %u failed; %u calls refused on pages that may only be read\n", checks, failures, again);
     return failures ? 1 : 0;

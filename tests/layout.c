@@ -21,6 +21,9 @@ typedef struct vanitycrow_counts Counts;
 typedef struct vanitycrow_at_peer AtPeer;
 typedef struct vanitycrow_last_burst LastBurst;
 typedef struct vanitycrow_sender Sender;
+typedef struct vanitycrow_messages Messages;
+typedef struct vanitycrow_station Station;
+typedef struct vanitycrow_message Message;
 typedef struct vanitycrow_heard Heard;
 typedef struct vanitycrow_conn_ack ConnAck;
 typedef struct vanitycrow_ack Ack;
@@ -35,7 +38,7 @@ typedef struct vanitycrow_listing Listing;
 
 /* The type of a field or of its elements; size_t is uint64_t here. */
 #define KIND(x) \
-    _Generic((x), bool: "bool", bool *: "bool", uint8_t: "u8", uint8_t *: "u8", uint16_t: "u16", uint32_t: "u32", uint32_t *: "u32", uint64_t: "u64", \
+    _Generic((x), bool: "bool", bool *: "bool", uint8_t: "u8", uint8_t *: "u8", uint16_t: "u16", uint16_t *: "u16", uint32_t: "u32", uint32_t *: "u32", uint64_t: "u64", \
              float: "f32", float *: "f32", double: "f64", double *: "f64", default: "struct")
 
 #define S(s) printf("%s %zu %zu\n", #s, sizeof(s), _Alignof(s))
@@ -92,6 +95,12 @@ static void record_lines(void) {
     F(LastBurst, off); F(LastBurst, bits); F(LastBurst, held); F(LastBurst, n);
     S(Sender);
     F(Sender, gear); F(Sender, link); F(Sender, counts); F(Sender, at_peer); F(Sender, last_burst);
+    S(Messages);
+    F(Messages, left); FIELD_CLASS(Messages); F(Messages, n); F(Messages, begun);
+    S(Station);
+    F(Station, sender); F(Station, messages);
+    S(Message);
+    FIELD_CLASS(Message);
 }
 
 static void reply_and_answer_lines(void) {
@@ -127,6 +136,7 @@ int main(void) {
     reply_and_answer_lines();
     printf("AREA_BYTES %d\n", VANITYCROW_AREA_BYTES);
     printf("MAX_SLOTS %d\n", VANITYCROW_MAX_SLOTS);
+    printf("MAX_MESSAGES %d\n", VANITYCROW_MAX_MESSAGES);
     printf("ADIF_BYTES %d\n", VANITYCROW_ADIF_BYTES);
     printf("LAST_SECOND %u\n", VANITYCROW_LAST_SECOND);
     return 0;

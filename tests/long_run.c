@@ -1,25 +1,41 @@
 /* Simulated traffic over a hostile link through the C interface: long_run [-s SEED] [-h HOURS] [-e SENDERS] [-x] [-l CALLS TRANSCRIPT]
  *
- * Each of six profiles has a fresh sender and HOURS of simulated time (24); then SENDERS more (20) have random profiles in range and some
- * hundred calls each. Every call is checked (checked.h), and the tally of document 01 is kept from arguments and answers alone (tally.h).
- * -x lends blocks of exact lengths, for valgrind. -l writes the calls and what was answered, for `replay`. The status is 1 at the first
- * difference. */
+ * Mail is of all four classes. Each of six profiles has a fresh sender and HOURS of simulated time (24); then SENDERS more (20) have random
+ * profiles in range and some hundred calls each. Every call is checked (checked.h), and the tally of document 01 is kept from arguments and
+ * answers alone (tally.h). -x lends blocks of exact lengths, for valgrind. -l writes the calls and what was answered, for `replay`. The
+ * status is 1 at the first difference. */
 #include <stdio.h>
 #include <stdlib.h>
 #include "checked.h"
 #include "profiles.h"
 
+/* A class: routine as a rule, now and then one that there is not. */
+static struct vanitycrow_message some_class(void) {
+    struct vanitycrow_message m = {VANITYCROW_ROUTINE};
+    if (percent(60)) m.class_ = (uint8_t)below(VANITYCROW_MAX_CLASS + 1);
+    if (percent(3)) m.class_ = (uint8_t)(percent(50) ? VANITYCROW_MAX_CLASS + 1 : below(256));
+    return m;
+}
+
+/* Messages of a few bytes until no more may wait, and some that are refused. */
+static void many_queues(struct run *r) {
+    for (int i = 0; i < 300 && r->t.count < VANITYCROW_MAX_MESSAGES; i++) queue_call(r, some_class(), 1 + below(3));
+    for (int i = 0; i < 5; i++) queue_call(r, some_class(), below(3));
+}
+
 /* A queuing: letters of some kilobytes, and every length around what fits. */
 static void some_queue(struct run *r) {
     size_t room = VANITYCROW_MAX_WAITING - r->t.waiting;
     switch (below(10)) {
-    case 0: queue_call(r, 0); break;
-    case 1: queue_call(r, room); break;
-    case 2: queue_call(r, room + 1); break;
-    case 3: queue_call(r, below(20000)); break;
-    case 4: queue_call(r, 1 + below(8)); break;
-    default: queue_call(r, below((uint32_t)(room < 4000 ? room : 4000) + 1)); break;
+    case 0: queue_call(r, some_class(), 0); break;
+    case 1: queue_call(r, some_class(), room); break;
+    case 2: queue_call(r, some_class(), room + 1); break;
+    case 3: queue_call(r, some_class(), below(20000)); break;
+    case 4: queue_call(r, some_class(), 1 + below(8)); break;
+    case 5: for (uint32_t i = below(6); i < 6; i++) queue_call(r, some_class(), below(600)); break;
+    default: queue_call(r, some_class(), below((uint32_t)(room < 4000 ? room : 4000) + 1)); break;
     }
+    if (below(100) == 0) many_queues(r);
 }
 
 /* A call that has to be refused or to change little. */
@@ -36,7 +52,7 @@ static void nonsense(struct run *r) {
         r->area_len = below(3) ? VANITYCROW_AREA_BYTES - 1 : below(VANITYCROW_AREA_BYTES);
         switch (below(5)) {
         case 0: burst_call(r); break;
-        case 1: queue_call(r, below(100)); break;
+        case 1: queue_call(r, some_class(), below(100)); break;
         case 2: short_call(r, 10); break;
         case 3: find_call(r); break;
         default: long_call(r, 10); break;
@@ -79,17 +95,18 @@ static void begin(struct run *r, const char *name, const struct vanitycrow_profi
     r->profile = lend(sizeof *p, 0);
     memcpy(r->profile.bytes, p, sizeof *p);
     note(&r->profile);
-    r->record = lend(sizeof *r->s, 0xC3);
+    r->record = lend(sizeof *r->station, 0xC3);
     r->area = lend(VANITYCROW_AREA_BYTES, 0);
     r->out = lend(out + more, 0x5A);
     r->p = (const struct vanitycrow_profile *)r->profile.bytes;
-    r->s = (struct vanitycrow_sender *)r->record.bytes;
+    r->station = (struct vanitycrow_station *)r->record.bytes;
+    r->s = &r->station->sender;
     r->area_len = r->listed_area_len = VANITYCROW_AREA_BYTES;
     r->out_len = out;
     r->listed_out_len = 32768;
     r->far = (struct far_station){.quality = .8};
     r->now = 1;
-    vanitycrow_fresh(r->s);
+    vanitycrow_fresh(r->station);
     list_profile(r->list, r->p);
 }
 
@@ -108,7 +125,7 @@ static void end(struct run *r) {
 
 /* Calls of a sender until `until` seconds and `cycles` bursts are over. */
 static void live(struct run *r, double until, unsigned cycles) {
-    if (percent(50)) queue_call(r, 10);
+    if (percent(50)) queue_call(r, some_class(), 10);
     if (percent(50)) burst_call(r);
     if (percent(50)) short_call(r, 20);
     if (percent(50)) find_call(r);
@@ -118,13 +135,15 @@ static void live(struct run *r, double until, unsigned cycles) {
 
 static void add(struct seen *all, const struct seen *s) {
     for (int i = 0; i < KINDS; i++) all->calls[i] += s->calls[i];
-    for (int i = 0; i < 11; i++) all->answers[i] += s->answers[i];
+    for (int i = 0; i <= VANITYCROW_TOO_MANY_MESSAGES; i++) all->answers[i] += s->answers[i];
+    all->overtaking += s->overtaking;
     all->acked += s->acked;
     all->frames += s->frames;
     most(&all->most_pieces, s->most_pieces);
     most(&all->most_flying, s->most_flying);
     most(&all->most_held, s->most_held);
     most(&all->most_frames, s->most_frames);
+    most(&all->most_messages, s->most_messages);
 }
 
 static void tell(const char *name, double hours, double air_hours, const struct seen *s) {
@@ -133,10 +152,10 @@ static void tell(const char *name, double hours, double air_hours, const struct 
     printf("%s: %.1f hours, %.1f on the air, %llu calls:", name, hours, air_hours, n);
     for (int i = 0; i < KINDS; i++) printf(" %s %llu%s", kind_names[i], s->calls[i], i + 1 < KINDS ? "," : ";");
     printf(" accepted %llu, refused", s->answers[0]);
-    for (int i = 1; i < 11; i++)
+    for (int i = 1; i <= VANITYCROW_TOO_MANY_MESSAGES; i++)
         if (s->answers[i]) printf(" %d: %llu,", i, s->answers[i]);
-    printf(" %llu bytes acknowledged in %llu frames; at most %zu pieces, %zu bytes flying, %zu held, %zu frames\n", s->acked, s->frames,
-           s->most_pieces, s->most_flying, s->most_held, s->most_frames);
+    printf(" %llu bytes acknowledged in %llu frames, %llu messages overtook; at most %zu pieces, %zu bytes flying, %zu held, %zu frames, %zu messages\n",
+           s->acked, s->frames, s->overtaking, s->most_pieces, s->most_flying, s->most_held, s->most_frames, s->most_messages);
 }
 
 struct totals { struct seen seen; double hours, air_hours; };

@@ -21,7 +21,7 @@ struct station {
     _Alignas(PAGES) uint8_t gap0[64];
     struct vanitycrow_profile p;
     uint8_t gap1[64];
-    struct vanitycrow_sender s;
+    struct vanitycrow_station record;
     uint8_t gap2[64];
     uint8_t area[VANITYCROW_AREA_BYTES + PAST];
     uint8_t gap3[64];
@@ -36,17 +36,18 @@ struct arguments {
     struct vanitycrow_ack ack;
     struct vanitycrow_long_ack long_ack;
     struct vanitycrow_turn turn;
+    struct vanitycrow_message message;
     size_t payload_len, bytes_len, area_len, out_len;
     uint32_t off;
 };
 
-/* not connected; connected, ten bytes wait; with pieces, held ones, an outstanding burst */
+/* not connected; connected, ten bytes wait; with pieces, held ones, an outstanding burst, a begun message */
 static struct station fresh_one, open_one, flown_one;
 static struct station subject; /* what the checks change */
 static struct arguments given; /* what the calls get */
 static struct station tried;
 static unsigned checks, failures;
-static unsigned read_only[CALLS][VANITYCROW_SHORT_OUTPUT + 1]; /* calls by number that were refused on pages that may only be read */
+static unsigned read_only[CALLS][VANITYCROW_TOO_MANY_MESSAGES + 1]; /* calls by number that were refused on pages that may only be read */
 static const uint8_t bytes[VANITYCROW_MAX_WAITING + 1];
 
 static struct arguments usual_arguments(void) {
@@ -55,6 +56,7 @@ static struct arguments usual_arguments(void) {
     g.h = (struct vanitycrow_heard){1000000000, 5, 3};
     g.connect.snr_db = g.ack.snr_db = 3;
     g.payload_len = 13;
+    g.message.class_ = VANITYCROW_ROUTINE;
     g.area_len = VANITYCROW_AREA_BYTES;
     g.out_len = OUT_BYTES;
     return g;
@@ -62,13 +64,13 @@ static struct arguments usual_arguments(void) {
 
 static uint8_t make_call(enum call c, struct station *t, const struct arguments *g) {
     switch (c) {
-    case CONNECT: return vanitycrow_connect(&t->p, &t->s, t->area, g->area_len, g->h, g->connect);
-    case QUEUE: return vanitycrow_queue(&t->p, &t->s, t->area, g->area_len, bytes, g->bytes_len);
-    case SHORT_ACK: return vanitycrow_short_ack(&t->p, &t->s, t->area, g->area_len, g->h, g->ack);
-    case LONG_ACK: return vanitycrow_long_ack(&t->p, &t->s, t->area, g->area_len, g->h, g->long_ack, bytes, g->payload_len);
-    case TURN: return vanitycrow_turn(&t->p, &t->s, t->area, g->area_len, g->h, g->turn);
-    case BURST: return vanitycrow_data_burst(&t->p, &t->s, t->area, g->area_len, t->out, g->out_len).refusal;
-    default: return vanitycrow_find(&t->p, &t->s, t->area, g->area_len, g->off).refusal;
+    case CONNECT: return vanitycrow_connect(&t->p, &t->record, t->area, g->area_len, g->h, g->connect);
+    case QUEUE: return vanitycrow_queue(&t->p, &t->record, t->area, g->area_len, g->message, bytes, g->bytes_len);
+    case SHORT_ACK: return vanitycrow_short_ack(&t->p, &t->record, t->area, g->area_len, g->h, g->ack);
+    case LONG_ACK: return vanitycrow_long_ack(&t->p, &t->record, t->area, g->area_len, g->h, g->long_ack, bytes, g->payload_len);
+    case TURN: return vanitycrow_turn(&t->p, &t->record, t->area, g->area_len, g->h, g->turn);
+    case BURST: return vanitycrow_data_burst(&t->p, &t->record, t->area, g->area_len, t->out, g->out_len).refusal;
+    default: return vanitycrow_find(&t->p, &t->record, t->area, g->area_len, g->off).refusal;
     }
 }
 
@@ -117,7 +119,7 @@ static inline void expect_levels(const char *what, const struct station *t, uint
 /* Makes all seven calls; where they are not refused by `number`, those out of turn are by 4. */
 static void expect_all(const char *what, const struct station *t, const struct arguments *g, uint8_t number) {
     for (int c = 0; c < CALLS; c++) {
-        uint8_t turn = (c == CONNECT) == t->s.link.connected ? 4 : 0;
+        uint8_t turn = (c == CONNECT) == t->record.sender.link.connected ? 4 : 0;
         expect(what, (enum call)c, t, g, number ? number : turn);
     }
 }
@@ -129,8 +131,8 @@ static int make_stations(void) {
     memset(t, 0xA5, sizeof *t);
     t->p = usual();
     memset(t->area, 0, VANITYCROW_AREA_BYTES);
-    vanitycrow_fresh(&t->s);
-    VALGRIND_MAKE_MEM_DEFINED(&t->s, sizeof t->s);
+    vanitycrow_fresh(&t->record);
+    VALGRIND_MAKE_MEM_DEFINED(&t->record, sizeof t->record);
     memcpy(&fresh_one, t, sizeof *t);
     g.h.time = 1;
     g.connect.snr_db = 12;
@@ -142,10 +144,11 @@ static int make_stations(void) {
     wrong |= make_call(BURST, t, &g);
     g.ack.bitmap = 5;
     g.ack.stored = true;
-    g.ack.burst = t->s.link.burst_id;
+    g.ack.burst = t->record.sender.link.burst_id;
     wrong |= make_call(SHORT_ACK, t, &g);
     wrong |= make_call(BURST, t, &g);
     memcpy(&flown_one, t, sizeof *t);
-    return !wrong && t->s.at_peer.n > 1 && t->s.last_burst.n > 1 && t->s.counts.bytes_acked > 0;
+    const struct vanitycrow_sender *s = &t->record.sender;
+    return !wrong && s->at_peer.n > 1 && s->last_burst.n > 1 && s->counts.bytes_acked > 0 && t->record.messages.n == 1 && t->record.messages.begun;
 }
 #endif

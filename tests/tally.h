@@ -1,4 +1,5 @@
-/* Document 01's tally, fed with the arguments and answers of accepted calls only, and its comparison with record, work area and output. */
+/* Document 01's tally, fed with the arguments and answers of accepted calls only, and its comparison with record, work area and output. Messages are kept
+ * in the order in which they were queued, and which goes next is chosen when it goes (document 02, Change 1). */
 #ifndef TALLY_H
 #define TALLY_H
 #include <stdint.h>
@@ -7,13 +8,17 @@
 #include "call_list.h"
 #include "vanitycrow.h"
 
+struct tally_message { uint8_t class_; bool begun; uint8_t *bytes; size_t from, n; }; /* bytes[from] to bytes[n - 1] wait */
+
 struct tally {
     uint64_t taken;
-    uint8_t *bytes; /* the flown bytes from offset 0 up, then the waiting ones in order */
-    uint8_t *acked; /* of each flown byte, whether it is acknowledged */
+    uint8_t *bytes; /* the flown bytes from offset 0 up */
+    uint8_t *acked; /* of each, whether it is acknowledged */
     size_t room;
     size_t flown;
-    size_t waiting;
+    struct tally_message messages[VANITYCROW_MAX_MESSAGES]; /* that wait, in the order in which they were queued */
+    size_t count;
+    size_t waiting; /* bytes of them */
     size_t acknowledged;
     int outstanding; /* whether a burst is */
     uint8_t number;
@@ -23,22 +28,61 @@ struct tally {
 };
 
 static inline void tally_drop(struct tally *t) {
+    for (size_t i = 0; i < t->count; i++) free(t->messages[i].bytes);
     free(t->bytes);
     free(t->acked);
     memset(t, 0, sizeof *t);
 }
 
-static inline void tally_queue(struct tally *t, const uint8_t *bytes, size_t n) {
-    size_t end = t->flown + t->waiting;
-    if (end + n > t->room) {
-        t->room = 2 * (end + n);
+/* A queuing is one message; no bytes make none. */
+static inline void tally_queue(struct tally *t, struct vanitycrow_message m, const uint8_t *bytes, size_t n) {
+    if (n == 0) return;
+    if (t->count == VANITYCROW_MAX_MESSAGES) abort();
+    struct tally_message *new = t->messages + t->count++;
+    *new = (struct tally_message){.class_ = m.class_, .bytes = malloc(n), .n = n};
+    if (!new->bytes) abort();
+    memcpy(new->bytes, bytes, n);
+    t->taken += n;
+    t->waiting += n;
+}
+
+/* Puts the places of the messages in the order in which they go: the begun one, then the lowest class, the earliest of it first. */
+static inline void tally_order(const struct tally *t, size_t order[VANITYCROW_MAX_MESSAGES]) {
+    size_t n = 0;
+    for (size_t i = 0; i < t->count; i++)
+        if (t->messages[i].begun) order[n++] = i;
+    for (uint8_t class_ = 0; class_ <= VANITYCROW_MAX_CLASS; class_++)
+        for (size_t i = 0; i < t->count; i++)
+            if (!t->messages[i].begun && t->messages[i].class_ == class_) order[n++] = i;
+}
+
+static inline void tally_gone(struct tally *t, size_t i) {
+    free(t->messages[i].bytes);
+    memmove(t->messages + i, t->messages + i + 1, (--t->count - i) * sizeof *t->messages);
+}
+
+/* The next waiting bytes begin to fly, n of them. */
+static inline void tally_fly(struct tally *t, size_t n) {
+    if (t->flown + n > t->room) {
+        t->room = 2 * (t->flown + n);
         t->bytes = realloc(t->bytes, t->room);
         t->acked = realloc(t->acked, t->room);
         if (!t->bytes || !t->acked) abort();
     }
-    if (n) memcpy(t->bytes + end, bytes, n);
-    t->taken += n;
-    t->waiting += n;
+    while (n) {
+        size_t order[VANITYCROW_MAX_MESSAGES];
+        tally_order(t, order);
+        struct tally_message *m = t->messages + order[0];
+        size_t k = m->n - m->from < n ? m->n - m->from : n;
+        memcpy(t->bytes + t->flown, m->bytes + m->from, k);
+        memset(t->acked + t->flown, 0, k);
+        m->from += k;
+        m->begun = true;
+        t->flown += k;
+        t->waiting -= k;
+        n -= k;
+        if (m->from == m->n) tally_gone(t, order[0]);
+    }
 }
 
 /* The burst becomes the outstanding one; the first waiting bytes fly up to the end of its furthest frame. */
@@ -55,10 +99,7 @@ static inline void tally_burst(struct tally *t, const struct vanitycrow_outgoing
     }
     if (end <= t->flown) return;
     size_t more = end - t->flown;
-    if (more > t->waiting) more = t->waiting;
-    memset(t->acked + t->flown, 0, more);
-    t->flown += more;
-    t->waiting -= more;
+    tally_fly(t, more < t->waiting ? more : t->waiting);
 }
 
 /* An ack with this number; bit i is for the frame at place i. */
@@ -106,9 +147,25 @@ static inline const char *compare_pieces(const struct tally *t, const struct van
     return at == t->flown - t->acknowledged ? NULL : "a byte in flight is in no piece";
 }
 
+/* Classes, waiting bytes and order of the messages, and whether the first has begun. */
+static inline const char *compare_messages(const struct tally *t, const struct vanitycrow_messages *m, const uint8_t *waiting) {
+    size_t order[VANITYCROW_MAX_MESSAGES], at = 0;
+    tally_order(t, order);
+    if (m->n != t->count) return "another count of messages";
+    if (m->n && m->begun != t->messages[order[0]].begun) return "another message has begun";
+    for (size_t i = 0; i < m->n; i++) {
+        const struct tally_message *x = t->messages + order[i];
+        if (m->class_[i] != x->class_ || m->left[i] != x->n - x->from) return "another message waits, or in another place";
+        if (memcmp(x->bytes + x->from, waiting + at, m->left[i])) return "other bytes of a message wait";
+        at += m->left[i];
+    }
+    return NULL;
+}
+
 /* What differs between the tally and the sender, or NULL. */
-static inline const char *compare_tally(const struct tally *t, const struct vanitycrow_sender *s, const uint8_t *area) {
-    const struct vanitycrow_counts *c = &s->counts;
+static inline const char *compare_tally(const struct tally *t, const struct vanitycrow_station *s, const uint8_t *area) {
+    const struct vanitycrow_counts *c = &s->sender.counts;
+    const char *wrong;
     size_t flying = t->flown - t->acknowledged;
     if (t->taken != t->waiting + flying + t->acknowledged) return "taken is not waiting, in flight and acknowledged";
     if (t->taken != (uint64_t)c->next_offset + c->waiting) return "another count taken";
@@ -116,7 +173,7 @@ static inline const char *compare_tally(const struct tally *t, const struct vani
     if (flying != c->flying) return "another count in flight";
     if (t->acknowledged != c->bytes_acked) return "another count acknowledged";
     if (flying > 16320) return "more than 16,320 bytes fly";
-    if (t->waiting && memcmp(t->bytes + t->flown, area + flying, t->waiting)) return "other bytes wait";
+    if ((wrong = compare_messages(t, &s->messages, area + flying))) return wrong;
     return compare_pieces(t, c, area);
 }
 

@@ -144,10 +144,11 @@ fn private() -> u8
     1
 }
 END
-for file in Lists Page; do
+for file in Lists Page Single; do
     printf -- '-- Definitions only.\nabbrev pub of%s : Type 0\nof%s = Unit\n' $file $file >"$small/crates/demand/specs/$file.antt"
 done
 printf 'pub demand3 : Unit\ndemand3 = tt\n' >"$small/crates/demand/proofs/Theorem.antt"
+printf 'pub single-class : Unit\nsingle-class = tt\n' >"$small/crates/demand/proofs/Single.antt"
 printf 'pub in-binary32 : Unit\nin-binary32 = tt\n\npub in-binary64 : Unit\nin-binary64 = tt\n\npub in-conversions : Unit\nin-conversions = tt\n' \
     >"$small/crates/rounding/proofs/Theorem.antt"
 mkdir -p "$small/crates/verdicts/proofs" "$small/crates/calendar/proofs" "$small/crates/adif/proofs" "$small/crates/reachable/proofs"

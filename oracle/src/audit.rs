@@ -1,16 +1,19 @@
 //! `oracle audit`: demand 3 and the sound record, held against the original
 //! after every call of generated lists. The tally is document 01's, kept from
-//! the calls and their answers alone.
+//! the calls and their answers alone. It puts each message at its place when it
+//! is queued; messages.rs, which orders the original's bytes, chooses at bursts.
 
-use std::collections::{BTreeMap, VecDeque};
+use std::collections::BTreeMap;
 use std::fmt::Write;
+use std::ops::Range;
 use std::panic::{AssertUnwindSafe, catch_unwind};
 
 use crate::generate;
-use crate::harness::{Answer, Burst, Harness, LAST_SECOND, TAKEN_MOST, WAITING_MOST};
+use crate::harness::{Answer, Burst, Harness, LAST_SECOND, TAKEN_MOST, WAITING_MOST, class_of};
 use crate::link::frame::caps;
 use crate::link::station::{Station, wave_rank};
 use crate::list::{Call, Item, text};
+use crate::messages::{CLASS_MOST, MESSAGES_MOST, Message};
 use crate::profile::*;
 use crate::progress::Progress;
 use crate::shrink::shrink;
@@ -39,7 +42,7 @@ pub struct Reached {
     pub lists: u64,
     counts: BTreeMap<&'static str, u64>,
     most: BTreeMap<&'static str, u64>,
-    refused: [u64; 11],
+    refused: [u64; 13],
     levels: [u64; 17],
 }
 
@@ -61,7 +64,7 @@ impl Reached {
         for (what, n) in &self.most {
             let _ = writeln!(s, "  most {what}: {n}");
         }
-        let _ = writeln!(s, "  refused by 1 to 10: {:?}", &self.refused[1..]);
+        let _ = writeln!(s, "  refused by 1 to 12: {:?}", &self.refused[1..]);
         let _ = writeln!(s, "  bursts by level: {:?}", self.levels);
         s
     }
@@ -71,7 +74,9 @@ impl Reached {
 #[derive(Default)]
 struct Tally {
     taken: u64,
-    waiting: VecDeque<u8>,
+    /// In the order in which they will go; `begun`: bytes of the first have flown.
+    waiting: Vec<Message>,
+    begun: bool,
     flown: Vec<u8>,
     acknowledged: Vec<bool>,
     acknowledged_count: u64,
@@ -82,12 +87,33 @@ impl Tally {
     fn burst(&mut self, b: &Burst) {
         let frames: Vec<(usize, usize)> = b.frames.iter().map(|f| (f.offset as usize, f.len)).collect();
         let end = frames.iter().map(|f| f.0 + f.1).max().unwrap_or(0);
-        while self.flown.len() < end {
-            let Some(byte) = self.waiting.pop_front() else { break };
-            self.flown.push(byte);
-            self.acknowledged.push(false);
+        while self.flown.len() < end && !self.waiting.is_empty() {
+            let first = &mut self.waiting[0].bytes;
+            let n = first.len().min(end - self.flown.len());
+            self.flown.extend(first.drain(..n));
+            self.begun = !first.is_empty();
+            if !self.begun {
+                self.waiting.remove(0);
+            }
         }
+        self.acknowledged.resize(self.flown.len(), false);
         self.outstanding = Some((b.number(), frames));
+    }
+
+    /// Behind the begun message, behind those of its class and of lower ones.
+    fn queue(&mut self, class: u8, bytes: &[u8]) {
+        self.taken += bytes.len() as u64;
+        if bytes.is_empty() {
+            return;
+        }
+        let from = self.begun as usize;
+        let before = self.waiting[from..].iter().take_while(|m| m.class <= class).count();
+        let bytes = bytes.to_vec();
+        self.waiting.insert(from + before, Message { class, bytes });
+    }
+
+    fn waits(&self) -> Vec<u8> {
+        self.waiting.iter().flat_map(|m| m.bytes.iter().copied()).collect()
     }
 
     fn ack(&mut self, number: u8, bitmap: u64, short: bool) {
@@ -112,10 +138,7 @@ impl Tally {
     fn feed(&mut self, call: &Call, answer: &Answer) {
         match (call, answer) {
             (_, Answer::Refused(_)) => {}
-            (Call::Queue(bytes), _) => {
-                self.taken += bytes.len() as u64;
-                self.waiting.extend(bytes);
-            }
+            (Call::Queue(bytes, class), _) => self.queue(class_of(*class), bytes),
             (Call::Burst, Answer::Burst(b)) => self.burst(b),
             (Call::Short { burst, bitmap, .. }, _) => self.ack(*burst as u8, *bitmap, true),
             (Call::Long { payload, .. }, _) => {
@@ -128,9 +151,10 @@ impl Tally {
     }
 
     /// Every byte in exactly one of the three, with its value and in order.
-    fn agrees(&self, h: &Harness) -> Check {
+    fn agrees(&self, h: &Harness, answer: &Answer) -> Check {
         let s = &h.station;
         let flying = self.flown.len() as u64 - self.acknowledged_count;
+        let waiting = self.waits();
         demand!(
             self.taken == h.taken,
             "taken is {}, by the tally {}",
@@ -138,14 +162,20 @@ impl Tally {
             self.taken
         );
         demand!(
-            self.taken == self.waiting.len() as u64 + flying + self.acknowledged_count,
+            self.taken == waiting.len() as u64 + flying + self.acknowledged_count,
             "the tally's taken is not waiting + in flight + acknowledged"
         );
         demand!(
-            s.out == self.waiting,
+            h.messages.in_order() == self.waiting && h.messages.begun() == self.begun,
+            "other messages wait than by the tally"
+        );
+        // The original's bytes of several classes are laid in order by a burst.
+        let in_order = h.single_class() || matches!(answer, Answer::Burst(_));
+        demand!(
+            s.out.len() == waiting.len() && (!in_order || s.out == waiting),
             "the waiting bytes are {}, by the tally {}, or others",
             s.out.len(),
-            self.waiting.len()
+            waiting.len()
         );
         demand!(
             h.acked() == self.acknowledged_count,
@@ -229,6 +259,22 @@ pub fn sound(h: &Harness) -> Check {
         );
     }
     demand!(s.out.len() <= WAITING_MOST, "{} bytes wait", s.out.len());
+    let messages = h.messages.in_order();
+    let left: usize = messages.iter().map(|m| m.bytes.len()).sum();
+    demand!(messages.len() <= MESSAGES_MOST, "{} messages wait", messages.len());
+    demand!(
+        left == s.out.len(),
+        "{left} bytes of messages wait, {} in all",
+        s.out.len()
+    );
+    for m in &messages {
+        demand!(
+            m.class <= CLASS_MOST && !m.bytes.is_empty(),
+            "a message of class {} has {} bytes left",
+            m.class,
+            m.bytes.len()
+        );
+    }
     demand!(h.taken <= TAKEN_MOST, "{} bytes are taken", h.taken);
     demand!(
         h.taken == s.next_offset as u64 + s.out.len() as u64,
@@ -452,6 +498,26 @@ fn burst_holds(h: &Harness, before: &Allowance, b: &Burst, flown: &[u8], first_n
     Ok(())
 }
 
+/// How a burst cuts the messages that waited before it; `new` are the offsets that begin to fly.
+fn reach_messages(reached: &mut Reached, waiting: &[Message], b: &Burst, new: Range<usize>) {
+    let mut end = new.start;
+    let ends: Vec<usize> = waiting
+        .iter()
+        .map(|m| {
+            end += m.bytes.len();
+            end
+        })
+        .collect();
+    let shared = b.frames.iter().any(|f| {
+        let at = f.offset as usize;
+        ends.iter().any(|&e| at < e && e < at + f.len)
+    });
+    reached.count("bursts with a frame of two messages or more", shared);
+    let left = !new.is_empty() && ends.last().is_some_and(|&e| e > new.end);
+    reached.count("bursts that end where a message does", left && ends.contains(&new.end));
+    reached.count("bursts that end inside a message", left && !ends.contains(&new.end));
+}
+
 struct Auditor {
     h: Harness,
     tally: Tally,
@@ -474,10 +540,12 @@ impl Auditor {
         let mut record = String::new();
         if refused.is_some() {
             transcript::state(&mut record, h);
+            transcript::messages(&mut record, h);
         }
         let before = Allowance::new(&h.profile, &h.station);
         let first_new = h.station.next_offset as usize;
         let pieces = h.station.inflight.len();
+        let (waited, begun) = (self.tally.waiting.clone(), self.tally.begun);
         let numbered = self.tally.outstanding.as_ref().map(|o| (o.0, o.1.len()));
         let answer = catch_unwind(AssertUnwindSafe(|| h.call(call))).map_err(|e| {
             let why = e
@@ -489,6 +557,7 @@ impl Auditor {
         if let Some(number) = refused {
             let mut after = String::new();
             transcript::state(&mut after, h);
+            transcript::messages(&mut after, h);
             demand!(record == after, "refused by {number}, and the record changed");
             reached.refused[number as usize] += 1;
         }
@@ -496,7 +565,7 @@ impl Auditor {
         if h.profile.refusal().is_none() {
             sound(h).map_err(|e| format!("the record is not sound: {e}"))?;
         }
-        self.tally.agrees(h)?;
+        self.tally.agrees(h, &answer)?;
         if let Answer::Burst(b) = &answer {
             burst_holds(h, &before, b, &self.tally.flown, first_new)?;
             let s = &h.station;
@@ -533,7 +602,20 @@ impl Auditor {
                 !b.frames.is_empty() && d > h.profile.f64(BURST, 0),
             );
             reached.most("frames in a burst", b.frames.len());
+            reach_messages(reached, &waited, b, first_new..s.next_offset as usize);
         }
+        if let (Call::Queue(bytes, class), Answer::Ok) = (call, &answer) {
+            let class = class_of(*class);
+            let (first, others) = waited.split_at(begun as usize);
+            let over = |m: &Message| class < m.class && !bytes.is_empty();
+            reached.count("queuings that overtake", others.iter().any(over));
+            reached.count(
+                "queuings of a lower class than the begun message's",
+                first.iter().any(over),
+            );
+        }
+        reached.count("calls with a begun message", self.tally.begun);
+        reached.most("messages", self.tally.waiting.len());
         let all = matches!((call, &answer, numbered), (Call::Short { burst, bitmap: 63, .. }, Answer::Ok, Some((n, 7..)))
             if *burst == n as u64);
         reached.count("short acks of more than six frames", all);
@@ -595,12 +677,13 @@ fn smallest(items: &[Item], at: usize) -> (Vec<Item>, String) {
     (small, why)
 }
 
-pub fn audit(seed: u64, lists: u64, calls: usize) -> Result<(), String> {
+/// Lists of `kind`, or of all but `lines`, `levels` and `classes`.
+pub fn audit(seed: u64, lists: u64, calls: usize, kind: Option<&'static str>) -> Result<(), String> {
     std::panic::set_hook(Box::new(|_| {}));
     let mut reached = Reached::default();
     let mut progress = Progress::new();
     for index in 0..lists {
-        let kind = generate::kind_of(seed, index, false);
+        let kind = kind.unwrap_or_else(|| generate::kind_of(seed, index, false));
         progress.show(|| format!("audit: {index} of {lists} lists, {} calls", reached.calls));
         // The generator drives the original too, and an edited one may panic there.
         let made = catch_unwind(|| generate::list(seed, index, calls, kind));
@@ -655,5 +738,26 @@ mod tests {
             }
         }
         assert!(reached.calls > 1000);
+    }
+
+    #[test]
+    fn lists_of_classes_hold() {
+        let mut reached = Reached::default();
+        for index in 0..40 {
+            let items = generate::list(11, index, 60, "classes");
+            if let Err((at, why)) = check(&items, &mut reached) {
+                panic!("list {index}, item {at}: {why}");
+            }
+        }
+        assert_eq!(reached.most["messages"], 256);
+        for what in [
+            "queuings that overtake",
+            "queuings of a lower class than the begun message's",
+            "bursts with a frame of two messages or more",
+            "bursts that end where a message does",
+        ] {
+            assert!(reached.counts[what] > 0, "{what}");
+        }
+        assert!(reached.refused[11] > 0 && reached.refused[12] > 0);
     }
 }

@@ -274,7 +274,7 @@ fn lost(mode: usize) -> Decisions {
         slot: 0,
         cue: true,
     });
-    d.call(&Call::Queue(vec![7; 100]));
+    d.call(&Call::queue(vec![7; 100]));
     for i in 0..LOST {
         d.call(&Call::Burst);
         let burst = (d.harness.station.burst_id as u64 + 1) & 3;

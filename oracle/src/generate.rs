@@ -6,13 +6,16 @@ use std::cell::RefCell;
 use crate::harness::{AREA_BYTES, Answer, Burst, Harness, LAST_SECOND, WAITING_MOST};
 use crate::levels;
 use crate::list::{AREA_MOST, Call, Item, LONGEST_LINE, OUT_MOST, text};
+use crate::messages::MESSAGES_MOST;
 use crate::profile::{DBS, EFF_THRESHOLDS, FRAME_BYTES, LEVELS, ON, POWER, Profile, THRESHOLDS, Value, on, payload_of};
 use crate::profiles;
 use crate::rng::Rng;
 
-/// What a list is about. Lists of `lines` may end in an error. `levels` is mixed with no other.
-pub const KINDS: [&str; 11] = [
+/// What a list is about. Lists of `lines` may end in an error. `levels` and `classes` are mixed with no other. In all but `classes` every
+/// message is of class 3, by default.
+pub const KINDS: [&str; 12] = [
     "usual", "ladder", "harq", "merge", "many", "extreme", "hostile", "limits", "profiles", "lines", "levels",
+    "classes",
 ];
 
 /// How the far station answers.
@@ -61,6 +64,8 @@ struct Driver<'a> {
     largest_queue: u64,
     /// Bytes queued after the connect.
     first_queue: usize,
+    /// Messages of classes; None: every queuing gives no class.
+    mail: Option<Mail>,
 }
 
 impl<'a> Driver<'a> {
@@ -88,6 +93,7 @@ impl<'a> Driver<'a> {
             loss_in,
             largest_queue,
             first_queue: 0,
+            mail: None,
         }
     }
 
@@ -220,6 +226,10 @@ impl<'a> Driver<'a> {
     }
 
     fn queue(&mut self) {
+        if let Some(mail) = self.mail {
+            self.message(mail);
+            return;
+        }
         let room = WAITING_MOST - self.h.station.out.len();
         let most = self
             .r
@@ -236,7 +246,7 @@ impl<'a> Driver<'a> {
         } else {
             self.r.bytes(n)
         };
-        self.call(Call::Queue(bytes));
+        self.call(Call::queue(bytes));
     }
 
     fn burst(&mut self) {
@@ -628,7 +638,8 @@ impl<'a> Driver<'a> {
                     return;
                 }
                 let bytes = self.r.bytes(n);
-                self.call(Call::Queue(bytes));
+                let class = self.mail.map(|mail| self.r.pick(mail.classes));
+                self.call(Call::Queue(bytes, class));
             }
             8 => {
                 let n = self.r.pick(&[AREA_BYTES - 1, AREA_BYTES + 1, AREA_BYTES, AREA_MOST, 0]);
@@ -724,7 +735,7 @@ impl<'a> Driver<'a> {
         }
         if self.first_queue > 0 {
             let bytes = self.r.bytes(self.first_queue);
-            self.call(Call::Queue(bytes));
+            self.call(Call::queue(bytes));
         }
         while self.calls() + 1 < calls {
             self.step();
@@ -746,7 +757,7 @@ fn many(r: &mut Rng, calls: usize) {
         let fill = WAITING_MOST - d.h.station.out.len();
         if d.r.flag() && fill > 0 {
             let bytes = d.r.bytes(fill);
-            d.call(Call::Queue(bytes));
+            d.call(Call::queue(bytes));
         }
         d.burst();
         match d.r.below(4) {
@@ -808,7 +819,7 @@ fn profiles_list(r: &mut Rng, index: u64, calls: usize) {
         } else {
             for call in [
                 Call::State,
-                Call::Queue(vec![1, 2, 3]),
+                Call::queue(vec![1, 2, 3]),
                 Call::Burst,
                 Call::Piece(0),
                 Call::Area(0),
@@ -822,6 +833,143 @@ fn profiles_list(r: &mut Rng, index: u64, calls: usize) {
             d.connect();
         }
     }
+}
+
+/// How the messages of a list are.
+#[derive(Clone, Copy)]
+struct Mail {
+    /// Classes that are drawn from.
+    classes: &'static [u64],
+    /// Most bytes of most messages.
+    most: u64,
+}
+
+impl Driver<'_> {
+    /// A message's length: few bytes, the payloads of one frame or some, what there is room for, none.
+    fn message_len(&mut self, mail: Mail) -> usize {
+        let room = WAITING_MOST - self.h.station.out.len();
+        let frame = self.r.below(2) as usize;
+        let payload = payload_of(self.h.profile.whole(FRAME_BYTES, frame));
+        let n = match self.r.below(16) {
+            0 => 0,
+            1 | 2 => payload,
+            3 => payload * self.r.within(1, 8) as usize,
+            4 => payload + self.r.within(0, 2) as usize - 1,
+            5 => self.r.within(0, 2000) as usize,
+            6 | 7 => 1,
+            _ => self.r.within(1, mail.most) as usize,
+        };
+        n.min(room)
+    }
+
+    fn message(&mut self, mail: Mail) {
+        let n = self.message_len(mail);
+        let bytes = self.r.bytes(n);
+        let class = self.r.pick(mail.classes);
+        let given = class < 3 || !self.r.once_in(4);
+        self.call(Call::Queue(bytes, given.then_some(class)));
+        if self.r.once_in(3) {
+            self.call(Call::Messages);
+        }
+    }
+
+    /// Classes and messages on both sides of refusals 11 and 12, with 8 beside them.
+    fn class_limit(&mut self, mail: Mail) {
+        let room = WAITING_MOST - self.h.station.out.len();
+        let class = match self.r.below(3) {
+            0 => self.r.pick(mail.classes),
+            _ => self.r.pick(&[4, 4, 5, 255, 256, 257, 1 << 32, u64::MAX]),
+        };
+        let n = self.r.pick(&[0, 1, 1, 20, WAITING_MOST + 1, room + 1]);
+        let bytes = self.r.bytes(n);
+        self.call(Call::Queue(bytes, Some(class)));
+        self.call(Call::Messages);
+    }
+
+    /// Short messages until 256 wait, then a few calls with no room for another.
+    fn fill_messages(&mut self, mail: Mail) {
+        if !self.h.station.connected() {
+            return;
+        }
+        for _ in 0..2 * MESSAGES_MOST {
+            if self.h.messages.len() == MESSAGES_MOST {
+                break;
+            }
+            let n = self.r.within(1, 3) as usize;
+            if self.h.station.out.len() + n > WAITING_MOST {
+                break;
+            }
+            let bytes = self.r.bytes(n);
+            let class = self.r.pick(mail.classes);
+            self.call(Call::Queue(bytes, Some(class)));
+        }
+        self.call(Call::Messages);
+        for _ in 0..self.r.within(2, 5) {
+            let room = WAITING_MOST - self.h.station.out.len();
+            let n = self.r.pick(&[0, 1, 1, 40, room, room + 1]);
+            // A full queue makes a long list.
+            let n = if n == room && !self.r.once_in(6) { 2 } else { n };
+            let bytes = self.r.bytes(n);
+            let class = if self.r.once_in(5) {
+                4
+            } else {
+                self.r.pick(mail.classes)
+            };
+            self.call(Call::Queue(bytes, Some(class)));
+        }
+        self.call(Call::Messages);
+        self.burst();
+        self.call(Call::Messages);
+    }
+}
+
+/// Messages of all classes, or of one, between bursts and replies.
+fn classes_list(r: &mut Rng, calls: usize) {
+    let profile = match r.below(8) {
+        0 => profiles::extreme(r),
+        1 => profiles::merge(r),
+        2 => profiles::harq(r).0,
+        _ => profiles::usual(r),
+    };
+    let far = r.pick(&[Far::Honest, Far::Lossy, Far::Lossy, Far::Fading, Far::Hostile]);
+    let classes: &[u64] = match r.below(8) {
+        0 => &[1],
+        1 => &[0, 3],
+        2 => &[0],
+        _ => &[0, 1, 2, 3],
+    };
+    let mail = Mail {
+        classes,
+        most: r.pick(&[3, 40, 40, 400]),
+    };
+    let mut d = Driver::new(r, profile, far);
+    d.mail = Some(mail);
+    d.tip_in = 20;
+    d.limit_in = 60;
+    d.connect();
+    let fill = d.r.once_in(5);
+    while d.calls() + 2 < calls {
+        match d.r.below(16) {
+            0..=6 => d.message(mail),
+            7 => d.class_limit(mail),
+            8 if d.r.once_in(4) => {
+                d.call(Call::Messages);
+            }
+            9 | 10 => {
+                d.burst();
+                d.call(Call::Messages);
+            }
+            _ => d.step(),
+        }
+    }
+    if fill {
+        d.fill_messages(mail);
+        for _ in 0..d.r.below(12) {
+            d.step();
+        }
+    }
+    d.call(Call::Messages);
+    d.call(Call::State);
 }
 
 /// A profile for the levels within reach; some are refused.
@@ -935,7 +1083,7 @@ fn lines(r: &mut Rng, calls: usize) -> Vec<Item> {
         "queue  00\n".to_string(),
         "queue 0\n".to_string(),
         "queue 0A\n".to_string(),
-        "queue 00 00\n".to_string(),
+        "queue 00 0 0\n".to_string(),
         "queue --\n".to_string(),
         "queue 0x00\n".to_string(),
         "queue 0g\n".to_string(),
@@ -1068,6 +1216,10 @@ pub fn list(seed: u64, index: u64, calls: usize, kind: &str) -> Vec<Item> {
         "lines" => return lines(r, calls),
         "levels" => {
             levels_list(r, calls);
+            return made();
+        }
+        "classes" => {
+            classes_list(r, calls);
             return made();
         }
         _ => unreachable!("kinds are checked"),

@@ -6,6 +6,7 @@ use crate::link::frame::{AckInfo, Frame, Kind, Tiny, caps, flags};
 use crate::link::report::ChanClass;
 use crate::link::station::{Awaiting, Station, wave_rank};
 use crate::list::{AREA_MOST, Call, OUT_MOST};
+use crate::messages::{CLASS_MOST, MESSAGES_MOST, Messages, ROUTINE};
 use crate::profile::{FRAME_BYTES, Profile};
 
 pub const AREA_BYTES: u64 = 49_152;
@@ -54,12 +55,21 @@ fn report(n: u64) -> u8 {
     n.min(255) as u8
 }
 
+/// The class of a queuing: what is too wide is 255.
+pub fn class_of(class: Option<u64>) -> u8 {
+    class.map_or(ROUTINE, |n| n.min(255) as u8)
+}
+
 #[derive(Clone)]
 pub struct Harness {
     pub profile: Profile,
     refusal: Option<u8>,
     numbers: Numbers,
     pub station: Station,
+    pub messages: Messages,
+    /// The first class of which bytes were taken, and whether others were.
+    class: Option<u8>,
+    mixed: bool,
     pub last_time: Option<f64>,
     pub taken: u64,
     pub airtime_ms: u64,
@@ -75,6 +85,9 @@ impl Harness {
             numbers: profile.numbers(),
             station: Station::new(profile.config(), profile.air()),
             profile,
+            messages: Messages::default(),
+            class: None,
+            mixed: false,
             last_time: None,
             taken: 0,
             airtime_ms: 0,
@@ -97,7 +110,7 @@ impl Harness {
 
     /// The number by which document 01, or 02, turns the call down.
     pub fn refuses(&self, call: &Call) -> Option<u8> {
-        if matches!(call, Call::State | Call::Area(_) | Call::Out(_)) {
+        if matches!(call, Call::State | Call::Messages | Call::Area(_) | Call::Out(_)) {
             return None;
         }
         if self.refusal.is_some() {
@@ -177,12 +190,18 @@ impl Harness {
                     return Some(6);
                 }
             }
-            Call::Queue(ref bytes) => {
+            Call::Queue(ref bytes, class) => {
+                if class_of(class) > CLASS_MOST {
+                    return Some(11);
+                }
                 if self.station.out.len() + bytes.len() > WAITING_MOST {
                     return Some(8);
                 }
                 if self.taken + bytes.len() as u64 > TAKEN_MOST {
                     return Some(9);
+                }
+                if !bytes.is_empty() && self.messages.len() == MESSAGES_MOST {
+                    return Some(12);
                 }
             }
             Call::Burst => {
@@ -190,7 +209,7 @@ impl Harness {
                     return Some(10);
                 }
             }
-            Call::Piece(_) | Call::Levels { .. } | Call::State | Call::Area(_) | Call::Out(_) => {}
+            Call::Piece(_) | Call::Levels { .. } | Call::State | Call::Messages | Call::Area(_) | Call::Out(_) => {}
         }
         None
     }
@@ -224,9 +243,14 @@ impl Harness {
                 s.hear_tiny(wave as usize, here, answer, t);
                 self.last_time = Some(t);
             }
-            Call::Queue(ref bytes) => {
+            Call::Queue(ref bytes, class) => {
                 s.out.extend(bytes);
                 self.taken += bytes.len() as u64;
+                let class = class_of(class);
+                self.messages.queue(class, bytes);
+                if !bytes.is_empty() {
+                    self.mixed |= *self.class.get_or_insert(class) != class;
+                }
             }
             Call::Short {
                 t,
@@ -297,16 +321,28 @@ impl Harness {
                 let class = ChanClass { echo, doppler };
                 return Answer::Levels(levels::within(&self.profile, class, report(low), report(high)));
             }
-            Call::State => {}
+            Call::State | Call::Messages => {}
             Call::Area(n) => self.area = n,
             Call::Out(n) => self.out = n,
         }
         Answer::Ok
     }
 
+    /// Whether the order of the waiting bytes is the original's own: all bytes taken so far are of one class.
+    pub fn single_class(&self) -> bool {
+        !self.mixed
+    }
+
     fn burst(&mut self) -> Burst {
         let s = &mut self.station;
+        // With a single class the original's queue is left as its own `queue` filled it. With several its waiting bytes are laid in the order
+        // that messages.rs chooses; the original cuts them.
+        if self.mixed {
+            s.out = self.messages.bytes();
+        }
+        let waiting = s.out.len();
         let out = s.send();
+        self.messages.fly(waiting - s.out.len());
         let frames: Vec<SentFrame> = (0..out.frames.len())
             .map(|i| {
                 let offset = s.last_burst[i].off;

@@ -21,7 +21,8 @@ pub enum Call {
         slot: u64,
         cue: bool,
     },
-    Queue(Vec<u8>),
+    /// Bytes, and the class where one is given.
+    Queue(Vec<u8>, Option<u64>),
     Short {
         t: f64,
         wave: u64,
@@ -60,8 +61,16 @@ pub enum Call {
         high: u64,
     },
     State,
+    Messages,
     Area(u64),
     Out(u64),
+}
+
+impl Call {
+    /// A queuing that gives no class.
+    pub fn queue(bytes: Vec<u8>) -> Self {
+        Call::Queue(bytes, None)
+    }
 }
 
 #[derive(Clone, Debug)]
@@ -182,7 +191,13 @@ fn read_call(words: &[&[u8]]) -> Option<Call> {
             slot: w.n()?,
             cue: w.flag()?,
         },
-        b"queue" => Call::Queue(w.hex()?),
+        b"queue" => Call::Queue(
+            w.hex()?,
+            match w.word() {
+                None => None,
+                Some(word) => Some(read_whole(word)?),
+            },
+        ),
         b"short" => Call::Short {
             t: w.f64()?,
             wave: w.n()?,
@@ -224,6 +239,7 @@ fn read_call(words: &[&[u8]]) -> Option<Call> {
             high: w.n()?,
         },
         b"state" => Call::State,
+        b"messages" => Call::Messages,
         b"area" => Call::Area(w.n().filter(|&n| n <= AREA_MOST)?),
         b"out" => Call::Out(w.n().filter(|&n| n <= OUT_MOST)?),
         _ => return None,
@@ -371,7 +387,8 @@ impl fmt::Display for Call {
                 *doppler as u8,
                 *cue as u8
             ),
-            Call::Queue(bytes) => write!(f, "queue {}", hex(bytes)),
+            Call::Queue(bytes, None) => write!(f, "queue {}", hex(bytes)),
+            Call::Queue(bytes, Some(class)) => write!(f, "queue {} {class}", hex(bytes)),
             Call::Short {
                 t,
                 wave,
@@ -431,6 +448,7 @@ impl fmt::Display for Call {
                 high,
             } => write!(f, "levels {} {} {low} {high}", *echo as u8, *doppler as u8),
             Call::State => write!(f, "state"),
+            Call::Messages => write!(f, "messages"),
             Call::Area(n) => write!(f, "area {n}"),
             Call::Out(n) => write!(f, "out {n}"),
         }

@@ -17,6 +17,7 @@ mod harness;
 mod levels;
 mod link;
 mod list;
+mod messages;
 mod phy;
 mod phy_mfsk;
 mod profile;
@@ -35,7 +36,7 @@ include!(concat!(env!("OUT_DIR"), "/level_mod.rs"));
 const USAGE: &str = "usage:
   oracle transcript LIST                     the original's transcript of a call list (- for standard input)
   oracle generate SEED LISTS CALLS [KIND]    LISTS call lists of about CALLS calls each
-  oracle audit [SEED LISTS CALLS]            demand 3 and the sound record on generated lists
+  oracle audit [SEED LISTS CALLS [KIND]]     demand 3 and the sound record on generated lists
   oracle gear SEED COUNT                     COUNT decisions of the original's gear, as crates/gear_cases reads them
   oracle levels SEED COUNT                   the original's level_for under COUNT random sets of thresholds, as tests/levels.c reads it
   oracle bench                               nanoseconds of the original's on_ack in Goodput: the median, the quartiles
@@ -93,8 +94,12 @@ fn run(args: &[&str]) -> Result<(), String> {
         ["speed"] => speed::speed(),
         #[cfg(feature = "port")]
         ["records", seed, count] => speed::records::records(number(seed)?, number(count)?),
-        ["audit"] => audit::audit(1, 4000, 80),
-        ["audit", seed, lists, calls] => audit::audit(number(seed)?, number(lists)?, count(calls)?),
+        ["audit"] => audit::audit(1, 4000, 80, None),
+        ["audit", seed, lists, calls] => audit::audit(number(seed)?, number(lists)?, count(calls)?, None),
+        ["audit", seed, lists, calls, kind] => {
+            let kind = generate::kind_named(kind)?;
+            audit::audit(number(seed)?, number(lists)?, count(calls)?, Some(kind))
+        }
         ["compare", program, seconds, seed] => compare::compare(program, number(seconds)?, number(seed)?, None),
         ["compare", program, seconds, seed, kind] => {
             let kind = generate::kind_named(kind)?;

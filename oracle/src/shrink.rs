@@ -78,7 +78,7 @@ pub fn shrink(mut items: Vec<Item>, shows: &mut dyn FnMut(&[Item]) -> bool) -> V
             if Instant::now() > until {
                 return items;
             }
-            let Item::Call(Call::Queue(bytes)) = &items[i] else {
+            let Item::Call(Call::Queue(bytes, class)) = &items[i] else {
                 break;
             };
             let n = bytes.len();
@@ -88,7 +88,7 @@ pub fn shrink(mut items: Vec<Item>, shows: &mut dyn FnMut(&[Item]) -> bool) -> V
                     continue;
                 }
                 let mut other = items.clone();
-                other[i] = Item::Call(Call::Queue(bytes[..less].to_vec()));
+                other[i] = Item::Call(Call::Queue(bytes[..less].to_vec(), *class));
                 if shows(&other) {
                     shorter = Some(other);
                     break;
@@ -112,20 +112,20 @@ mod tests {
         let mut items = vec![Item::Profile(Profile::usual())];
         for n in 0..50 {
             items.push(Item::Call(Call::Piece(n)));
-            items.push(Item::Call(Call::Queue(vec![0; n as usize])));
+            items.push(Item::Call(Call::queue(vec![0; n as usize])));
         }
         let mut shows = |items: &[Item]| {
             items.iter().any(|i| matches!(i, Item::Call(Call::Piece(31))))
                 && items
                     .iter()
-                    .any(|i| matches!(i, Item::Call(Call::Queue(b)) if b.len() >= 7))
+                    .any(|i| matches!(i, Item::Call(Call::Queue(b, _)) if b.len() >= 7))
         };
         let small = shrink(items, &mut shows);
         assert_eq!(small.len(), 3);
         assert!(
             small
                 .iter()
-                .any(|i| matches!(i, Item::Call(Call::Queue(b)) if b.len() == 7))
+                .any(|i| matches!(i, Item::Call(Call::Queue(b, _)) if b.len() == 7))
         );
     }
 }

@@ -15,6 +15,8 @@ use pair::Sent;
 
 /// The port's longest call with 2,048 pieces, ns.
 const WORST_NS: f64 = 200_000.0;
+/// A queuing before 16,383 bytes, ns.
+const FIRST_NS: f64 = 2_000.0;
 
 /// How many times as fast as the original a call must be.
 fn wanted(kind: Kind) -> f64 {
@@ -88,15 +90,41 @@ impl Report {
         self.rows(name, &clock, &KINDS);
     }
 
-    /// The port's time at its fullest work area.
-    fn worst(&mut self, name: &str, clock: &Clock, kind: Kind) {
+    /// The port's time alone; gives the median, ns.
+    fn port(&self, name: &str, clock: &Clock, kind: Kind) -> f64 {
         let port = Spread::of(clock.samples(kind).iter().map(|s| s[1] - self.clock_ns));
         let [.., most, largest] = port.0.map(|ns| ns / 1000.0);
         println!(
             "  {name:38} {:28} us; 99 of 100 within {most:.1}, all within {largest:.1}",
             port.micro()
         );
-        self.worst = self.worst.max(port.median());
+        port.median()
+    }
+
+    /// The port's time at its fullest work area.
+    fn worst(&mut self, name: &str, clock: &Clock, kind: Kind) {
+        self.worst = self.worst.max(self.port(name, clock, kind));
+    }
+
+    /// The same bytes in one message, in 8 and in 255.
+    fn messages(&self) {
+        println!("the port with messages that wait");
+        for count in [1, 8, 255] {
+            let clock = scenarios::message_times(count);
+            for (kind, word) in [
+                (Kind::Queue, "queue at the end"),
+                (Kind::Burst, "burst"),
+                (Kind::Long, "long ack"),
+            ] {
+                self.port(&format!("{word}, messages: {count}"), &clock, kind);
+            }
+        }
+        let first = self.port("queue before 16,383 bytes", &scenarios::first_times(), Kind::Queue);
+        println!(
+            "  it takes {:.2} us (target: 2 or less): {}",
+            first / 1000.0,
+            judged(first <= FIRST_NS)
+        );
     }
 
     fn worst_cases(&mut self, held: &Clock) {
@@ -135,7 +163,7 @@ fn memory() {
     use std::mem::size_of;
     println!(
         "memory of the port: record {} bytes, work area {}, profile {} (only read)",
-        size_of::<vanitycrow::Sender>(),
+        size_of::<vanitycrow::raw::Station>(),
         vanitycrow::AREA_BYTES,
         size_of::<vanitycrow::Profile>()
     );
@@ -168,6 +196,7 @@ pub fn speed() -> Result<(), String> {
     report.link("2,048 short pieces, 64 held", (held.clone(), sent));
     println!("plain queuing: 170 bytes");
     report.rows("plain queuing", &scenarios::plain_times(), &KINDS[3..4]);
+    report.messages();
     report.worst_cases(&held);
     report.finish();
     memory();

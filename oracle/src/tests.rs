@@ -300,7 +300,7 @@ fn refused_profiles() {
     h.call(&Call::Area(0));
     for call in [
         connect(0.0, 0.0),
-        Call::Queue(Vec::new()),
+        Call::queue(Vec::new()),
         Call::Burst,
         Call::Piece(0),
         long(0.0, 9, 0),
@@ -314,7 +314,7 @@ fn refused_by_area_and_order_of_calls() {
     let mut h = Harness::new(Profile::usual());
     for call in [
         Call::Burst,
-        Call::Queue(vec![1]),
+        Call::queue(vec![1]),
         Call::Piece(0),
         short(1.0, 0, 0),
         turn(f64::NAN, 9, 0.0, None),
@@ -373,18 +373,18 @@ fn refused_by_value() {
 #[test]
 fn refused_by_bytes() {
     let mut h = connected();
-    assert_eq!(number(&mut h, Call::Queue(vec![0; 16_385])), 8);
-    assert_eq!(number(&mut h, Call::Queue(vec![0; 16_384])), 0);
-    assert_eq!(number(&mut h, Call::Queue(vec![0; 1])), 8);
-    assert_eq!(number(&mut h, Call::Queue(Vec::new())), 0);
+    assert_eq!(number(&mut h, Call::queue(vec![0; 16_385])), 8);
+    assert_eq!(number(&mut h, Call::queue(vec![0; 16_384])), 0);
+    assert_eq!(number(&mut h, Call::queue(vec![0; 1])), 8);
+    assert_eq!(number(&mut h, Call::queue(Vec::new())), 0);
     // Bytes taken, by hand: all of 2^32 - 1 but five were taken before.
     let mut h = connected();
     h.taken = 0xFFFF_FFFF - 5;
     h.station.next_offset = 0xFFFF_FFFF - 5;
-    assert_eq!(number(&mut h, Call::Queue(vec![0; 6])), 9);
-    assert_eq!(number(&mut h, Call::Queue(vec![7; 5])), 0);
-    assert_eq!(number(&mut h, Call::Queue(vec![0; 1])), 9);
-    assert_eq!(number(&mut h, Call::Queue(vec![0; 16_385])), 8);
+    assert_eq!(number(&mut h, Call::queue(vec![0; 6])), 9);
+    assert_eq!(number(&mut h, Call::queue(vec![7; 5])), 0);
+    assert_eq!(number(&mut h, Call::queue(vec![0; 1])), 9);
+    assert_eq!(number(&mut h, Call::queue(vec![0; 16_385])), 8);
     let Answer::Burst(b) = h.call(&Call::Burst) else {
         panic!()
     };
@@ -432,6 +432,12 @@ fn lines_that_break_the_rules() {
         "queue 0",
         "queue 0A",
         "queue --",
+        "queue 00 -1",
+        "queue 00 x",
+        "queue 00 0x1",
+        "queue 00 18446744073709551616",
+        "queue 00 1 0",
+        "messages 0",
         "piece",
         "piece -1",
         "piece 18446744073709551616",
@@ -453,8 +459,68 @@ fn lines_that_break_the_rules() {
     assert_eq!(answers(&format!("#{}\n", "x".repeat(65_536))), [format!("error {n}")]);
 }
 
+/// Refusals 11 and 12, and what `messages` says.
+#[test]
+fn refused_messages() {
+    let queue = |n: usize, class: u64| Call::Queue(vec![7; n], Some(class));
+    let mut h = Harness::new(Profile::usual());
+    assert_eq!(number(&mut h, queue(1, 4)), 4);
+    let mut h = connected();
+    for class in [4, 5, 255, 256, 259, 1 << 32, u64::MAX] {
+        for n in [0, 1, 16_385] {
+            assert_eq!(number(&mut h, queue(n, class)), 11, "class {class}, {n} bytes");
+        }
+    }
+    assert_eq!(number(&mut h, queue(16_385, 3)), 8);
+    for i in 0..256 {
+        assert_eq!(number(&mut h, queue(1, i % 4)), 0);
+    }
+    for class in 0..4 {
+        assert_eq!(number(&mut h, queue(1, class)), 12);
+        assert_eq!(number(&mut h, queue(0, class)), 0);
+        assert_eq!(number(&mut h, queue(16_128, class)), 12);
+        assert_eq!(number(&mut h, queue(16_129, class)), 8);
+    }
+    assert_eq!(number(&mut h, queue(1, 4)), 11);
+    let taken = h.taken;
+    h.taken = 0xFFFF_FFFF;
+    assert_eq!(number(&mut h, queue(1, 0)), 9);
+    assert_eq!(number(&mut h, queue(16_129, 0)), 8);
+    h.taken = taken;
+    // The begun message counts, and until its last byte flies.
+    let mut h = connected();
+    h.call(&queue(10_000, 2));
+    h.call(&Call::Burst);
+    assert!(h.messages.begun());
+    for _ in 0..255 {
+        assert_eq!(number(&mut h, queue(1, 0)), 0);
+    }
+    h.call(&Call::Burst);
+    assert_eq!((h.messages.begun(), h.messages.len()), (true, 256));
+    assert_eq!(number(&mut h, queue(1, 0)), 12);
+}
+
+#[test]
+fn messages_in_the_order_of_going() {
+    let list = |calls: &str| answers(&format!("{}\n{calls}", connect(0.0, -20.0)));
+    assert_eq!(list("messages\n")[1], "messages 0 0 0");
+    let calls = "queue 0102\nqueue 03 1\nqueue 04 00000000000000000000000000\nqueue 05 1\nqueue - 2\nmessages\n";
+    assert_eq!(list(calls)[6], "messages 4 0 0 0:0:1 1:0:1 1:0:1 3:0:2");
+    assert_eq!(
+        list("queue 00 4\nmessages\n")[1..3],
+        ["queue refused 11", "messages 0 0 0"]
+    );
+    assert_eq!(list("queue 00 18446744073709551615\n")[1], "queue refused 11");
+    // A flash message behind a routine one that has begun.
+    let calls = format!("queue {}\nburst\nqueue aa 0\nmessages\n", "00".repeat(200));
+    let lines = list(&calls);
+    let of_messages = lines.iter().find(|l| l.starts_with("messages")).unwrap();
+    assert!(of_messages.starts_with("messages 2 1 0 3:0:") && of_messages.ends_with(" 0:0:1"));
+}
+
 #[test]
 fn lines_that_keep_them() {
+    assert_eq!(answers("messages\n"), ["messages 0 0 0", "end 0 0 0 0"]);
     assert_eq!(answers("queue -\n"), ["queue ok", "end 0 0 0 0"]);
     assert_eq!(answers("queue 00ff\n"), ["queue ok", "end 2 2 0 0"]);
     assert_eq!(answers("piece 000000000000000000000000000\n")[0], "piece none");
@@ -549,7 +615,7 @@ fn reckoned_holds() {
         p.values[ON][on::HOLD_BY_GOODPUT] = Value::Flag(false);
         let mut h = Harness::new(p);
         h.call(&connect(0.0, -20.0));
-        h.call(&Call::Queue(vec![1; 10]));
+        h.call(&Call::queue(vec![1; 10]));
         h.station.fails[0] = 2;
         h.call(&Call::Burst);
         h.call(&short(1000.0, 0, 0));
@@ -567,7 +633,7 @@ fn seven_frames_and_63() {
         p.values[16] = vec![Value::Whole(100), Value::F64(0.0), Value::F64(100.0), Value::Whole(700)];
         let mut h = Harness::new(p);
         h.call(&connect(0.0, 30.0));
-        h.call(&Call::Queue(vec![5; 170 * 8]));
+        h.call(&Call::queue(vec![5; 170 * 8]));
         let Answer::Burst(b) = h.call(&Call::Burst) else {
             panic!()
         };
@@ -587,7 +653,7 @@ fn airtime_in_milliseconds() {
     h.call(&connect(0.0, 0.0));
     h.call(&Call::Burst);
     assert_eq!(h.airtime_ms, 0);
-    h.call(&Call::Queue(vec![1; 3]));
+    h.call(&Call::queue(vec![1; 3]));
     h.call(&Call::Burst);
     assert_eq!(h.airtime_ms, 334);
     h.airtime_ms = u64::MAX - 1;

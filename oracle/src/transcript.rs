@@ -30,7 +30,7 @@ fn or_none<T>(x: Option<T>, show: impl Fn(T) -> String) -> String {
 fn name(call: &Call) -> &'static str {
     match call {
         Call::Connect { .. } => "connect",
-        Call::Queue(_) => "queue",
+        Call::Queue(..) => "queue",
         Call::Short { .. } => "short",
         Call::Long { .. } => "long",
         Call::Turn { .. } => "turn",
@@ -38,6 +38,7 @@ fn name(call: &Call) -> &'static str {
         Call::Piece(_) => "piece",
         Call::Levels { .. } => "levels",
         Call::State => "state",
+        Call::Messages => "messages",
         Call::Area(_) => "area",
         Call::Out(_) => "out",
     }
@@ -120,10 +121,24 @@ pub fn state(out: &mut String, h: &Harness) {
     out.push('\n');
 }
 
+/// The line of `messages`. Labels and withdrawn bytes are those of a later change: 0.
+pub fn messages(out: &mut String, h: &Harness) {
+    let order = h.messages.in_order();
+    let _ = write!(out, "messages {} {} 0", order.len(), h.messages.begun() as u8);
+    for m in order {
+        let _ = write!(out, " {}:0:{}", m.class, m.bytes.len());
+    }
+    out.push('\n');
+}
+
 /// Makes the call and writes its answer.
 pub fn answer(out: &mut String, h: &mut Harness, call: &Call) -> Answer {
     if let Call::State = call {
         state(out, h);
+        return Answer::Ok;
+    }
+    if let Call::Messages = call {
+        messages(out, h);
         return Answer::Ok;
     }
     let answer = h.call(call);

@@ -7,7 +7,7 @@ pub mod raw;
 
 pub use raw::{
     Ack, Air, AtPeer, ChanClass, Codes, ConnAck, Counts, Frames, Gear, Heard, HoldTimes, Holds, LastBurst, Lengths, Link, Listing, LongAck, Marks,
-    MaybeDb, MaybeLevel, Outgoing, Profile, Reports, Sender, Tries, Turn,
+    MaybeDb, MaybeLevel, Message, Messages, Outgoing, Profile, Reports, Sender, Tries, Turn,
 };
 
 /// The version of this interface, that of include/vanitycrow.h.
@@ -16,6 +16,8 @@ pub const VERSION: &str = env!("CARGO_PKG_VERSION");
 pub const AREA_BYTES: usize = 49152;
 /// Most frames of a burst.
 pub const MAX_SLOTS: usize = 64;
+/// Most messages that may wait.
+pub const MAX_MESSAGES: usize = 256;
 /// Least output of a link log.
 pub const ADIF_BYTES: usize = 256;
 /// The end of 2099, in seconds since 1970: a link log knows no later time.
@@ -34,6 +36,8 @@ pub enum Refusal {
     QueueFull = 8,
     AllTaken = 9,
     ShortOutput = 10,
+    BadClass = 11,
+    TooManyMessages = 12,
     BadRange = 19,
     BadCallSign = 20,
     BadLinkTime = 21,
@@ -61,6 +65,8 @@ fn told(number: u8) -> Result<(), Refusal> {
         8 => Err(QueueFull),
         9 => Err(AllTaken),
         10 => Err(ShortOutput),
+        11 => Err(BadClass),
+        12 => Err(TooManyMessages),
         19 => Err(BadRange),
         20 => Err(BadCallSign),
         21 => Err(BadLinkTime),
@@ -91,50 +97,72 @@ pub fn levels(profile: &Profile, class: ChanClass, low: u8, high: u8) -> Result<
     told(listing.refusal).map(|()| listing)
 }
 
+/// The four classes. A message once begun is finished; then the lowest class waiting goes, the earliest of it first.
+impl Message {
+    pub const FLASH: Message = Message { class: 0 };
+    pub const IMMEDIATE: Message = Message { class: 1 };
+    pub const PRIORITY: Message = Message { class: 2 };
+    pub const ROUTINE: Message = Message { class: 3 };
+}
+
+impl Messages {
+    /// Class and waiting bytes of each message, in the order in which they will go.
+    pub fn entries(&self) -> impl Iterator<Item = (u8, u16)> + '_ {
+        self.class.iter().copied().zip(self.left.iter().copied()).take(self.n)
+    }
+}
+
 /// A sender with its profile and its work area.
 #[derive(Clone)]
 pub struct Station {
     profile: Profile,
-    sender: Sender,
+    record: raw::Station,
     area: [u8; AREA_BYTES],
 }
 
 impl Station {
     /// A sender that is not connected yet. A profile out of range is refused by every call.
     pub fn new(profile: Profile) -> Self {
-        let mut sender = std::mem::MaybeUninit::<Sender>::zeroed();
-        // SAFETY: all zeros is a value of Sender, which has only numbers, bools and arrays of them.
-        let sender = unsafe {
-            raw::vanitycrow_fresh(sender.as_mut_ptr());
-            sender.assume_init()
+        let mut record = std::mem::MaybeUninit::<raw::Station>::zeroed();
+        // SAFETY: all zeros is a value of raw::Station, which has only numbers, bools and arrays of them.
+        let record = unsafe {
+            raw::vanitycrow_fresh(record.as_mut_ptr());
+            record.assume_init()
         };
-        Station { profile, sender, area: [0; AREA_BYTES] }
+        Station { profile, record, area: [0; AREA_BYTES] }
     }
 
     pub fn profile(&self) -> &Profile {
         &self.profile
     }
 
-    /// The record, to read.
+    /// The sender's part of the record, to read.
     pub fn sender(&self) -> &Sender {
-        &self.sender
+        &self.record.sender
     }
 
-    /// Queues bytes to send.
-    pub fn queue(&mut self, bytes: &[u8]) -> Result<(), Refusal> {
+    /// The messages of which bytes wait, to read.
+    pub fn messages(&self) -> &Messages {
+        &self.record.messages
+    }
+
+    /// Queues bytes to send as one message; none make no message.
+    pub fn queue(&mut self, message: Message, bytes: &[u8]) -> Result<(), Refusal> {
         // SAFETY: pointers and lengths are those of live borrows that don't overlap.
-        told(unsafe { raw::vanitycrow_queue(&self.profile, &mut self.sender, self.area.as_mut_ptr(), AREA_BYTES, bytes.as_ptr(), bytes.len()) })
+        told(unsafe {
+            raw::vanitycrow_queue(&self.profile, &mut self.record, self.area.as_mut_ptr(), AREA_BYTES, message, bytes.as_ptr(), bytes.len())
+        })
     }
 
     /// The called station's answer.
     pub fn connect(&mut self, heard: Heard, reply: ConnAck) -> Result<(), Refusal> {
         // SAFETY: as above.
-        told(unsafe { raw::vanitycrow_connect(&self.profile, &mut self.sender, self.area.as_mut_ptr(), AREA_BYTES, heard, reply) })
+        told(unsafe { raw::vanitycrow_connect(&self.profile, &mut self.record, self.area.as_mut_ptr(), AREA_BYTES, heard, reply) })
     }
 
     pub fn short_ack(&mut self, heard: Heard, reply: Ack) -> Result<(), Refusal> {
         // SAFETY: as above.
-        told(unsafe { raw::vanitycrow_short_ack(&self.profile, &mut self.sender, self.area.as_mut_ptr(), AREA_BYTES, heard, reply) })
+        told(unsafe { raw::vanitycrow_short_ack(&self.profile, &mut self.record, self.area.as_mut_ptr(), AREA_BYTES, heard, reply) })
     }
 
     pub fn long_ack(&mut self, heard: Heard, reply: LongAck, payload: &[u8]) -> Result<(), Refusal> {
@@ -142,7 +170,7 @@ impl Station {
         told(unsafe {
             raw::vanitycrow_long_ack(
                 &self.profile,
-                &mut self.sender,
+                &mut self.record,
                 self.area.as_mut_ptr(),
                 AREA_BYTES,
                 heard,
@@ -155,27 +183,27 @@ impl Station {
 
     pub fn turn(&mut self, heard: Heard, reply: Turn) -> Result<(), Refusal> {
         // SAFETY: as above.
-        told(unsafe { raw::vanitycrow_turn(&self.profile, &mut self.sender, self.area.as_mut_ptr(), AREA_BYTES, heard, reply) })
+        told(unsafe { raw::vanitycrow_turn(&self.profile, &mut self.record, self.area.as_mut_ptr(), AREA_BYTES, heard, reply) })
     }
 
     /// The next burst. Its frames stand back to back in `out`, each of `frame_bytes` bytes.
     pub fn data_burst(&mut self, out: &mut [u8]) -> Result<Outgoing, Refusal> {
         // SAFETY: as above.
         let b =
-            unsafe { raw::vanitycrow_data_burst(&self.profile, &mut self.sender, self.area.as_mut_ptr(), AREA_BYTES, out.as_mut_ptr(), out.len()) };
+            unsafe { raw::vanitycrow_data_burst(&self.profile, &mut self.record, self.area.as_mut_ptr(), AREA_BYTES, out.as_mut_ptr(), out.len()) };
         told(b.refusal).map(|()| b.outgoing)
     }
 
     /// Bytes of a frame at the present level.
     pub fn frame_bytes(&self) -> usize {
-        let short = self.sender.gear.level <= 4;
+        let short = self.sender().gear.level <= 4;
         (if short { self.profile.short_bytes } else { self.profile.long_bytes }) as usize
     }
 
     /// The bytes of the flying piece at an offset, if one begins there.
     pub fn piece(&self, offset: u32) -> Result<Option<&[u8]>, Refusal> {
         // SAFETY: as above; nothing is written.
-        let p = unsafe { raw::vanitycrow_find(&self.profile, &self.sender, self.area.as_ptr(), AREA_BYTES, offset) };
+        let p = unsafe { raw::vanitycrow_find(&self.profile, &self.record, self.area.as_ptr(), AREA_BYTES, offset) };
         told(p.refusal).map(|()| p.here.then(|| &self.area[p.start..p.start + p.len]))
     }
 }

@@ -116,6 +116,9 @@ plain! {
     struct AtPeer { off: [u32; 64], bits: [u32; 64], n: usize, rest: usize, }
     struct LastBurst { off: [u32; 64], bits: [u32; 64], held: [u32; 64], n: usize, }
     struct Sender { gear: Gear, link: Link, counts: Counts, at_peer: AtPeer, last_burst: LastBurst, }
+    struct Messages { left: [u16; 256], class: [u8; 256], n: usize, begun: bool, }
+    struct Station { sender: Sender, messages: Messages, }
+    struct Message { class: u8, }
     struct Heard { time: f64, wave: u8, snr_db: f32, }
     struct ConnAck { session: u8, snr_db: f32, class: ChanClass, slot: u8, cue: bool, }
     struct Ack {
@@ -148,15 +151,23 @@ plain! {
 }
 
 extern "C" {
-    pub fn vanitycrow_fresh(s: *mut Sender);
-    pub fn vanitycrow_queue(p: *const Profile, s: *mut Sender, a: *mut u8, a_len: usize, bytes: *const u8, n: usize) -> u8;
-    pub fn vanitycrow_connect(p: *const Profile, s: *mut Sender, a: *mut u8, a_len: usize, h: Heard, r: ConnAck) -> u8;
-    pub fn vanitycrow_short_ack(p: *const Profile, s: *mut Sender, a: *mut u8, a_len: usize, h: Heard, r: Ack) -> u8;
-    pub fn vanitycrow_long_ack(p: *const Profile, s: *mut Sender, a: *mut u8, a_len: usize, h: Heard, r: LongAck, payload: *const u8, n: usize)
-        -> u8;
-    pub fn vanitycrow_turn(p: *const Profile, s: *mut Sender, a: *mut u8, a_len: usize, h: Heard, r: Turn) -> u8;
-    pub fn vanitycrow_data_burst(p: *const Profile, s: *mut Sender, a: *mut u8, a_len: usize, out: *mut u8, n: usize) -> Burst;
-    pub fn vanitycrow_find(p: *const Profile, s: *const Sender, a: *const u8, a_len: usize, off: u32) -> Place;
+    pub fn vanitycrow_fresh(t: *mut Station);
+    pub fn vanitycrow_queue(p: *const Profile, t: *mut Station, a: *mut u8, a_len: usize, m: Message, bytes: *const u8, n: usize) -> u8;
+    pub fn vanitycrow_connect(p: *const Profile, t: *mut Station, a: *mut u8, a_len: usize, h: Heard, r: ConnAck) -> u8;
+    pub fn vanitycrow_short_ack(p: *const Profile, t: *mut Station, a: *mut u8, a_len: usize, h: Heard, r: Ack) -> u8;
+    pub fn vanitycrow_long_ack(
+        p: *const Profile,
+        t: *mut Station,
+        a: *mut u8,
+        a_len: usize,
+        h: Heard,
+        r: LongAck,
+        payload: *const u8,
+        n: usize,
+    ) -> u8;
+    pub fn vanitycrow_turn(p: *const Profile, t: *mut Station, a: *mut u8, a_len: usize, h: Heard, r: Turn) -> u8;
+    pub fn vanitycrow_data_burst(p: *const Profile, t: *mut Station, a: *mut u8, a_len: usize, out: *mut u8, n: usize) -> Burst;
+    pub fn vanitycrow_find(p: *const Profile, t: *const Station, a: *const u8, a_len: usize, off: u32) -> Place;
     pub fn vanitycrow_adif(call: *const u8, call_len: usize, on: u64, off: u64, acked: u32, out: *mut u8, n: usize) -> Logged;
     pub fn vanitycrow_levels(p: *const Profile, class: ChanClass, low: u8, high: u8) -> Listing;
 }

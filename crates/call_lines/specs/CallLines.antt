@@ -16,6 +16,7 @@ use Rattle.call_lines.specs.declared.BurstWords.{BurstWords}
 use Rattle.call_lines.specs.declared.ConnectLine.{ConnectLine}
 use Rattle.call_lines.specs.declared.ShortLine.{ShortLine}
 use Rattle.call_lines.specs.declared.LongLine.{LongLine}
+use Rattle.call_lines.specs.declared.QueueLine.{QueueLine}
 use Rattle.call_lines.specs.declared.LinkLine.{LinkLine}
 use Rattle.call_lines.specs.declared.TurnLine.{TurnLine}
 use Rattle.call_lines.specs.declared.RangeLine.{RangeLine}
@@ -129,6 +130,14 @@ longLine room chars r =
       payload = payload .value;
       ok = isDone chars payload;
     }
+
+-- `queue` HEX [CLASS], with room for so many bytes of HEX: "without it class 3. A CLASS too wide reads as 255"
+unfoldable pub queueLine : ℕ → List ℕ → Read → QueueLine
+queueLine room chars r =
+    let bytes : Read = readAs (hexCount room) chars r in
+    let class : Read = readAs decimalOf chars bytes in
+    let named : Bool = isDone chars class in
+    record { len = bytes .value; class = cond named (fieldByte (class .value)) 3; ok = named || isDone chars bytes }
 
 -- `log` CALL START END ACKED, with room for so many bytes of CALL; ACKED above 2^32 - 1 breaks the rules
 unfoldable pub logLineRead : ℕ → List ℕ → Read → LinkLine

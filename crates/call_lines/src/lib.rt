@@ -17,11 +17,12 @@ use words::none;
 use words::single;
 use words::whole;
 ghost use mathlib.Core.Path.{_≡_};
+ghost use mathlib.Core.Bool.{cond};
 ghost use lib.ListN.{length};
 ghost use Rattle.words.specs.Words.{hexInto};
 ghost use Rattle.words.specs.Lines.{charsOf, nextWord};
 ghost use Rattle.call_lines.specs.CallLines.{fieldByte, heardFirst, classWords, wishWords, burstWords, connectLine, shortLine};
-ghost use Rattle.call_lines.specs.CallLines.{turnLine, longWishes, longLine, logLineRead, rangeLine};
+ghost use Rattle.call_lines.specs.CallLines.{turnLine, longWishes, longLine, queueLine, logLineRead, rangeLine};
 
 pub mod names;
 
@@ -235,6 +236,40 @@ pub fn long_words(line: &[u8], r: Read, bytes: &mut [u8]) -> LongLine
         },
         payload: payload.value as usize,
         ok: done(line, payload),
+    }
+}
+
+// The class of a message whose line names none: routine.
+const ROUTINE: u8 = 3;
+
+// CLASS, where it was named.
+fn class_of(named: bool, n: u64) -> u8
+    ensures { λ r. ⌜ r ≡ cond named (fieldByte n) 3 ⌝ }
+{
+    if named {
+        return u8_of(n);
+    }
+    ROUTINE
+}
+
+// A queuing's line: how many bytes it has, their class, and whether the line was right. The bytes are put at the start of `bytes`.
+pub struct QueueLine {
+    pub len: usize,
+    pub class: u8,
+    pub ok: bool,
+}
+
+pub fn queue_words(line: &[u8], r: Read, bytes: &mut [u8]) -> QueueLine
+    ensures { λ q. ⌜ q ≡ queueLine (length (now (bytes .entry))) (now (line .entry)) r ⌝ }
+    ensures { λ _. ⌜ now (bytes .exit) ≡ hexInto (now (bytes .entry)) (charsOf (now (line .entry)) (nextWord (now (line .entry)) r)) ⌝ }
+{
+    let text = hex(line, r, bytes);
+    let class = whole(line, text);
+    let named = done(line, class);
+    QueueLine {
+        len: text.value as usize,
+        class: class_of(named, class.value),
+        ok: named | done(line, text),
     }
 }
 

@@ -31,6 +31,8 @@ pub const OUT: u8 = 11;
 
 pub const LEVELS: u8 = 12;
 
+pub const MESSAGES: u8 = 13;
+
 // A line's call, and how far the line was read.
 pub struct Named {
     pub call: u8,
@@ -87,5 +89,6 @@ pub fn call_of(line: &[u8]) -> Named
     let n = or(n, line, b"state", STATE);
     let n = or(n, line, b"area", AREA);
     let n = or(n, line, b"out", OUT);
-    or(n, line, b"levels", LEVELS)
+    let n = or(n, line, b"levels", LEVELS);
+    or(n, line, b"messages", MESSAGES)
 }

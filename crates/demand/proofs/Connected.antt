@@ -1,7 +1,7 @@
 -- Every accepted call leaves the record connected, so a record that is not connected awaits no ack: a connect answer changes nothing that the ledger sees.
 -- Assumes nothing.
 use mathlib.Core.Path.{_≡_, refl, sym, ap, subst, _∙_}
-use mathlib.Core.List.{List}
+use mathlib.Core.List.{List, [], _∷_}
 use mathlib.Core.Bool.{Bool, true, false, cond, not, _&&_, _||_, false≢true}
 use Prim.Native.Nat.{ℕ}
 use lib.Dec.{eqb}
@@ -16,7 +16,6 @@ use Rattle.record.specs.View.{storeLink, store}
 use Rattle.record.specs.declared.Sender.{Sender}
 use Rattle.settle.specs.AckIn.{ackIn}
 use Rattle.outgoing.specs.Outgoing.{burstOf}
-use Rattle.soundness.specs.Soundness.{soundOk}
 use Rattle.replies.specs.declared.Heard.{Heard}
 use Rattle.replies.specs.declared.ConnAck as E
 use Rattle.replies.specs.declared.LongAck as B
@@ -27,16 +26,18 @@ use Rattle.refusals.specs.declared.Reply.{Reply}
 use Rattle.refusals.specs.declared.Reply.the-variants.{ConnAck, Ack, LongAck, Turn}
 use Rattle.refusals.specs.declared.Verdict.{Verdict}
 use Rattle.refusals.specs.declared.Verdict.the-variants.{Accepted, ProfileOutOfRange, ShortOverLong, Unsound, OutOfTurn}
-use Rattle.verdicts.specs.Verdicts.{passed, standing, firstOf, queueVerdict, receiveVerdict, burstVerdict}
+use Rattle.queuing.specs.Station.{storeStation, queuedIn}
+use Rattle.queuing.specs.declared.Station.{Station}
+use Rattle.verdicts.specs.Verdicts.{stationOk, passed, standing, firstOf, queueVerdict, receiveVerdict, burstVerdict}
 use Rattle.demand.specs.Lists.{Call, queues, hears, bursts, State, next}
 use Rattle.demand.proofs.Answers.{queue-yes, queue-no, hear-yes, hear-no, burst-yes, burst-no}
 
 -- a record that is not connected awaits nothing
 abbrev pub Quiet : State → Type 0
-Quiet c = c .0 .link .connected ≡ false → c .0 .link .awaiting ≡ false
+Quiet c = c .0 .sender .link .connected ≡ false → c .0 .sender .link .awaiting ≡ false
 
-abbrev On : State → Type 0
-On c = c .0 .link .connected ≡ true
+abbrev On : Sender × List ℕ → Type 0
+On x = x .0 .link .connected ≡ true
 
 -- ---- refusal 4
 
@@ -52,14 +53,17 @@ in-turn true true true true false e = refl
 in-turn true true true false true e = refl
 in-turn true true true false false e = absurd (false≢true e)
 
-module _ (p : Profile) (s : Sender) (a : List ℕ) where
-  stands-on : passed (standing p s a false) ≡ true → s .link .connected ≡ true
-  unfolding standing
-  stands-on e = in-turn (inRange p) (inOrder p) (soundOk p s a) (s .link .connected) false e
+module _ (p : Profile) (t : Station) (a : List ℕ) where
+  abbrev s : Sender
+  s = t .sender
 
-  pub connect-off : (h : Heard) (r : E.ConnAck) (n : ℕ) → passed (receiveVerdict p s a h (ConnAck r) n) ≡ true → s .link .connected ≡ false
+  stands-on : passed (standing p t a false) ≡ true → s .link .connected ≡ true
+  unfolding standing
+  stands-on e = in-turn (inRange p) (inOrder p) (stationOk p t a) (s .link .connected) false e
+
+  pub connect-off : (h : Heard) (r : E.ConnAck) (n : ℕ) → passed (receiveVerdict p t a h (ConnAck r) n) ≡ true → s .link .connected ≡ false
   unfolding standing receiveVerdict
-  connect-off h r n e = in-turn (inRange p) (inOrder p) (soundOk p s a) (s .link .connected) true (first-passed (standing p s a true) _ e)
+  connect-off h r n e = in-turn (inRange p) (inOrder p) (stationOk p t a) (s .link .connected) true (first-passed (standing p t a true) _ e)
 
   -- ---- replies
 
@@ -69,7 +73,7 @@ module _ (p : Profile) (s : Sender) (a : List ℕ) where
     long-on r TooShort e = e
     long-on r (Info i) e = either On (s .link .awaiting) _ _ e e
 
-    reply-on : (r : Reply) (b : List ℕ) → passed (standing p s a (eqb (kindOf r) 0)) ≡ true → On (acceptedReply p h r b s a)
+    reply-on : (r : Reply) (b : List ℕ) → passed (standing p t a (eqb (kindOf r) 0)) ≡ true → On (acceptedReply p h r b s a)
     unfolding connectedTo shortAcked turned ackIn store storeLink
     reply-on (ConnAck r) b e = refl
     reply-on (Ack r) b e = either On (s .link .awaiting) _ _ (stands-on e) (stands-on e)
@@ -78,12 +82,23 @@ module _ (p : Profile) (s : Sender) (a : List ℕ) where
 
 -- ---- all calls
 
+-- a queuing that is accepted leaves the link as it is
+queued-on : (t : Station) (a : List ℕ) (k : ℕ) (bs : List ℕ) → t .sender .link .connected ≡ true → queuedIn k bs t a .0 .sender .link .connected ≡ true
+unfolding queuedIn storeStation store storeLink
+queued-on t a k [] e = e
+queued-on t a k (b ∷ bs) e = e
+
+burst-on : (p : Profile) (s : Sender) (a out : List ℕ) → s .link .connected ≡ true → burstOf p s a out .0 .1 .link .connected ≡ true
+unfolding burstOf store storeLink
+burst-on p s a out e = e
+
 pub quiet-next : (p : Profile) (i : Call) (c : State) → Quiet c → Quiet (next p i c)
-unfolding queueVerdict receiveVerdict burstVerdict store storeLink burstOf
-quiet-next p (queues bs) c q =
-    test (passed (queueVerdict p (c .0) (c .1) (length bs)))
-    (λ e. subst Quiet (sym (queue-yes p c bs e)) (λ f. absurd (false≢true (sym f ∙ stands-on p (c .0) (c .1) (first-passed (standing p (c .0) (c .1) false) _ e)))))
-    (λ e. subst Quiet (sym (queue-no p c bs e)) q)
+unfolding queueVerdict receiveVerdict burstVerdict
+quiet-next p (queues k bs) c q =
+    test (passed (queueVerdict p (c .0) (c .1) k (length bs)))
+    (λ e. subst Quiet (sym (queue-yes p c k bs e))
+    (λ f. absurd (false≢true (sym f ∙ queued-on (c .0) (c .1) k bs (stands-on p (c .0) (c .1) (first-passed (standing p (c .0) (c .1) false) _ e))))))
+    (λ e. subst Quiet (sym (queue-no p c k bs e)) q)
 quiet-next p (hears h r b) c q =
     test (passed (receiveVerdict p (c .0) (c .1) h r (length b)))
     (λ e. subst Quiet (sym (hear-yes p c h r b e))
@@ -91,5 +106,6 @@ quiet-next p (hears h r b) c q =
     (λ e. subst Quiet (sym (hear-no p c h r b e)) q)
 quiet-next p (bursts out) c q =
     test (passed (burstVerdict p (c .0) (c .1) (length out)))
-    (λ e. subst Quiet (sym (burst-yes p c out e)) (λ f. absurd (false≢true (sym f ∙ stands-on p (c .0) (c .1) (first-passed (standing p (c .0) (c .1) false) _ e)))))
+    (λ e. subst Quiet (sym (burst-yes p c out e))
+    (λ f. absurd (false≢true (sym f ∙ burst-on p (c .0 .sender) (c .1) out (stands-on p (c .0) (c .1) (first-passed (standing p (c .0) (c .1) false) _ e))))))
     (λ e. subst Quiet (sym (burst-no p c out e)) q)

@@ -9,10 +9,11 @@ use Rattle.laws.proofs.Lists.{map-map, map-id, map-append}
 use Rattle.frame.specs.Frame.{frameOf}
 use Rattle.ledger.specs.Ledger.{Piece, Sent, Frame, find}
 use Rattle.ledger.specs.LedgerCode.{frames}
-use Rattle.ledger.specs.Tally.{Tally, unacked, byteOf, furthest, sentOut, feed, went}
+use Rattle.ledger.specs.Tally.{Tally, unacked, byteOf, furthest, waits, sentOut, feed, went}
+use Rattle.ledger.proofs.Queue.{goes-flies}
 use Rattle.ledger.specs.ClaimCode.{Carry}
 use Rattle.pieces.specs.Burst.{framesSent}
-use Rattle.demand.specs.Page.{Taken, framesOfTaken}
+use Rattle.demand.specs.Page.{byOffset, Taken, framesOfTaken}
 
 pub take-drop-more : (n o : ℕ) (bs ys : List ℕ) → n ≤ length (take n (drop o bs)) → take n (drop o (bs ++ ys)) ≡ take n (drop o bs)
 take-drop-more zero o bs ys h = refl
@@ -29,17 +30,13 @@ sent-taken size bs ys ps (f ∷ fs) c =
     ap₂ (λ (x y : List ℕ). frameOf size (f .off) x ++ y) (e ∙ sym m) (sent-taken size bs ys ps fs (c .3))
 
 -- a burst moves bytes from waiting to flown
-pub sent-bytes : (n : ℕ) (fs : List Frame) (t : Tally) → map byteOf (feed (went n fs) t .flown) ++ feed (went n fs) t .waiting ≡ map byteOf (t .flown) ++ t .waiting
+pub sent-bytes : (n : ℕ) (fs : List Frame) (t : Tally) → byOffset (feed (went n fs) t) ≡ byOffset t
 unfolding sentOut
 sent-bytes n fs t =
     let k = furthest fs - length (t .flown) in
-    let u : map byteOf (unacked (take k (t .waiting))) ≡ take k (t .waiting) = map-map byteOf _ (take k (t .waiting)) ∙ map-id (take k (t .waiting)) in
-    rw (
-      map-append byteOf (t .flown) (unacked (take k (t .waiting))),
-      u,
-      append-assoc (map byteOf (t .flown)) (take k (t .waiting)) (drop k (t .waiting)),
-      take-append-drop k (t .waiting),
-    )
+    let w = waits t in
+    let u : map byteOf (unacked (take k w)) ≡ take k w = map-map byteOf _ (take k w) ∙ map-id (take k w) in
+    rw (map-append byteOf (t .flown) (unacked (take k w)), u, goes-flies k (t .queue), append-assoc (map byteOf (t .flown)) (take k w) (drop k w), take-append-drop k w)
     refl
 
 -- frames that carry flown bytes carry bytes taken

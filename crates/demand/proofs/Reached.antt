@@ -19,7 +19,9 @@ use Rattle.ledger.specs.ClaimCode.{LedgerClaim}
 use Rattle.ledger.specs.Tally.{silent}
 use Rattle.ledger.proofs.Refine.{Refines, refined, ok-after}
 use Rattle.area.specs.Layout.{areaBytes}
-use Rattle.record.specs.Fresh.{fresh}
+use Rattle.queuing.specs.Station.{freshStation}
+use Rattle.queuing.proofs.Shown.{fresh-shows}
+use Rattle.messages.proofs.Kept.{sound-ok, sound-none, sized-none}
 use Rattle.record.specs.Profiles.{sizesOf}
 use Rattle.record.proofs.View.{view-fresh}
 use Rattle.soundness.specs.Soundness.{soundOk}
@@ -31,7 +33,7 @@ use Rattle.refusals.specs.Refusals.{kindOf}
 use Rattle.verdicts.specs.Verdicts.{passed, standing, firstOf, queueVerdict, receiveVerdict, burstVerdict}
 use Rattle.verdicts.proofs.Passed.{standing-three}
 use Rattle.demand.specs.Lists.{Call, queues, hears, bursts, State, Given, freshStart, shown, next, told}
-use Rattle.demand.specs.Page.{bytes, c, s, t}
+use Rattle.demand.specs.Page.{messages, c, s, t}
 use Rattle.demand.specs.PageCode.{sizesFor, Reached}
 use Rattle.demand.proofs.Answers.{queue-no, queue-told, hear-no, hear-told, burst-no, burst-silent, burst-verdict}
 use Rattle.demand.proofs.Steps.{sizes, Ok, call, does}
@@ -51,7 +53,7 @@ zeros-bytes (suc n) (suc i) = zeros-bytes n i
 
 module _ (p : Profile) (rg : Ranged p) (io : inOrder p ≡ true) (six : length (p .codes .ends) ≤ 6) where
   -- a record that is well, and awaits nothing before it is connected
-  abbrev Fit : State → Type 0
+  abbrev pub Fit : State → Type 0
   Fit c = Ok p rg io six c × Quiet c
 
   refines : Refines (sizesOf p) (sizes p rg io six) State Call Given Fit (next p) shown (call p rg io six) (told p)
@@ -63,34 +65,37 @@ module _ (p : Profile) (rg : Ranged p) (io : inOrder p ≡ true) (six : length (
         keeps = λ i c g so ok. (does p rg io six i c g (ok .0) (ok .1) .keeps, quiet-next p i c (ok .1));
       }
 
+  pub fresh-fit : (n : ℕ) → areaBytes ≤ n → Fit (freshStart n)
+  fresh-fit n large = (
+    record { well = fresh-well p (replicate n 0) (zeros-bytes n) (omega (arith, length-replicate {A = ℕ} n 0)); listed = sound-none; sized = sized-none },
+    (λ e. refl),
+  )
+
   module _ (n : ℕ) (large : areaBytes ≤ n) (is : List Call) (gs : Along (next p) Given is (freshStart n)) where
-    fresh-ok : Fit (freshStart n)
-    fresh-ok = (fresh-well p (replicate n 0) (zeros-bytes n) (omega (arith, length-replicate {A = ℕ} n 0)), λ e. refl)
-
     through : (i : Call) → Given i (c p n is)
-        → LedgerClaim (sizesOf p) (bytes p n is) (s p n is) (t p n is) (told p i (c p n is)) (shown (next p i (c p n is)))
+        → LedgerClaim (sizesOf p) (messages p n is) (s p n is .sender) (s p n is .queue) (t p n is) (told p i (c p n is)) (shown (next p i (c p n is)) .sender)
     through i g =
-        refined (sizesOf p) (sizes p rg io six) State Call Given Fit (next p) shown (call p rg io six) (told p) refines (freshStart n) (view-fresh (replicate n 0)) fresh-ok is gs i g
+        refined (sizesOf p) (sizes p rg io six) State Call Given Fit (next p) shown (call p rg io six) (told p) refines (freshStart n) (fresh-shows (replicate n 0)) (fresh-fit n large) is gs i g
 
-    well : Well p (c p n is .0) (c p n is .1)
-    well = ok-after (sizesOf p) (sizes p rg io six) State Call Given Fit (next p) shown (call p rg io six) (told p) refines (freshStart n) (view-fresh (replicate n 0)) fresh-ok is gs .0
+    well : Ok p rg io six (c p n is)
+    well = ok-after (sizesOf p) (sizes p rg io six) State Call Given Fit (next p) shown (call p rg io six) (told p) refines (freshStart n) (fresh-shows (replicate n 0)) (fresh-fit n large) is gs .0
 
 -- ---- every call is refused
 
 first-no : (v w : Verdict) → passed v ≡ false → passed (firstOf v w) ≡ false
 first-no v w e = ap (λ (t : Bool). passed (cond t w v)) e ∙ e
 
-module _ (p : Profile) (n : ℕ) (refused : (connect : Bool) → passed (standing p fresh (replicate n 0) connect) ≡ false) where
-  stays : (i : Call) → (next p i (freshStart n) ≡ freshStart n) × (told p i (freshStart n) ≡ silent)
+module _ (p : Profile) (n : ℕ) (refused : (connect : Bool) → passed (standing p freshStation (replicate n 0) connect) ≡ false) where
+  pub stays : (i : Call) → (next p i (freshStart n) ≡ freshStart n) × (told p i (freshStart n) ≡ silent)
   unfolding queueVerdict receiveVerdict burstVerdict
-  stays (queues bs) =
-      let e = first-no (standing p fresh (replicate n 0) false) _ (refused false) in
-      (queue-no p (freshStart n) bs e, queue-told p (freshStart n) bs false e)
+  stays (queues k bs) =
+      let e = first-no (standing p freshStation (replicate n 0) false) _ (refused false) in
+      (queue-no p (freshStart n) k bs e, queue-told p (freshStart n) k bs false e)
   stays (hears h r b) =
-      let e = first-no (standing p fresh (replicate n 0) (eqb (kindOf r) 0)) _ (refused (eqb (kindOf r) 0)) in
+      let e = first-no (standing p freshStation (replicate n 0) (eqb (kindOf r) 0)) _ (refused (eqb (kindOf r) 0)) in
       (hear-no p (freshStart n) h r b e, hear-told p (freshStart n) h r b false e)
   stays (bursts out) =
-      let e = first-no (standing p fresh (replicate n 0) false) _ (refused false) in
+      let e = first-no (standing p freshStation (replicate n 0) false) _ (refused false) in
       (burst-no p (freshStart n) out e, burst-silent p (freshStart n) out e)
 
   module _ (z : Sizes) (zr : SizeRange z) where
@@ -105,23 +110,23 @@ module _ (p : Profile) (n : ℕ) (refused : (connect : Bool) → passed (standin
 
     module _ (is : List Call) (gs : Along (next p) Given is (freshStart n)) where
       refused-all : (i : Call) → Given i (c p n is)
-          → LedgerClaim z (bytes p n is) (s p n is) (t p n is) (told p i (c p n is)) (shown (next p i (c p n is)))
+          → LedgerClaim z (messages p n is) (s p n is .sender) (s p n is .queue) (t p n is) (told p i (c p n is)) (shown (next p i (c p n is)) .sender)
       refused-all i g =
-          refined z zr State Call Given (λ (c : State). c ≡ freshStart n) (next p) shown (λ (j : Call) (c : State). idle) (told p) idles (freshStart n) (view-fresh (replicate n 0)) refl is gs i g
+          refined z zr State Call Given (λ (c : State). c ≡ freshStart n) (next p) shown (λ (j : Call) (c : State). idle) (told p) idles (freshStart n) (fresh-shows (replicate n 0)) refl is gs i g
 
       at-start : c p n is ≡ freshStart n
-      at-start = ok-after z zr State Call Given (λ (c : State). c ≡ freshStart n) (next p) shown (λ (j : Call) (c : State). idle) (told p) idles (freshStart n) (view-fresh (replicate n 0)) refl is gs
+      at-start = ok-after z zr State Call Given (λ (c : State). c ≡ freshStart n) (next p) shown (λ (j : Call) (c : State). idle) (told p) idles (freshStart n) (fresh-shows (replicate n 0)) refl is gs
 
 -- a call that stands finds a profile that is not refused, and a work area that is large enough
-stands-finds : (p : Profile) (n : ℕ) (connect : Bool) → passed (standing p fresh (replicate n 0) connect) ≡ true → ((inRange p && inOrder p) ≡ true) × (areaBytes ≤ n)
+stands-finds : (p : Profile) (n : ℕ) (connect : Bool) → passed (standing p freshStation (replicate n 0) connect) ≡ true → ((inRange p && inOrder p) ≡ true) × (areaBytes ≤ n)
 unfolding soundOk
 stands-finds p n connect e =
-    let h = standing-three p fresh (replicate n 0) connect e in
+    let h = standing-three p freshStation (replicate n 0) connect e in
     (and-yes (inRange p) (inOrder p) (h .0) (h .1), omega (arith, leb-true areaBytes (length (replicate n 0)) (all-at _ 0 (h .2)), length-replicate {A = ℕ} n 0))
 
-refused-by : (p : Profile) (n : ℕ) → ((inRange p && inOrder p) ≡ true → areaBytes ≤ n → ⊥) → (connect : Bool) → passed (standing p fresh (replicate n 0) connect) ≡ false
+pub refused-by : (p : Profile) (n : ℕ) → ((inRange p && inOrder p) ≡ true → areaBytes ≤ n → ⊥) → (connect : Bool) → passed (standing p freshStation (replicate n 0) connect) ≡ false
 refused-by p n f connect =
-    test (passed (standing p fresh (replicate n 0) connect))
+    test (passed (standing p freshStation (replicate n 0) connect))
     (λ e. let h = stands-finds p n connect e in absurd (f (h .0) (h .1)))
     (λ e. e)
 
@@ -132,7 +137,7 @@ least-sizes = record { least = omega arith; order = omega arith; most = omega ar
 
 module _ (p : Profile) (six : length (p .codes .ends) ≤ 6) (n : ℕ) (is : List Call) (gs : Along (next p) Given is (freshStart n)) where
   abbrev Claimed : Sizes → Call → Type 0
-  Claimed z i = LedgerClaim z (bytes p n is) (s p n is) (t p n is) (told p i (c p n is)) (shown (next p i (c p n is)))
+  Claimed z i = LedgerClaim z (messages p n is) (s p n is .sender) (s p n is .queue) (t p n is) (told p i (c p n is)) (shown (next p i (c p n is)) .sender)
 
   sizes-for : (b : Bool) → (inRange p && inOrder p) ≡ b → sizesFor p ≡ cond b (sizesOf p) (record { short = minPayload; long = minPayload; top = 0 })
   sizes-for b e = ap (λ (x : Bool). cond x (sizesOf p) (record { short = minPayload; long = minPayload; top = 0 })) e
@@ -143,7 +148,7 @@ module _ (p : Profile) (six : length (p .codes .ends) ≤ 6) (n : ℕ) (is : Lis
   turned-down z zr e f i g =
       let refused = refused-by p n f in
       let none : (out : List ℕ) → passed (burstVerdict p (c p n is .0) (c p n is .1) (length out)) ≡ true → ⊥ =
-      λ out ok. false≢true (sym (first-no (standing p fresh (replicate n 0) false) _ (refused false))
+      λ out ok. false≢true (sym (first-no (standing p freshStation (replicate n 0) false) _ (refused false))
       ∙ subst (λ (x : State). passed (burstVerdict p (x .0) (x .1) (length out)) ≡ true) (at-start p n refused z zr is gs) ok) in
       record {
         ledger = subst (λ (x : Sizes). Claimed x i) (sym e) (refused-all p n refused z zr is gs i g);
@@ -158,7 +163,7 @@ module _ (p : Profile) (six : length (p .codes .ends) ≤ 6) (n : ℕ) (is : Lis
       let w = well p rg io six n l is gs in
       record {
         ledger = subst (λ (x : Sizes). Claimed x i) (sym (sizes-for true v)) (through p rg io six n l is gs i g);
-        sound = λ x y. sound-test p (c p n is .0) (c p n is .1) (w .sound) (w .arrays);
+        sound = λ x y. and-yes _ _ (sound-ok _ _ (w .listed)) (sound-test p (c p n is .0 .sender) (c p n is .1) (w .well .sound) (w .well .arrays));
         sends = λ out ok. sends p rg io six n is w out (through p rg io six n l is gs (bursts out) tt) ok;
       }
 

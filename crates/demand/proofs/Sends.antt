@@ -26,7 +26,10 @@ use Rattle.record.specs.Profiles.{sizesOf}
 use Rattle.outgoing.specs.declared.Outgoing.{Outgoing}
 use Rattle.outgoing.specs.Outgoing.{padded, framesOut, headed, outgoing, output, after, burstOf}
 use Rattle.outgoing.specs.Choosing.{choice, cue}
-use Rattle.invariant.proofs.Well.{Well, well-kept}
+use Rattle.invariant.proofs.Well.{well-kept}
+use Rattle.ledger.specs.Station as St
+use Rattle.queuing.specs.Station.{viewStation}
+use Rattle.record.specs.View.{view}
 use Rattle.outgoing.proofs.Choices.{choice-ranged}
 use Rattle.soundness.proofs.fields.Sound.{sound-level}
 use Rattle.invariant.proofs.Bursts.{burst-kept, choice-fits, choice-keeps-air}
@@ -34,27 +37,28 @@ use Rattle.verdicts.specs.Verdicts.{passed, burstVerdict}
 use Rattle.sender.specs.declared.Bursted.{Bursted}
 use Rattle.sender.specs.Calls.{burstCall}
 use Rattle.demand.specs.Lists.{Call, bursts, shown, framesAnswered, next, told}
-use Rattle.demand.specs.Page.{Taken, framesOfTaken, sumOf, onAir, allowance, anyIncrement, anyWhole, bytes, c, s, t, answer, leaves, Sends}
+use Rattle.demand.specs.Page.{byOffset, Taken, framesOfTaken, sumOf, onAir, allowance, anyIncrement, anyWhole, messages, bytes, c, s, t, answer, leaves, Sends}
 use Rattle.demand.proofs.Answers.{burst-is, burst-told, burst-verdict}
-use Rattle.demand.proofs.Steps.{sizes, does-burst, taken}
+use Rattle.demand.proofs.Steps.{sizes, Ok, does-burst, taken}
 use Rattle.demand.proofs.Payloads.{sent-taken, sent-bytes, within}
 use Rattle.demand.proofs.OnTime.{on-time, sum-bits}
 
 module _ (p : Profile) (rg : Ranged p) (io : inOrder p ≡ true) (six : length (p .codes .ends) ≤ 6) (n : ℕ) (is : List Call)
-    (w : Well p (c p n is .0) (c p n is .1)) (out : List ℕ)
-    (q : LedgerClaim (sizesOf p) (bytes p n is) (s p n is) (t p n is) (told p (bursts out) (c p n is)) (shown (next p (bursts out) (c p n is))))
+    (w : Ok p rg io six (c p n is)) (out : List ℕ)
+    (q : LedgerClaim (sizesOf p) (messages p n is) (s p n is .sender) (s p n is .queue) (t p n is) (told p (bursts out) (c p n is)) (shown (next p (bursts out) (c p n is)) .sender))
     (ok : passed (burstCall p (c p n is .0) (c p n is .1) out .0 .verdict) ≡ true) where
   go : passed (burstVerdict p (c p n is .0) (c p n is .1) (length out)) ≡ true
   go = ap passed (sym (burst-verdict p (c p n is) out)) ∙ ok
 
   -- the ledger's sender after the burst
   abbrev s′ : L.Sender
-  s′ = after p (c p n is .0) (c p n is .1)
+  s′ = after p (c p n is .0 .sender) (c p n is .1)
 
-  stepped : shown (next p (bursts out) (c p n is)) ≡ s′
-  stepped = does-burst p rg io six out (c p n is) w go .steps
+  stepped : shown (next p (bursts out) (c p n is)) .sender ≡ s′
+  unfolding viewStation
+  stepped = ap (λ (x : St.Station). x .sender) (does-burst p rg io six out (c p n is) w go .steps)
 
-  answered : answer p n is out ≡ outgoing p (c p n is .0) (c p n is .1)
+  answered : answer p n is out ≡ outgoing p (c p n is .0 .sender) (c p n is .1)
   unfolding burstOf
   answered = ap (λ (x : Bursted × (List ℕ × List ℕ)). x .0 .outgoing) (burst-is p (c p n is) out true go)
 
@@ -64,47 +68,50 @@ module _ (p : Profile) (rg : Ranged p) (io : inOrder p ≡ true) (six : length (
 
   -- the answer's frames are those of the pieces that the burst leaves
   frames-are : framesAnswered (answer p n is out .frames) ≡ frames (s′ .pieces) (s′ .sent)
+  unfolding viewStation
   frames-are = sym (ap framesTold said) ∙ ap framesTold (does-burst p rg io six out (c p n is) w go .tells)
 
   carried : Carry (map byteOf (feed (told p (bursts out) (c p n is)) (t p n is) .flown)) (s′ .pieces) (framesAnswered (answer p n is out .frames))
   carried =
       subst (λ (x : L.Sender). Carry (map byteOf (feed (told p (bursts out) (c p n is)) (t p n is) .flown)) (x .pieces) (framesAnswered (answer p n is out .frames))) stepped
-      (subst (Carry (map byteOf (feed (told p (bursts out) (c p n is)) (t p n is) .flown)) (shown (next p (bursts out) (c p n is)) .pieces)) (ap framesTold said) (q .carries))
+      (subst (Carry (map byteOf (feed (told p (bursts out) (c p n is)) (t p n is) .flown)) (shown (next p (bursts out) (c p n is)) .sender .pieces)) (ap framesTold said) (q .carries))
 
   -- a burst moves bytes from waiting to flown, and no byte taken is another then
-  same-bytes : map byteOf (feed (told p (bursts out) (c p n is)) (t p n is) .flown) ++ feed (told p (bursts out) (c p n is)) (t p n is) .waiting ≡ bytes p n is
+  abbrev t′ : T.Tally
+  t′ = feed (told p (bursts out) (c p n is)) (t p n is)
+
+  same-bytes : byOffset t′ ≡ bytes p n is
   same-bytes =
-      ap (λ (e : T.Event). map byteOf (feed e (t p n is) .flown) ++ feed e (t p n is) .waiting) said
-      ∙ sent-bytes (answer p n is out .number) (framesAnswered (answer p n is out .frames)) (t p n is) ∙ sym (q .history)
+      ap (λ (e : T.Event). byOffset (feed e (t p n is))) said ∙ sent-bytes (answer p n is out .number) (framesAnswered (answer p n is out .frames)) (t p n is)
 
   written : burstCall p (c p n is .0) (c p n is .1) out .1 .1
-      ≡ overwrite out 0 (framesOfTaken (frameBytes p (c p n is .0 .gear .level)) (bytes p n is) (framesAnswered (answer p n is out .frames)))
+      ≡ overwrite out 0 (framesOfTaken (frameBytes p (c p n is .0 .sender .gear .level)) (bytes p n is) (framesAnswered (answer p n is out .frames)))
   unfolding burstOf output
   written =
-      let size = frameBytes p (c p n is .0 .gear .level) in
-      let e = told p (bursts out) (c p n is) in
+      let size = frameBytes p (c p n is .0 .sender .gear .level) in
       ap (λ (x : Bursted × (List ℕ × List ℕ)). x .1 .1) (burst-is p (c p n is) out true go)
       ∙ ap (overwrite out 0)
-      (sent-taken size (map byteOf (feed e (t p n is) .flown)) (feed e (t p n is) .waiting) (s′ .pieces) (s′ .sent)
-      (subst (Carry (map byteOf (feed e (t p n is) .flown)) (s′ .pieces)) frames-are carried)
+      (sent-taken size (map byteOf (t′ .flown)) (T.waits t′) (s′ .pieces) (s′ .sent)
+      (subst (Carry (map byteOf (t′ .flown)) (s′ .pieces)) frames-are carried)
       ∙ ap₂ (framesOfTaken size) same-bytes (sym frames-are))
 
   few : length (s′ .sent) ≤ maxSlots
   few =
-      let k = burst-kept (sizesOf p) (sizes p rg io six) (s p n is) _ (choice-fits p rg (c p n is .0) (c p n is .1) w six) (well-kept p (c p n is .0) (c p n is .1) w) in
+      let k = burst-kept (sizesOf p) (sizes p rg io six) _ _ (choice-fits p rg (c p n is .0 .sender) (c p n is .1) (w .well) six) (well-kept p (c p n is .0 .sender) (c p n is .1) (w .well)) in
       omega (arith, k .sound .outFew)
 
   count-is : answer p n is out .frames .n ≡ length (s′ .sent)
   unfolding outgoing headed framesOut
   count-is = ap (λ (x : Outgoing). x .frames .n) answered
 
-  some-frame : 1 ≤ inFlight (t p n is .flown) + length (t p n is .waiting) → 1 ≤ answer p n is out .frames .n
+  some-frame : 1 ≤ inFlight (t p n is .flown) + length (T.waits (t p n is)) → 1 ≤ answer p n is out .frames .n
+  unfolding viewStation
   some-frame h =
       omega (
         arith,
         count-is,
-        burst-some (sizesOf p) (sizes p rg io six) (choice p (c p n is .0))
-            (choice-ranged p rg (c p n is .0) (sound-level p (c p n is .0) (c p n is .1) (w .sound)) six) (s p n is) (w .sound .ledger) (omega (arith, h, q .inPieces, ap length (q .waiting))),
+        burst-some (sizesOf p) (sizes p rg io six) (choice p (c p n is .0 .sender))
+            (choice-ranged p rg (c p n is .0 .sender) (sound-level p (c p n is .0 .sender) (c p n is .1) (w .well .sound)) six) (view (c p n is .0 .sender) (c p n is .1)) (w .well .sound .ledger) (omega (arith, h, q .inPieces, ap length (q .waiting))),
       )
 
   bits-are : sumOf (take (length (s′ .sent)) (padded (map (λ (f : Sent). f .bits) (s′ .sent)))) ≡ burstBitsSent (s′ .sent)
@@ -114,17 +121,17 @@ module _ (p : Profile) (rg : Ranged p) (io : inOrder p ≡ true) (six : length (
   -- of an answer x that leaves `sent`
   abbrev InTime : Outgoing → List Sent → Type 0
   InTime x sent = (2 ≤ x .frames .n) ⊎ (anyIncrement sent ≡ true)
-      → le (onAir p (c p n is .0 .gear .level) x) (allowance p (c p n is .0 .gear) (not (anyWhole sent)) (x .cue)) ≡ true
+      → le (onAir p (c p n is .0 .sender .gear .level) x) (allowance p (c p n is .0 .sender .gear) (not (anyWhole sent)) (x .cue)) ≡ true
 
   in-time : InTime (answer p n is out) (leaves p n is out)
   unfolding outgoing headed framesOut
   in-time =
-      let l = c p n is .0 .gear .level in
-      let g = c p n is .0 .gear in
+      let l = c p n is .0 .sender .gear .level in
+      let g = c p n is .0 .sender .gear in
       subst (λ (x : L.Sender). InTime (answer p n is out) (x .sent)) (sym stepped)
       (subst (λ (x : Outgoing). InTime x (s′ .sent)) (sym answered)
       (λ h. subst (λ (bits : ℕ). le (dataAt (p .air) l bits (cue p g)) (allowance p g (not (anyWhole (s′ .sent))) (cue p g)) ≡ true) (sym bits-are)
-      (on-time p (c p n is .0) (c p n is .1) (w .sound .ledger) (choice-keeps-air p rg (c p n is .0) (c p n is .1) w six) h)))
+      (on-time p (c p n is .0 .sender) (c p n is .1) (w .well .sound .ledger) (choice-keeps-air p rg (c p n is .0 .sender) (c p n is .1) (w .well) six) h)))
 
   pub sends : Sends p n is out
   sends =

@@ -12,6 +12,7 @@ use borrow.Author.Tests.{eq-eqb, ne-eqb}
 use Rattle.laws.specs.Lists.{listed}
 use Rattle.ledger.specs.Ledger.{Piece, len, end, find, offs}
 use Rattle.ledger.specs.CoverCode.{Ascend}
+use Rattle.ledger.specs.Tally.{waits}
 use Rattle.demand.specs.Lists.{Call, queues, Given}
 use Rattle.demand.specs.Page.{Hold, c, s, t, DemandThree}
 use Rattle.demand.specs.PageCode.{Reached}
@@ -39,15 +40,19 @@ hold bs ys m k n (q ∷ ps) a f =
 pub demand3 : DemandThree
 demand3 p six n is gs =
     let d : (i : Call) → Given i (c p n is) → Reached p n is i = reached p six n is gs in
-    let q = d (queues []) (λ i. omega arith) in
+    let q = d (queues 0 []) (λ i. omega arith) in
     let l = q .ledger in (
       record {
         sum = l .sum;
         taken = l .taken;
-        order = l .history;
+        each = l .each;
+        whole = l .history;
+        ascend = l .order;
+        earliest = l .earliest;
+        queue = l .queue;
         waiting = l .waiting;
         covers = l .covers;
-        holds = subst (λ (b : List ℕ). Hold b (s p n is .pieces)) (sym (l .history)) (hold _ (t p n is .waiting) _ 0 (s p n is .next) (s p n is .pieces) (l .ascends) (λ o k h. l .holds o h));
+        holds = hold _ (waits (t p n is)) _ 0 (s p n is .sender .next) (s p n is .sender .pieces) (l .ascends) (λ o k h. l .holds o h);
         acked = l .acked;
         next = l .next;
         flying = l .flying;

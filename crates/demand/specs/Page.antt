@@ -1,7 +1,7 @@
 -- DEMAND 3 ON ONE PAGE: after every list of calls, refused ones included, no byte is lost, doubled or altered. Definitions only.
 -- To believe beside it: Lists.antt (a call, what it leaves, what the tally is told of it); of crates/ledger Calls.antt (lists of calls),
--- Tally.antt (the tally), Reply.antt (which bits an ack sets) and Claim.antt (what is said of an offset); of crates/record View.antt
--- (`view`: what record and work area show). docs/LISTING.md says more.
+-- Tally.antt (the tally), Queue.antt (the messages that wait), Reply.antt (which bits an ack sets) and Claim.antt (what is said of an offset);
+-- of crates/record View.antt and of crates/queuing Station.antt (what record and work area show). docs/LISTING.md says more.
 use mathlib.Core.Path.{_≡_}
 use mathlib.Core.Logic.{_⊎_}
 use mathlib.Core.List.{List, [], _∷_, _++_, map}
@@ -22,14 +22,14 @@ use Rattle.gear.specs.BurstLength.{burstLen}
 use Rattle.gear.specs.declared.Gear.{Gear}
 use Rattle.ledger.specs.Calls.{Along, run, history, tally}
 use Rattle.ledger.specs.Claim.{covering, flyingAt, ackedAt, settledBy}
-use Rattle.ledger.specs.Ledger as L
-use Rattle.ledger.specs.Ledger.{Piece, Frame, Sent, len, find, heldOffs}
+use Rattle.ledger.specs.Ledger.{Sender, Piece, Frame, Sent, len, find, heldOffs}
+use Rattle.ledger.specs.Queue.{Message, messageBytes, behind, rest, count, ofClass, Ascending}
+use Rattle.ledger.specs.Station as L
 use Rattle.ledger.specs.Tally as T
-use Rattle.ledger.specs.Tally.{Tally, Event, byteOf, inFlight, acknowledged, feed}
+use Rattle.ledger.specs.Tally.{Tally, Event, byteOf, inFlight, acknowledged, waits, feed}
 use Rattle.area.specs.Layout.{areaBytes}
-use Rattle.soundness.specs.Soundness.{soundOk}
 use Rattle.outgoing.specs.declared.Outgoing.{Outgoing}
-use Rattle.verdicts.specs.Verdicts.{passed}
+use Rattle.verdicts.specs.Verdicts.{passed, stationOk}
 use Rattle.sender.specs.Calls.{burstCall}
 use Rattle.demand.specs.Lists.{Call, bursts, State, Given, freshStart, shown, framesAnswered, next, told}
 
@@ -38,26 +38,42 @@ abbrev pub Hold : List ℕ → List Piece → Type 0
 Hold bytes [] = Unit {0}
 Hold bytes (q ∷ qs) = (1 ≤ len q) × (q .bytes ≡ take (len q) (drop (q .off) bytes)) × Hold bytes qs
 
--- After a list of calls: `bytes` are those queued, in order; t is the tally; s is what record and work area show.
-pub record Accounts (bytes : List ℕ) (t : Tally) (s : L.Sender) : Type 0 where
-  -- Of the tally alone: taken = waiting + in flight + acknowledged, each byte in exactly one: the bytes queued, in order, are the flown
-  -- ones, acknowledged or not, and then the waiting
-  pub sum : t .taken ≡ length (t .waiting) + inFlight (t .flown) + acknowledged (t .flown)
-  pub taken : t .taken ≡ length bytes
-  pub order : bytes ≡ map byteOf (t .flown) ++ t .waiting
-  -- Of the sender: the waiting bytes in order; each offset in flight in one piece and no other in any; in the pieces the bytes taken; the
-  -- count acknowledged; the next offset
-  pub waiting : s .waiting ≡ t .waiting
-  pub covers : (o : ℕ) → covering o (s .pieces) ≡ flyingAt o (t .flown)
-  pub holds : Hold bytes (s .pieces)
-  pub acked : s .acked ≡ acknowledged (t .flown)
-  pub next : s .next ≡ length (t .flown)
+-- The bytes by offset, which "follows the order of beginning": those that have flown, then those that wait, in the order in which they will go
+abbrev pub byOffset : Tally → List ℕ
+byOffset t = map byteOf (t .flown) ++ waits t
+
+-- the messages that have not begun
+abbrev pub unbegun : Tally → List Message
+unbegun t = behind (t .queue .begun) (t .queue .messages)
+
+-- After a list of calls: ms are the messages queued, in order; t is the tally; s is what record and work area show.
+pub record Accounts (ms : List Message) (t : Tally) (s : L.Station) : Type 0 where
+  -- Of the tally alone: taken = waiting + in flight + acknowledged
+  pub sum : t .taken ≡ length (waits t) + inFlight (t .flown) + acknowledged (t .flown)
+  pub taken : t .taken ≡ length (messageBytes ms)
+  -- each message queued is in exactly one: begun, or not begun
+  pub each : (q : Message → Bool) → count q ms ≡ count q (t .began) + count q (unbegun t)
+  -- "A message once begun is finished": the flown bytes, acknowledged or not, with what is left of the begun message, are the begun messages one
+  -- after the other
+  pub whole : map byteOf (t .flown) ++ rest (t .queue) ≡ messageBytes (t .began)
+  -- "Then the lowest class waiting goes": classes ascend behind the begun message; "the earliest of it first": those of a class began, and
+  -- wait, in the order in which they were queued
+  pub ascend : Ascending 0 (unbegun t)
+  pub earliest : (c : ℕ) → ofClass c ms ≡ ofClass c (t .began) ++ ofClass c (unbegun t)
+  -- Of the sender: the messages, and the waiting bytes in their order; each offset in flight in one piece and no other in any; in the pieces
+  -- the bytes taken; the count acknowledged; the next offset
+  pub queue : s .queue ≡ t .queue
+  pub waiting : s .sender .waiting ≡ waits t
+  pub covers : (o : ℕ) → covering o (s .sender .pieces) ≡ flyingAt o (t .flown)
+  pub holds : Hold (byOffset t) (s .sender .pieces)
+  pub acked : s .sender .acked ≡ acknowledged (t .flown)
+  pub next : s .sender .next ≡ length (t .flown)
   -- at most 16,320 bytes fly, in at most 2,048 pieces
   pub flying : inFlight (t .flown) ≤ maxFlying
-  pub pieces : length (s .pieces) ≤ maxPieces
+  pub pieces : length (s .sender .pieces) ≤ maxPieces
 
 -- One further call, told as e, leaves what s′ shows.
-pub record Further (t : Tally) (s : L.Sender) (e : Event) (s′ : L.Sender) : Type 0 where
+pub record Further (t : Tally) (s : Sender) (e : Event) (s′ : Sender) : Type 0 where
   -- acknowledged after it: what was, and what an accepted reply with the outstanding burst's number sets the bit of a frame of
   pub exactly : (o : ℕ) → ackedAt o (feed e t .flown) ≡ ackedAt o (t .flown) || (ltb o (length (t .flown)) && settledBy e (t .out) o)
   -- an offset in the held list before and after it has the same piece
@@ -98,19 +114,22 @@ anyWhole [] = false
 anyWhole (f ∷ fs) = eqb (f .held) (f .bits) || anyWhole fs
 
 module _ (p : Profile) (n : ℕ) (is : List Call) where
-  -- record and work area after the calls `is`, from a fresh record and n zeros; what they show; the tally of the calls; the bytes queued,
+  -- record and work area after the calls `is`, from a fresh record and n zeros; what they show; the tally of the calls; the messages queued,
   -- in order
   abbrev pub c : State
   c = run (next p) is (freshStart n)
 
-  abbrev pub s : L.Sender
+  abbrev pub s : L.Station
   s = shown c
 
   abbrev pub t : Tally
   t = tally (next p) (told p) is (freshStart n) T.start
 
+  abbrev pub messages : List Message
+  messages = history (next p) (told p) is (freshStart n)
+
   abbrev pub bytes : List ℕ
-  bytes = history (next p) (told p) is (freshStart n)
+  bytes = byOffset t
 
   -- a burst into `out` that is not refused
   module _ (out : List ℕ) where
@@ -119,25 +138,25 @@ module _ (p : Profile) (n : ℕ) (is : List Call) where
 
     -- the frames that it leaves outstanding
     abbrev pub leaves : List Sent
-    leaves = shown (next p (bursts out) c) .sent
+    leaves = shown (next p (bursts out) c) .sender .sent
 
     pub record Sends : Type 0 where
       -- the output has the answer's frames, each with the bytes taken at its full offset, and nothing else
       pub frames : Taken bytes (framesAnswered (answer .frames))
       pub output : burstCall p (c .0) (c .1) out .1 .1
-          ≡ overwrite out 0 (framesOfTaken (frameBytes p (c .0 .gear .level)) bytes (framesAnswered (answer .frames)))
+          ≡ overwrite out 0 (framesOfTaken (frameBytes p (c .0 .sender .gear .level)) bytes (framesAnswered (answer .frames)))
       -- where any byte flies or waits it has a frame
-      pub some : 1 ≤ inFlight (t .flown) + length (t .waiting) → 1 ≤ answer .frames .n
+      pub some : 1 ≤ inFlight (t .flown) + length (waits t) → 1 ≤ answer .frames .n
       -- two frames or more, or parity: its seconds on air are within its allowance
       pub air : (2 ≤ answer .frames .n) ⊎ (anyIncrement leaves ≡ true)
-          → le (onAir p (c .0 .gear .level) answer) (allowance p (c .0 .gear) (not (anyWhole leaves)) (answer .cue)) ≡ true
+          → le (onAir p (c .0 .sender .gear .level) answer) (allowance p (c .0 .sender .gear) (not (anyWhole leaves)) (answer .cue)) ≡ true
 
 -- THE CLAIM: of every profile, every length of the work area, every list of calls, every further call and every burst. That a profile has
 -- six rate ends at most, and that a byte is below 256 (`Given`), is what the types [u32; 6] and [u8] say. Refusal 3 never comes under a
 -- profile that is not refused, with 49,152 bytes or more
 abbrev pub DemandThree : Type 0
 DemandThree = (p : Profile) → length (p .codes .ends) ≤ 6 → (n : ℕ) (is : List Call) → Along (next p) Given is (freshStart n)
-    → Accounts (bytes p n is) (t p n is) (s p n is)
-    × ((inRange p && inOrder p) ≡ true → areaBytes ≤ n → soundOk p (c p n is .0) (c p n is .1) ≡ true)
-    × ((i : Call) → Given i (c p n is) → Further (t p n is) (s p n is) (told p i (c p n is)) (shown (next p i (c p n is))))
+    → Accounts (messages p n is) (t p n is) (s p n is)
+    × ((inRange p && inOrder p) ≡ true → areaBytes ≤ n → stationOk p (c p n is .0) (c p n is .1) ≡ true)
+    × ((i : Call) → Given i (c p n is) → Further (t p n is) (s p n is .sender) (told p i (c p n is)) (shown (next p i (c p n is)) .sender))
     × ((out : List ℕ) → passed (burstCall p (c p n is .0) (c p n is .1) out .0 .verdict) ≡ true → Sends p n is out)

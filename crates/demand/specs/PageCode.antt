@@ -10,11 +10,10 @@ use Rattle.ledger.specs.ClaimCode.{LedgerClaim}
 use Rattle.ledger.specs.Sizes.{Sizes}
 use Rattle.record.specs.Profiles.{sizesOf}
 use Rattle.area.specs.Layout.{areaBytes}
-use Rattle.soundness.specs.Soundness.{soundOk}
-use Rattle.verdicts.specs.Verdicts.{passed}
+use Rattle.verdicts.specs.Verdicts.{passed, stationOk}
 use Rattle.sender.specs.Calls.{burstCall}
 use Rattle.demand.specs.Lists.{Call, shown, next, told}
-use Rattle.demand.specs.Page.{bytes, c, s, t, Sends}
+use Rattle.demand.specs.Page.{messages, c, s, t, Sends}
 
 -- the profile's sizes, where it is not refused; where it is, no call gets so far that they matter
 abbrev pub sizesFor : Profile → Sizes
@@ -22,6 +21,6 @@ sizesFor p = cond (inRange p && inOrder p) (sizesOf p) (record { short = minPayl
 
 -- after a list of calls, and of one further call i
 pub record Reached (p : Profile) (n : ℕ) (is : List Call) (i : Call) : Type 0 where
-  pub ledger : LedgerClaim (sizesFor p) (bytes p n is) (s p n is) (t p n is) (told p i (c p n is)) (shown (next p i (c p n is)))
-  pub sound : (inRange p && inOrder p) ≡ true → areaBytes ≤ n → soundOk p (c p n is .0) (c p n is .1) ≡ true
+  pub ledger : LedgerClaim (sizesFor p) (messages p n is) (s p n is .sender) (s p n is .queue) (t p n is) (told p i (c p n is)) (shown (next p i (c p n is)) .sender)
+  pub sound : (inRange p && inOrder p) ≡ true → areaBytes ≤ n → stationOk p (c p n is .0) (c p n is .1) ≡ true
   pub sends : (out : List ℕ) → passed (burstCall p (c p n is .0) (c p n is .1) out .0 .verdict) ≡ true → Sends p n is out

@@ -14,7 +14,7 @@ use Rattle.ledger.specs.Ledger as L
 use Rattle.ledger.specs.Ledger.{Piece, Plan, bytesOf, dataBurst}
 use Rattle.ledger.specs.Sound.{Fits}
 use Rattle.ledger.specs.Plan.{planOf, KeepsAir}
-use Rattle.ledger.proofs.Kept.{step-sound}
+use Rattle.ledger.proofs.Burst.{burst-sound}
 use Rattle.ledger.proofs.Planned.{planned-fits, keeps-air}
 use Rattle.ledger.proofs.Stream.{stream-burst}
 use Rattle.record.specs.Profiles.{sizesOf}
@@ -27,7 +27,6 @@ use Rattle.soundness.proofs.fields.Sound.{profile-sizes, sound-level, sound-set
 use Rattle.invariant.proofs.Ledgers.{Kept, PieceBytes, bytes-append, bytes-of}
 use Rattle.invariant.proofs.Well.{Well, well-gear, well-kept, stored-well}
 use Rattle.ledger.specs.Sizes.{Sizes}
-use Rattle.ledger.specs.CallsCode.{bursts}
 use Rattle.ledger.specs.SizesCode.{SizeRange}
 use Rattle.replies.specs.RepliesCode.{ReplyReady}
 
@@ -51,7 +50,7 @@ burst-kept z zr l g fit k =
     let ps = dataBurst g l .pieces in
     let w = dataBurst g l .waiting in
     let all : Bytes (bytesOf ps ++ w) = subst Bytes (sym (stream-burst g l)) (bytes-append (bytesOf (l .pieces)) (l .waiting) (bytes-of (l .pieces) (k .pieces)) (k .waiting)) in
-    record { sound = step-sound z zr (bursts g) l fit (k .sound); pieces = each-bytes ps (bytes-first (bytesOf ps) w all); waiting = bytes-second (bytesOf ps) w all }
+    record { sound = burst-sound z zr l g (k .sound) fit; pieces = each-bytes ps (bytes-first (bytesOf ps) w all); waiting = bytes-second (bytesOf ps) w all }
 
 -- ---- the record
 

@@ -1,9 +1,9 @@
 -- What of the ledger's sender a record and a work area need to hold it: it comes out of a sound sender whose bytes are bytes, and every call keeps it.
 -- Assumes nothing.
-use mathlib.Core.Path.{_∙_}
+use mathlib.Core.Path.{_≡_, _∙_}
 use mathlib.Core.List.{List, [], _∷_, _++_}
 use mathlib.Core.Bool.{Bool}
-use Prim.Native.Nat.{ℕ, zero, suc, _/_, _≤_}
+use Prim.Native.Nat.{ℕ, _+_, zero, suc, _/_, _≤_}
 use native.Mathlib.Omega.{arith}
 use lib.Dec.{lit<, eqb}
 use lib.ListN.{length, drop}
@@ -14,9 +14,9 @@ use Rattle.laws.proofs.Little.{bytes-take, bytes-drop, bytes-part}
 use Rattle.laws.proofs.Picks.{either}
 use Rattle.ledger.specs.Reply.{Reply}
 use Rattle.ledger.specs.Ledger as L
-use Rattle.ledger.specs.Ledger.{Piece, Sent, bytesOf, remove, remaining, settles, settleBurst, clearBurst, queue, hearAck}
+use Rattle.ledger.specs.Ledger.{Piece, Sent, bytesOf, remove, remaining, settles, settleBurst, clearBurst, requeue, hearAck}
 use Rattle.ledger.specs.Sound.{Sound}
-use Rattle.ledger.proofs.Kept.{step-sound}
+use Rattle.ledger.proofs.Kept.{ack-sound, clear-sound, queue-sound}
 use Rattle.ledger.proofs.ShortFrames.{pieces-shortFrames}
 use Rattle.area.specs.Layout.{areaBytes, place}
 use Rattle.area.specs.Table.{rowsFrom, tableBytes}
@@ -28,7 +28,7 @@ use Rattle.record.specs.View.{view, rowsOf, storeArea, storeHeld, storeSent, st
 use Rattle.record.specs.declared.Sender.{Sender}
 use Rattle.record.proofs.View.{Fits, Holds, Arrays}
 use Rattle.ledger.specs.Sizes.{Sizes}
-use Rattle.ledger.specs.CallsCode.{Allowed, queues, hears, turns}
+use Rattle.ledger.specs.CallsCode.{Allowed, queues}
 use Rattle.ledger.specs.SizesCode.{SizeRange}
 
 -- ---- room
@@ -127,7 +127,7 @@ module _ (z : Sizes) (zr : SizeRange z) (l : L.Sender) (k : Kept z l) where
   unfolding hearAck settleBurst clearBurst
   on-ack-kept r keep =
       record {
-        sound = step-sound z zr (hears r keep) l tt (k .sound);
+        sound = ack-sound z r keep l (k .sound);
         pieces =
             either (λ (x : L.Sender). PieceBytes (x .pieces)) (l .awaited) _ _
             (either (λ (x : L.Sender). PieceBytes (x .pieces)) (settles r l) _ _ (remaining-bytes (r .bit (length (l .sent))) 0 (l .sent) (l .pieces) (k .pieces)) (k .pieces))
@@ -137,8 +137,8 @@ module _ (z : Sizes) (zr : SizeRange z) (l : L.Sender) (k : Kept z l) where
 
   pub clear-kept : Kept z (clearBurst l)
   unfolding clearBurst
-  clear-kept = record { sound = step-sound z zr turns l tt (k .sound); pieces = k .pieces; waiting = k .waiting }
+  clear-kept = record { sound = clear-sound z l (k .sound); pieces = k .pieces; waiting = k .waiting }
 
-  pub queue-kept : (bs : List ℕ) → Bytes bs → Allowed z (queues bs) l → Kept z (queue bs l)
-  unfolding queue
-  queue-kept bs by al = record { sound = step-sound z zr (queues bs) l al (k .sound); pieces = k .pieces; waiting = bytes-append (l .waiting) bs (k .waiting) by }
+  pub queue-kept : (c : ℕ) (bs w : List ℕ) → Bytes w → Allowed z (queues c bs) l → length w ≡ length (l .waiting) + length bs → Kept z (requeue w l)
+  unfolding requeue
+  queue-kept c bs w by al e = record { sound = queue-sound z c bs w l al e (k .sound); pieces = k .pieces; waiting = by }

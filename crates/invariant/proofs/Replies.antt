@@ -24,7 +24,7 @@ use Rattle.config.specs.Ranged.{Ranged}
 use Rattle.config.specs.Ranges.{inOrder}
 use Rattle.gear_laws.specs.Sound.{OutcomeInRange, DbInRange, TimeInRange}
 use Rattle.ledger.specs.Reply.{Reply, shortAck, longAck}
-use Rattle.ledger.specs.Ledger.{queue}
+use Rattle.ledger.specs.Ledger.{requeue}
 use Rattle.record.specs.Profiles.{sizesOf}
 use Rattle.record.specs.View.{view, store, storeArea}
 use Rattle.record.specs.declared.Link.{Link}
@@ -118,8 +118,12 @@ module _ (p : Profile) (rg : Ranged p) (io : inOrder p ≡ true) where
       (connected-gear-well p rg (s .gear) (r .class) (p .cue && r .cue) (r .«snr_db») (h .time) (i .db) (well-gear p s a w))
       (record { time = i .time .high; number = k .number; heard = k .heard; notBelow = k .notBelow; notAbove = k .notAbove })
 
-  pub queued-well : (bs : List ℕ) (s : Sender) (a : List ℕ) → Bytes bs → Allowed (sizesOf p) (queues bs) (view s a) → Well p s a → Well p (store (queue bs (view s a)) s) (storeArea (queue bs (view s a)) a)
-  queued-well bs s a by al w = stored-well p zr (queue bs (view s a)) s a (s .gear) (s .link) w (queue-kept (sizesOf p) zr (view s a) (well-kept p s a w) bs by al) (well-gear p s a w) (w .sound .link)
+  -- w waits then
+  pub queued-well : (c : ℕ) (bs w : List ℕ) (s : Sender) (a : List ℕ) → Bytes w → Allowed (sizesOf p) (queues c bs) (view s a) → length w ≡ length (view s a .waiting) + length bs
+      → Well p s a → Well p (store (requeue w (view s a)) s) (storeArea (requeue w (view s a)) a)
+  queued-well c bs w s a by al e wl =
+      stored-well p zr (requeue w (view s a)) s a (s .gear) (s .link) wl (queue-kept (sizesOf p) zr (view s a) (well-kept p s a wl) c bs w by al e)
+      (well-gear p s a wl) (wl .sound .link)
 
 -- ---- what `AckInfo::from_bytes` reads is in range
 

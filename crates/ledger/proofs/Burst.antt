@@ -18,6 +18,7 @@ use Rattle.ledger.specs.Ledger.{size, Piece, find, increments, Plan, Hel
 use Rattle.ledger.specs.Tally.{unacked, furthest, Tally, sentOut}
 use Rattle.ledger.specs.Cover.{ceil}
 use Rattle.ledger.specs.Sound.{HeldBits, SentBits, Sound, Fits}
+use Rattle.ledger.proofs.Queue.{goes-flies}
 use Rattle.ledger.proofs.Agree.{Agree}
 use Rattle.ledger.proofs.Cover.{ascend-split, ascend-merge, byOffset-split, byOffset-merge, split-fits, chunks-few, ascend-chunks, ascend-append, ascend-longer, chunks-le, byOffset-append, byOffset-chunks}
 use Rattle.ledger.proofs.Furthest.{furthest-new}
@@ -273,10 +274,14 @@ module _ (z : Sizes) (zr : SizeRange z) (s : Sender) (g : Plan) (so : Sound z s)
       let l = flown-length (z .long) (s .next) (s .pieces) (t .flown) (so .ascend) (ti .flown) in
       record {
         taken = omega (arith, ti .taken, length-drop (size (newPieces g s)) (s .waiting), new-le);
-        waiting = rw (l, furthest-burst, ti .waiting);
+        waiting = goes-flies (furthest (frames (recut g s ++ newPieces g s) (slots g s)) - length (t .flown)) (t .queue) ∙ rw (l, furthest-burst, ti .waiting);
         flown = rw (l, furthest-burst, ti .waiting, all-byOffset, map-append flyingByte (t .flown) (unacked (take (size (newPieces g s)) (s .waiting))), ti .flown, flying-unacked (take (size (newPieces g s)) (s .waiting)));
         out = refl;
       }
+
+  -- as many bytes fly for the tally as for the sender
+  pub burst-takes : (t : Tally) → Agree s t → furthest (frames (recut g s ++ newPieces g s) (slots g s)) - length (t .flown) ≡ size (newPieces g s)
+  burst-takes t ti = rw (flown-length (z .long) (s .next) (s .pieces) (t .flown) (so .ascend) (ti .flown)) furthest-burst
 
   -- each piece fits a frame of the burst
   pub burst-ascend : Ascend (g .payload) 0 (dataBurst g s .next) (dataBurst g s .pieces)

@@ -1,4 +1,4 @@
--- Document 01's reckoned examples of pieces, replies by their bits, a run of calls, and the limits, reached exactly.
+-- Document 01's reckoned examples of pieces, replies by their bits, a run of calls, and the limits, reached exactly; the order of messages.
 -- Assumes nothing.
 use Prim.Native.Nat.{ℕ, zero, suc}
 use mathlib.Core.Path.{_≡_, refl}
@@ -6,12 +6,13 @@ use mathlib.Core.Bool.{Bool, true, false}
 use mathlib.Core.List.{List, [], _∷_}
 use lib.ListN.{length, replicate}
 use Rattle.ledger.specs.Reply.{shortAck, longAck}
-use Rattle.ledger.specs.Ledger.{Piece, len, split, mergeInflight, queue, dataBurst, hearAck, settleBurst, clearBurst, Held, Sent, Sender, sentOffs}
-use Rattle.ledger.specs.Tally.{Tally, inFlight, acknowledged, start, queued, sentOut, heard, noneOutstanding}
+use Rattle.ledger.specs.Ledger.{Piece, len, split, mergeInflight, requeue, dataBurst, hearAck, settleBurst, clearBurst, Held, Sent, Sender, sentOffs}
+use Rattle.ledger.specs.Queue.{noQueue, messageBytes, goes, enqueue, flies, begins}
+use Rattle.ledger.specs.Tally.{Tally, waits, inFlight, acknowledged, start, queued, sentOut, heard, noneOutstanding}
 use Rattle.ledger.specs.Plan.{parity, room}
 use Rattle.ledger.specs.Calls.{run, tally}
 use Rattle.ledger.specs.Sizes.{Sizes}
-use Rattle.ledger.specs.CallsCode.{Move, bursts, queues, hears, turns, step, moveTold}
+use Rattle.ledger.specs.CallsCode.{Move, bursts, queues, hears, turns, step, moveTold, freshStation}
 use Rattle.ledger.specs.LedgerCode.{freshLedger}
 
 -- offset and length of each piece
@@ -68,18 +69,18 @@ plan payload parity room number =
 -- that is not awaited; a short level; a turn; an ack that is not awaited
 calls : List Move
 calls =
-    queues (replicate 200 5) ∷ plan 30 0 4 1 ∷ hears (shortAck 1 10) true ∷ plan 30 2 2 2 ∷ hears (shortAck 2 7) true ∷ hears (shortAck 2 63) false
+    queues 3 (replicate 200 5) ∷ plan 30 0 4 1 ∷ hears (shortAck 1 10) true ∷ plan 30 2 2 2 ∷ hears (shortAck 2 7) true ∷ hears (shortAck 2 63) false
     ∷ plan 8 0 3 3 ∷ turns ∷ hears (shortAck 3 7) false ∷ []
 
-after-calls : spans (run (step sizes) calls freshLedger .pieces) ≡ 150 ∷ 8 ∷ 158 ∷ 8 ∷ 166 ∷ 8 ∷ 174 ∷ 6 ∷ []
-unfolding calls dataBurst hearAck settleBurst clearBurst queue
+after-calls : spans (run (step sizes) calls freshStation .sender .pieces) ≡ 150 ∷ 8 ∷ 158 ∷ 8 ∷ 166 ∷ 8 ∷ 174 ∷ 6 ∷ []
+unfolding calls dataBurst hearAck settleBurst clearBurst requeue enqueue flies
 after-calls = refl
 
 abbrev counts : Tally → List ℕ
-counts t = t .taken ∷ length (t .waiting) ∷ inFlight (t .flown) ∷ acknowledged (t .flown) ∷ []
+counts t = t .taken ∷ length (waits t) ∷ inFlight (t .flown) ∷ acknowledged (t .flown) ∷ []
 
-after-tally : counts (tally (step sizes) (moveTold sizes) calls freshLedger start) ≡ 200 ∷ 20 ∷ 30 ∷ 150 ∷ []
-unfolding calls dataBurst hearAck settleBurst clearBurst queue queued sentOut heard noneOutstanding
+after-tally : counts (tally (step sizes) (moveTold sizes) calls freshStation start) ≡ 200 ∷ 20 ∷ 30 ∷ 150 ∷ []
+unfolding calls dataBurst hearAck settleBurst clearBurst requeue enqueue flies begins queued sentOut heard noneOutstanding
 after-tally = refl
 
 -- ---- a burst's frames, and the held list
@@ -94,34 +95,54 @@ sentRows (f ∷ fs) = f .off ∷ f .bits ∷ f .held ∷ sentRows fs
 
 -- four frames of 30, of which the second and fourth arrive, the others held or not; then a burst
 abbrev twice : Bool → Move → Sender
-twice keep c = run (step sizes) (queues (replicate 200 5) ∷ plan 30 0 4 1 ∷ hears (shortAck 1 10) keep ∷ c ∷ []) freshLedger
+twice keep c = run (step sizes) (queues 3 (replicate 200 5) ∷ plan 30 0 4 1 ∷ hears (shortAck 1 10) keep ∷ c ∷ []) freshStation .sender
 
 -- parity first, then new pieces; of two held one goes, and the other is the unsent rest
 parity-first : sentRows (twice true (plan 30 1 2 2) .sent) ≡ 0 ∷ 1440 ∷ 4320 ∷ 120 ∷ 2880 ∷ 2880 ∷ 150 ∷ 2880 ∷ 2880 ∷ []
-unfolding dataBurst hearAck settleBurst clearBurst queue
+unfolding dataBurst hearAck settleBurst clearBurst requeue enqueue flies
 parity-first = refl
 
 rest-left : heldRows (twice true (plan 30 1 2 2) .rest) ≡ 60 ∷ 2880 ∷ []
-unfolding dataBurst hearAck settleBurst clearBurst queue
+unfolding dataBurst hearAck settleBurst clearBurst requeue enqueue flies
 rest-left = refl
 
 -- the oldest pieces, then new ones
 oldest-first : sentOffs (twice false (plan 30 0 3 2) .sent) ≡ 0 ∷ 60 ∷ 120 ∷ []
-unfolding dataBurst hearAck settleBurst clearBurst queue
+unfolding dataBurst hearAck settleBurst clearBurst requeue enqueue flies
 oldest-first = refl
 
 -- after an ack that has the second frame alone, the peer holds the unsent rest, then what it missed
 held-then : heldRows (hearAck 11520 (shortAck 2 2) true (twice true (plan 30 1 2 2)) .held) ≡ 60 ∷ 2880 ∷ 0 ∷ 4320 ∷ 150 ∷ 2880 ∷ []
-unfolding dataBurst hearAck settleBurst clearBurst queue
+unfolding dataBurst hearAck settleBurst clearBurst requeue enqueue flies
 held-then = refl
 
 -- after an ack of another burst the held list and the unsent rest stay
 unmatched : (heldRows (hearAck 11520 (shortAck 1 2) true (twice true (plan 30 1 2 2)) .held) ≡ 0 ∷ 2880 ∷ 60 ∷ 2880 ∷ [])
     × (heldRows (hearAck 11520 (shortAck 1 2) true (twice true (plan 30 1 2 2)) .rest) ≡ 60 ∷ 2880 ∷ [])
-unfolding dataBurst hearAck settleBurst clearBurst queue
+unfolding dataBurst hearAck settleBurst clearBurst requeue enqueue flies
 unmatched = (refl, refl)
 
 -- an ack of a burst with no frame keeps the held list, whatever it says
 no-frame : (keep : Bool) → heldRows (hearAck 11520 (shortAck 0 63) keep (record { waiting = []; next = 30; acked = 0; pieces = piece 0 30 ∷ []; held = record { off = 0; bits = 2880 } ∷ []; rest = []; sent = []; awaited = true; number = 0 }) .held) ≡ 0 ∷ 2880 ∷ []
 unfolding hearAck settleBurst clearBurst
 no-frame keep = refl
+
+-- ---- messages: "the lowest class waiting goes, the earliest of it first", "a message once begun is finished"
+
+earliest-first : goes (enqueue 1 (7 ∷ []) (enqueue 2 (6 ∷ []) (enqueue 1 (5 ∷ []) noQueue))) ≡ 5 ∷ 7 ∷ 6 ∷ []
+unfolding enqueue
+earliest-first = refl
+
+-- class 0 behind a begun message of class 2; and ahead of one of class 3, where a burst ends with a message
+begun-first : goes (enqueue 0 (9 ∷ []) (flies 1 (enqueue 2 (5 ∷ 6 ∷ []) noQueue))) ≡ 6 ∷ 9 ∷ []
+unfolding enqueue flies
+begun-first = refl
+
+exact-end : goes (enqueue 0 (9 ∷ []) (flies 2 (enqueue 3 (7 ∷ []) (enqueue 2 (5 ∷ 6 ∷ []) noQueue)))) ≡ 9 ∷ 7 ∷ []
+unfolding enqueue flies
+exact-end = refl
+
+-- three bytes begin two messages
+begun-whole : messageBytes (begins 3 (enqueue 3 (7 ∷ 8 ∷ []) (enqueue 2 (5 ∷ 6 ∷ []) noQueue))) ≡ 5 ∷ 6 ∷ 7 ∷ 8 ∷ []
+unfolding enqueue begins
+begun-whole = refl

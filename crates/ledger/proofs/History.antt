@@ -1,7 +1,7 @@
--- The tally alone: the bytes queued, in order, are the flown ones and then the waiting ones, and as many as taken.
+-- The tally alone: each message queued has begun or waits, the flown bytes and what is left of the begun one are the begun messages, and the others wait in order.
 -- Assumes nothing.
 use Prim.Native.Nat.{ℕ, suc, _+_, _-_}
-use mathlib.Core.Path.{_≡_, refl, sym, _∙_}
+use mathlib.Core.Path.{_≡_, refl, sym, ap, subst, _∙_}
 use mathlib.Core.Bool.{Bool, cond}
 use mathlib.Core.List.{List, [], _∷_, _++_, map, append-assoc, append-nil}
 use native.Mathlib.Omega.{arith}
@@ -11,8 +11,10 @@ use Rattle.laws.proofs.Picks.{either}
 use Rattle.laws.proofs.Lists.{map-map, map-id, map-append}
 use Rattle.ledger.specs.Reply.{Reply}
 use Rattle.ledger.specs.Ledger.{Frame}
-use Rattle.ledger.specs.Tally.{unacked, byteOf, acknowledge, Flown, acknowledgeAll, acknowledgedBy, Outstanding, nothing, outstanding, Tally, Event, feed, bytesTold, queued, sentOut, heard, turn, noneOutstanding, silent, took, reply, went, furthest, start}
+use Rattle.ledger.specs.Tally.{unacked, byteOf, acknowledge, Flown, acknowledgeAll, acknowledgedBy, Outstanding, nothing, outstanding, Tally, Event, feed, queuedIn, queued, sentOut, heard, turn, noneOutstanding, silent, took, reply, went, furthest, start}
+use Rattle.ledger.specs.Queue.{Message, messageBytes, goes, behind, rest, message, count, ofClass, flies, begins, Ascending}
 use Rattle.ledger.specs.Calls.{tally, history}
+use Rattle.ledger.proofs.Queue.{Ready, bytes-append, count-append, of-append, begins-behind, of-enqueue, rest-flies, ready-flies, order-flies, ready-enqueue, order-enqueue, rest-enqueue, count-enqueue}
 
 bytes-unacked : (bs : List ℕ) → map byteOf (unacked bs) ≡ bs
 bytes-unacked bs = map-map byteOf _ bs ∙ map-id bs
@@ -32,48 +34,83 @@ bytes-answered r nothing fl = refl
 bytes-answered r (outstanding n fs) fl =
     either (λ (x : List Flown). map byteOf x ≡ map byteOf fl) (eqb (r .number) n) _ _ (bytes-acknowledgeAll (r .bit (length fs)) 0 fs fl) refl
 
--- all bytes that the tally has, in order
-abbrev tallyBytes : Tally → List ℕ
-tallyBytes t = map byteOf (t .flown) ++ t .waiting
+-- ---- what the tally alone says after the messages ms were queued
 
-fed : (e : Event) (t : Tally) → tallyBytes (feed e t) ≡ tallyBytes t ++ bytesTold e
-unfolding queued sentOut heard noneOutstanding
-fed silent t = sym (append-nil (tallyBytes t))
-fed (took bs) t = sym (append-assoc (map byteOf (t .flown)) (t .waiting) bs)
-fed (reply r) t = rw (bytes-answered r (t .out) (t .flown)) (sym (append-nil (tallyBytes t)))
-fed turn t = sym (append-nil (tallyBytes t))
-fed (went n fs) t =
-    let k = furthest fs - length (t .flown) in
-    rw (
-      map-append byteOf (t .flown) (unacked (take k (t .waiting))),
-      bytes-unacked (take k (t .waiting)),
-      append-assoc (map byteOf (t .flown)) (take k (t .waiting)) (drop k (t .waiting)),
-      take-append-drop k (t .waiting),
-    )
-    (sym (append-nil (tallyBytes t)))
+pub record Told (ms : List Message) (t : Tally) : Type 0 where
+  pub ready : Ready (t .queue)
+  pub order : Ascending 0 (behind (t .queue .begun) (t .queue .messages))
+  pub taken : t .taken ≡ length (messageBytes ms)
+  pub each : (p : Message → Bool) → count p ms ≡ count p (t .began) + count p (behind (t .queue .begun) (t .queue .messages))
+  pub earliest : (c : ℕ) → ofClass c ms ≡ ofClass c (t .began) ++ ofClass c (behind (t .queue .begun) (t .queue .messages))
+  pub history : map byteOf (t .flown) ++ rest (t .queue) ≡ messageBytes (t .began)
 
-counted : (e : Event) (t : Tally) → feed e t .taken ≡ t .taken + length (bytesTold e)
+start-told : Told [] start
+start-told = record { ready = λ f. let z : _≡_ {A = ℕ} 0 1 = cc in absurd (omega arith); order = tt; taken = refl; each = λ p. refl; earliest = λ c. refl; history = refl }
+
+message-bytes : (c : ℕ) (bs : List ℕ) → messageBytes (message c bs) ≡ bs
+message-bytes c [] = refl
+message-bytes c (b ∷ bs) = append-nil (b ∷ bs)
+
+-- nothing is queued
+same : (ms : List Message) (t u : Tally) → u .taken ≡ t .taken → u .queue ≡ t .queue → u .began ≡ t .began → map byteOf (u .flown) ≡ map byteOf (t .flown) → Told ms t → Told (ms ++ []) u
+same ms t u e₁ e₂ e₃ e₄ k =
+    rw append-nil
+    (record { ready = rw e₂ (k .ready); order = rw e₂ (k .order); taken = e₁ ∙ k .taken; each = λ p. rw (e₂, e₃) (k .each p); earliest = λ c. rw (e₂, e₃) (k .earliest c); history = rw (e₂, e₃, e₄) (k .history) })
+
+fed : (e : Event) (ms : List Message) (t : Tally) → Told ms t → Told (ms ++ queuedIn e) (feed e t)
 unfolding queued sentOut heard noneOutstanding
-counted silent t = omega arith
-counted (took bs) t = refl
-counted (reply r) t = omega arith
-counted turn t = omega arith
-counted (went n fs) t = omega arith
+fed silent ms t k = same ms t t refl refl refl refl k
+fed (took c bs) ms t k =
+    record {
+      ready = ready-enqueue c (t .queue) bs (k .ready);
+      order = order-enqueue c (t .queue) bs (k .order);
+      taken = omega (arith, k .taken, ap length (bytes-append ms (message c bs)), length-append (messageBytes ms) (messageBytes (message c bs)), ap length (message-bytes c bs));
+      each = λ p. omega (arith, k .each p, count-append p ms (message c bs), count-enqueue c (t .queue) p bs (k .ready));
+      earliest = λ d.
+          of-append d ms (message c bs) ∙ ap (λ (x : List Message). x ++ ofClass d (message c bs)) (k .earliest d)
+          ∙ append-assoc (ofClass d (t .began)) (ofClass d (behind (t .queue .begun) (t .queue .messages))) (ofClass d (message c bs))
+          ∙ ap (λ (x : List Message). ofClass d (t .began) ++ x) (sym (of-enqueue c (t .queue) d bs (k .ready) (k .order)));
+      history = rw (rest-enqueue c (t .queue) bs (k .ready)) (k .history);
+    }
+fed (reply r) ms t k = same ms t (heard r t) refl refl refl (bytes-answered r (t .out) (t .flown)) k
+fed turn ms t k = same ms t (noneOutstanding t) refl refl refl refl k
+fed (went n fs) ms t k =
+    let j = furthest fs - length (t .flown) in
+    let fl = map byteOf (t .flown) in
+    let went = take j (goes (t .queue)) in
+    rw append-nil
+    (record {
+      ready = ready-flies j (t .queue);
+      order = order-flies j (t .queue) (k .order);
+      taken = k .taken;
+      each = λ p.
+          omega (
+            arith,
+            k .each p,
+            count-append p (t .began) (begins j (t .queue)),
+            ap (count p) (begins-behind j (t .queue)),
+            count-append p (begins j (t .queue)) (behind (flies j (t .queue) .begun) (flies j (t .queue) .messages)),
+          );
+      earliest = λ c.
+          let late = behind (flies j (t .queue) .begun) (flies j (t .queue) .messages) in
+          k .earliest c ∙ ap (λ (x : List Message). ofClass c (t .began) ++ ofClass c x) (sym (begins-behind j (t .queue)))
+          ∙ ap (λ (x : List Message). ofClass c (t .began) ++ x) (of-append c (begins j (t .queue)) late)
+          ∙ sym (append-assoc (ofClass c (t .began)) (ofClass c (begins j (t .queue))) (ofClass c late))
+          ∙ ap (λ (x : List Message). x ++ ofClass c late) (sym (of-append c (t .began) (begins j (t .queue))));
+      history =
+          ap (λ (x : List ℕ). x ++ rest (flies j (t .queue))) (map-append byteOf (t .flown) (unacked went) ∙ ap (λ (x : List ℕ). fl ++ x) (bytes-unacked went))
+          ∙ append-assoc fl went (rest (flies j (t .queue))) ∙ ap (λ (x : List ℕ). fl ++ x) (rest-flies j (t .queue))
+          ∙ sym (append-assoc fl (rest (t .queue)) (messageBytes (begins j (t .queue))))
+          ∙ ap (λ (x : List ℕ). x ++ messageBytes (begins j (t .queue))) (k .history) ∙ sym (bytes-append (t .began) (begins j (t .queue)));
+    })
 
 module _ {C I : Type 0} (next : I → C → C) (told : I → C → Event) where
-  fed-all : (is : List I) (c : C) (t : Tally) → tallyBytes (tally next told is c t) ≡ tallyBytes t ++ history next told is c
-  fed-all [] c t = sym (append-nil (tallyBytes t))
-  fed-all (i ∷ is) c t =
-      fed-all is (next i c) (feed (told i c) t) ∙ rw (fed (told i c) t) (append-assoc (tallyBytes t) (bytesTold (told i c)) (history next told is (next i c)))
+  fed-all : (is : List I) (c : C) (ms : List Message) (t : Tally) → Told ms t → Told (ms ++ history next told is c) (tally next told is c t)
+  fed-all [] c ms t k = rw append-nil k
+  fed-all (i ∷ is) c ms t k =
+      subst (λ (x : List Message). Told x (tally next told is (next i c) (feed (told i c) t))) (append-assoc ms (queuedIn (told i c)) (history next told is (next i c)))
+      (fed-all is (next i c) (ms ++ queuedIn (told i c)) (feed (told i c) t) (fed (told i c) ms t k))
 
-  counted-all : (is : List I) (c : C) (t : Tally) → tally next told is c t .taken ≡ t .taken + length (history next told is c)
-  counted-all [] c t = omega arith
-  counted-all (i ∷ is) c t =
-      omega (arith, counted-all is (next i c) (feed (told i c) t), counted (told i c) t, length-append (bytesTold (told i c)) (history next told is (next i c)))
-
-  -- no byte is lost, doubled or altered on its way from waiting to flown
-  pub history-is : (is : List I) (c : C) → history next told is c ≡ map byteOf (tally next told is c start .flown) ++ tally next told is c start .waiting
-  history-is is c = sym (fed-all is c start)
-
-  pub taken-is : (is : List I) (c : C) → tally next told is c start .taken ≡ length (history next told is c)
-  taken-is is c = omega (arith, counted-all is c start)
+  -- no message is lost, doubled, altered or broken into
+  pub told-is : (is : List I) (c : C) → Told (history next told is c) (tally next told is c start)
+  told-is is c = fed-all is c [] start start-told

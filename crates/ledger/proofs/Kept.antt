@@ -1,28 +1,31 @@
 -- Every allowed call keeps the record sound and in agreement with the tally, and a piece that is held after it as it was.
 -- Assumes nothing.
 use Prim.Native.Nat.{ℕ, suc, _+_, _≤_}
-use mathlib.Core.Path.{_≡_, refl, sym, _∙_}
+use mathlib.Core.Path.{_≡_, refl, sym, ap, ap₂, _∙_}
 use mathlib.Core.Bool.{Bool, true, false, cond, not, _&&_}
 use mathlib.Core.List.{List, [], _∷_, _++_, append-nil}
 use native.Mathlib.Omega.{arith}
 use lib.Dec.{eqb, ltb}
-use lib.ListN.{length, length-append, length-map}
+use lib.ListN.{drop, length, length-append, length-map}
 use borrow.Author.Tests.{ltb-true, lt-ltb}
 use Rattle.laws.specs.Lists.{occurs}
 use Rattle.laws.proofs.Picks.{by, and-second, either, and-yes, and-first}
 use Rattle.laws.proofs.Lists.{occurs-append}
 use Rattle.ledger.specs.Reply.{Reply}
-use Rattle.ledger.specs.Ledger.{Held, missed, Sent, Piece, Sender, sentOffs, heldOffs, offs, remaining, settleBurst, clearBurst, queue, hearAck, settles, Plan, dataBurst, find}
-use Rattle.ledger.specs.Tally.{acknowledgedBy, Flown, outstanding, Tally, heard, acknowledgeAll, nothing, queued, noneOutstanding, feed}
+use Rattle.ledger.specs.Ledger.{Held, missed, Sent, Piece, Sender, sentOffs, heldOffs, offs, remaining, settleBurst, clearBurst, requeue, hearAck, settles, Plan, dataBurst, find, size, newPieces}
+use Rattle.ledger.specs.Queue.{Queue, goes, enqueue, flies}
+use Rattle.ledger.proofs.Queue.{goes-flies, length-enqueue}
+use Rattle.ledger.specs.Station.{Station}
+use Rattle.ledger.specs.Tally.{acknowledgedBy, Flown, outstanding, Tally, waits, sentOut, heard, acknowledgeAll, nothing, queued, noneOutstanding, feed}
 use Rattle.ledger.specs.Sound.{HeldBits, SentBits, Sound, Fits}
 use Rattle.ledger.proofs.Agree.{Agree}
-use Rattle.ledger.proofs.Burst.{burst-sound, burst-agree, burst-keeps}
+use Rattle.ledger.proofs.Burst.{burst-sound, burst-agree, burst-takes, burst-keeps}
 use Rattle.ledger.proofs.HeldPieces.{heldOffs-append}
 use Rattle.ledger.proofs.Offsets.{flying-within, Within, within-flying}
 use Rattle.ledger.proofs.Settle.{ascend-remaining, missed-remaining, ackedBytes-remaining, missed-few, shortFrames-remaining, acknowledgeAll-remaining, find-remaining}
 use Rattle.limits.specs.Limits.{maxSlots}
 use Rattle.ledger.specs.Sizes.{Sizes}
-use Rattle.ledger.specs.CallsCode.{Allowed, queues, step, Move, idle, hears, turns, bursts, event, moveTold}
+use Rattle.ledger.specs.CallsCode.{Allowed, queues, step, Move, idle, hears, turns, bursts, event, moveTold, SoundStation, senderAfter}
 use Rattle.ledger.specs.CoverCode.{Ascend}
 use Rattle.ledger.specs.LedgerCode.{frames, freshLedger}
 use Rattle.ledger.specs.SizesCode.{SizeRange}
@@ -110,7 +113,7 @@ module _ (z : Sizes) where
           number = so .number;
         }
 
-  clear-sound : (s : Sender) → Sound z s → Sound z (clearBurst s)
+  pub clear-sound : (s : Sender) → Sound z s → Sound z (clearBurst s)
   unfolding clearBurst
   clear-sound s so =
       record {
@@ -130,10 +133,9 @@ module _ (z : Sizes) where
         number = so .number;
       }
 
-  queue-sound : (bs : List ℕ) (s : Sender) → Allowed z (queues bs) s → Sound z s → Sound z (queue bs s)
-  unfolding queue
-  queue-sound bs s al so =
-      let l = length-append (s .waiting) bs in
+  pub queue-sound : (c : ℕ) (bs w : List ℕ) (s : Sender) → Allowed z (queues c bs) s → length w ≡ length (s .waiting) + length bs → Sound z s → Sound z (requeue w s)
+  unfolding requeue
+  queue-sound c bs w s al l so =
       record {
         ascend = so .ascend;
         bytes = so .bytes;
@@ -150,6 +152,13 @@ module _ (z : Sizes) where
         sum = omega (arith, so .sum);
         number = so .number;
       }
+
+  pub ack-sound : (r : Reply) (keep : Bool) (s : Sender) → Sound z s → Sound z (hearAck (z .top) r keep s)
+  unfolding hearAck
+  ack-sound r keep s so =
+      by (λ (x : Sender). Sound z x) (s .awaited)
+      (λ w. either (λ (x : Sender). Sound z x) (settles r s) _ _ (settle-sound r keep s so) (clear-sound s so))
+      (λ w. so)
 
   pub fresh-sound : Sound z freshLedger
   fresh-sound =
@@ -172,16 +181,25 @@ module _ (z : Sizes) where
 
   module _ (zr : SizeRange z) where
     -- EVERY ACCEPTED CALL KEEPS `Sound`
-    pub step-sound : (c : Move) (s : Sender) → Allowed z c s → Sound z s → Sound z (step z c s)
-    unfolding hearAck
-    step-sound idle s al so = so
-    step-sound (queues bs) s al so = queue-sound bs s al so
-    step-sound (hears r keep) s al so =
-        by (λ (x : Sender). Sound z x) (s .awaited)
-        (λ w. either (λ (x : Sender). Sound z x) (settles r s) _ _ (settle-sound r keep s so) (clear-sound s so))
-        (λ w. so)
-    step-sound turns s al so = clear-sound s so
-    step-sound (bursts g) s al so = burst-sound z zr s g so al
+    sender-sound : (c : Move) (st : Station) → Allowed z c (st .sender) → Sound z (st .sender) → st .sender .waiting ≡ goes (st .queue) → Sound z (step z c st .sender)
+    sender-sound idle st al so sh = so
+    sender-sound (queues c bs) st al so sh = queue-sound c bs (goes (enqueue c bs (st .queue))) (st .sender) al (rw sh (length-enqueue c (st .queue) bs)) so
+    sender-sound (hears r keep) st al so sh = ack-sound r keep (st .sender) so
+    sender-sound turns st al so sh = clear-sound (st .sender) so
+    sender-sound (bursts g) st al so sh = burst-sound z zr (st .sender) g so al
+
+    -- the waiting bytes are the messages'
+    sender-shows : (c : Move) (st : Station) → st .sender .waiting ≡ goes (st .queue) → step z c st .sender .waiting ≡ goes (step z c st .queue)
+    unfolding hearAck settleBurst clearBurst requeue dataBurst
+    sender-shows idle st sh = sh
+    sender-shows (queues c bs) st sh = refl
+    sender-shows (hears r keep) st sh =
+        by (λ (x : Sender). x .waiting ≡ goes (st .queue)) (st .sender .awaited) (λ _. either (λ (x : Sender). x .waiting ≡ goes (st .queue)) (settles r (st .sender)) _ _ sh sh) (λ _. sh)
+    sender-shows turns st sh = sh
+    sender-shows (bursts g) st sh = let k = size (newPieces g (st .sender)) in ap (drop k) sh ∙ sym (goes-flies k (st .queue))
+
+    pub step-sound : (c : Move) (st : Station) → Allowed z c (st .sender) → SoundStation z st → SoundStation z (step z c st)
+    step-sound c st al so = record { sound = sender-sound c st al (so .sound) (so .shows); shows = sender-shows c st (so .shows) }
 
   -- ---- agreement
 
@@ -202,7 +220,7 @@ module _ (z : Sizes) where
       }
 
   -- an ack of another burst, or a turn
-  clear-agree : (s : Sender) (t u : Tally) → u .taken ≡ t .taken → u .waiting ≡ t .waiting → u .flown ≡ t .flown → u .out ≡ nothing → Agree s t → Agree (clearBurst s) u
+  clear-agree : (s : Sender) (t u : Tally) → u .taken ≡ t .taken → waits u ≡ waits t → u .flown ≡ t .flown → u .out ≡ nothing → Agree s t → Agree (clearBurst s) u
   unfolding clearBurst
   clear-agree s t u e₁ e₂ e₃ e₄ ag = record { taken = e₁ ∙ ag .taken; waiting = e₂ ∙ ag .waiting; flown = rw e₃ (ag .flown); out = e₄ }
 
@@ -215,12 +233,13 @@ module _ (z : Sizes) where
   unfolding heard
   not-awaited-agree r s t w ag = record { taken = ag .taken; waiting = ag .waiting; flown = rw (ag .out, w) (ag .flown); out = rw w }
 
-  queue-agree : (bs : List ℕ) (s : Sender) (t : Tally) → Agree s t → Agree (queue bs s) (queued bs t)
-  unfolding queue queued
-  queue-agree bs s t ag =
+  queue-agree : (c : ℕ) (bs : List ℕ) (q : Queue) (s : Sender) (t : Tally) → t .queue ≡ q → Agree s t → Agree (requeue (goes (enqueue c bs q)) s) (queued c bs t)
+  unfolding requeue queued
+  queue-agree c bs q s t e ag =
+      let l = ap (λ (x : Queue). length (goes x)) e in
       record {
-        taken = omega (arith, ag .taken, length-append (s .waiting) bs);
-        waiting = rw (ag .waiting);
+        taken = omega (arith, ag .taken, ap length (ag .waiting), length-enqueue c q bs);
+        waiting = ap (λ (x : Queue). goes (enqueue c bs x)) e;
         flown = ag .flown;
         out = ag .out;
       }
@@ -234,16 +253,26 @@ module _ (z : Sizes) where
     unfolding dataBurst
     burst-event g s t al so ag = burst-agree z zr s g so al t ag
 
-    pub step-agree : (c : Move) (s : Sender) (t : Tally) → Allowed z c s → Sound z s → Agree s t → Agree (step z c s) (feed (moveTold z c s) t)
+    pub step-agree : (c : Move) (st : Station) (t : Tally) → Allowed z c (st .sender) → Sound z (st .sender) → t .queue ≡ st .queue → Agree (st .sender) t → Agree (step z c st .sender) (feed (moveTold z c st) t)
     unfolding hearAck
-    step-agree idle s t al so ag = ag
-    step-agree (queues bs) s t al so ag = queue-agree bs s t ag
-    step-agree (hears r keep) s t al so ag =
+    step-agree idle st t al so e ag = ag
+    step-agree (queues c bs) st t al so e ag = queue-agree c bs (st .queue) (st .sender) t e ag
+    step-agree (hears r keep) st t al so e ag =
+        let s = st .sender in
         by (λ (x : Sender). Agree x (heard r t)) (s .awaited)
         (λ w. by (λ (x : Sender). Agree x (heard r t)) (settles r s) (λ n. settle-agree r keep s t w n so ag) (λ n. unmatched-agree r s t w n ag))
         (λ w. not-awaited-agree r s t w ag)
-    step-agree turns s t al so ag = turn-agree s t ag
-    step-agree (bursts g) s t al so ag = burst-event g s t al so ag
+    step-agree turns st t al so e ag = turn-agree (st .sender) t ag
+    step-agree (bursts g) st t al so e ag = burst-event g (st .sender) t al so ag
+
+    -- and the tally's messages are the sender's
+    pub step-queue : (c : Move) (st : Station) (t : Tally) → Allowed z c (st .sender) → Sound z (st .sender) → t .queue ≡ st .queue → Agree (st .sender) t → feed (moveTold z c st) t .queue ≡ step z c st .queue
+    unfolding queued heard noneOutstanding sentOut dataBurst
+    step-queue idle st t al so e ag = e
+    step-queue (queues c bs) st t al so e ag = ap (enqueue c bs) e
+    step-queue (hears r keep) st t al so e ag = e
+    step-queue turns st t al so e ag = e
+    step-queue (bursts g) st t al so e ag = ap₂ flies (burst-takes z zr (st .sender) g so al t ag) e
 
   -- ---- held pieces
 
@@ -257,21 +286,21 @@ module _ (z : Sizes) where
   unfolding clearBurst
   clear-pieces s = refl
 
-  queue-pieces : (bs : List ℕ) (s : Sender) → queue bs s .pieces ≡ s .pieces
-  unfolding queue
-  queue-pieces bs s = refl
+  queue-pieces : (w : List ℕ) (s : Sender) → requeue w s .pieces ≡ s .pieces
+  unfolding requeue
+  queue-pieces w s = refl
 
   module _ (zr : SizeRange z) where
-    pub step-keeps : (c : Move) (s : Sender) (o : ℕ) → Allowed z c s → Sound z s → 1 ≤ occurs o (heldOffs (step z c s .held)) →
-        find o (step z c s .pieces) ≡ find o (s .pieces)
+    pub step-keeps : (c : Move) (q : Queue) (s : Sender) (o : ℕ) → Allowed z c s → Sound z s → 1 ≤ occurs o (heldOffs (senderAfter z c q s .held)) →
+        find o (senderAfter z c q s .pieces) ≡ find o (s .pieces)
     unfolding hearAck
-    step-keeps idle s o al so h = refl
-    step-keeps (queues bs) s o al so h = rw (queue-pieces bs s)
-    step-keeps (hears r keep) s o al so h =
+    step-keeps idle q s o al so h = refl
+    step-keeps (queues c bs) q s o al so h = rw (queue-pieces (goes q) s)
+    step-keeps (hears r keep) q s o al so h =
         by (λ (x : Sender). 1 ≤ occurs o (heldOffs (x .held)) → find o (x .pieces) ≡ find o (s .pieces)) (s .awaited)
         (λ w.
         by (λ (x : Sender). 1 ≤ occurs o (heldOffs (x .held)) → find o (x .pieces) ≡ find o (s .pieces)) (settles r s)
         (λ n. settle-keeps r keep s o so) (λ n u. rw (clear-pieces s)))
         (λ w u. refl) h
-    step-keeps turns s o al so h = rw (clear-pieces s)
-    step-keeps (bursts g) s o al so h = burst-keeps z zr s g so al o h
+    step-keeps turns q s o al so h = rw (clear-pieces s)
+    step-keeps (bursts g) q s o al so h = burst-keeps z zr s g so al o h

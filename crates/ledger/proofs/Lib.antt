@@ -1,3 +1,4 @@
+pub mod Queue
 pub mod Cover
 pub mod Offsets
 pub mod Acknowledge

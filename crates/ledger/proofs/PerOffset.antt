@@ -14,7 +14,7 @@ use borrow.Author.Tests.{ltb-true, ltb-false, lt-ltb, le-ltb}
 use Rattle.laws.proofs.Picks.{test, either}
 use Rattle.ledger.specs.Reply.{Reply}
 use Rattle.ledger.specs.Ledger.{Piece, end, len, Frame}
-use Rattle.ledger.specs.Tally.{within, Flown, acknowledge, acknowledgeAll, unacked, acknowledgedBy, Outstanding, nothing, outstanding, Event, Tally, feed, queued, sentOut, heard, turn, noneOutstanding, silent, took, reply, went, furthest}
+use Rattle.ledger.specs.Tally.{within, Flown, acknowledge, acknowledgeAll, unacked, acknowledgedBy, Outstanding, nothing, outstanding, Event, Tally, waits, feed, queued, sentOut, heard, turn, noneOutstanding, silent, took, reply, went, furthest}
 use Rattle.ledger.specs.Claim.{covering, flyingAt, ackedAt, bitOver, named, settledBy}
 use Rattle.ledger.proofs.Acknowledge.{within-before, within-in, within-after}
 use Rattle.ledger.proofs.InFlight.{filled, filled-flying}
@@ -148,8 +148,8 @@ ackedAt-answered r (outstanding n fs) o fl =
 pub acked-exactly : (e : Event) (t : Tally) (o : ℕ) → ackedAt o (feed e t .flown) ≡ ackedAt o (t .flown) || (ltb o (length (t .flown)) && settledBy e (t .out) o)
 unfolding queued sentOut heard noneOutstanding
 acked-exactly silent t o = or-none (ackedAt o (t .flown)) (ltb o (length (t .flown)))
-acked-exactly (took bs) t o = or-none (ackedAt o (t .flown)) (ltb o (length (t .flown)))
+acked-exactly (took c bs) t o = or-none (ackedAt o (t .flown)) (ltb o (length (t .flown)))
 acked-exactly (reply r) t o = ackedAt-answered r (t .out) o (t .flown)
 acked-exactly turn t o = or-none (ackedAt o (t .flown)) (ltb o (length (t .flown)))
 acked-exactly (went n fs) t o =
-    ackedAt-unacked o (t .flown) (take (furthest fs - length (t .flown)) (t .waiting)) ∙ or-none (ackedAt o (t .flown)) (ltb o (length (t .flown)))
+    ackedAt-unacked o (t .flown) (take (furthest fs - length (t .flown)) (waits t)) ∙ or-none (ackedAt o (t .flown)) (ltb o (length (t .flown)))

@@ -7,12 +7,13 @@ use mathlib.Core.Bool.{false}
 use mathlib.Core.List.{List, [], _∷_}
 use native.Mathlib.Omega.{arith}
 use lib.ListN.{length, replicate, length-replicate}
-use Rattle.ledger.specs.Ledger.{Plan, queue, size, dataBurst, Sender}
+use Rattle.ledger.specs.Ledger.{Plan, requeue, size, dataBurst, Sender}
+use Rattle.ledger.specs.Queue.{enqueue}
 use Rattle.ledger.specs.Sound.{Fits}
 use Rattle.ledger.specs.Calls.{run, Along}
 use Rattle.limits.specs.Limits.{minPayload, longestPayload, maxTop, maxSlots, maxWaiting, maxFlying, maxPieces, maxNumber}
 use Rattle.ledger.specs.Sizes.{Sizes}
-use Rattle.ledger.specs.CallsCode.{Move, queues, bursts, step, Allowed}
+use Rattle.ledger.specs.CallsCode.{Move, queues, bursts, step, Allowed, freshStation}
 use Rattle.ledger.specs.LedgerCode.{freshLedger}
 use Rattle.ledger.specs.SizesCode.{SizeRange}
 
@@ -25,14 +26,14 @@ planFor payload number =
 
 -- the queue filled; a burst of long frames; a burst of short ones
 unfoldable pub full : List Move
-full = queues (replicate maxWaiting 0) ∷ bursts (planFor longestPayload 1) ∷ bursts (planFor minPayload 2) ∷ []
+full = queues 3 (replicate maxWaiting 0) ∷ bursts (planFor longestPayload 1) ∷ bursts (planFor minPayload 2) ∷ []
 
-pub full-bytes : size (run (step widest) full freshLedger .pieces) ≡ maxFlying
-unfolding full dataBurst queue
+pub full-bytes : size (run (step widest) full freshStation .sender .pieces) ≡ maxFlying
+unfolding full dataBurst requeue enqueue
 full-bytes = refl
 
-pub full-pieces : length (run (step widest) full freshLedger .pieces) ≡ maxPieces
-unfolding full dataBurst queue
+pub full-pieces : length (run (step widest) full freshStation .sender .pieces) ≡ maxPieces
+unfolding full dataBurst requeue enqueue
 full-pieces = refl
 
 -- by calls that are allowed
@@ -50,7 +51,7 @@ planFor-fits payload number s p n =
       number = n;
     }
 
-pub full-allowed : Along (step widest) (Allowed widest) full freshLedger
+pub full-allowed : Along (step widest) (λ c s. Allowed widest c (s .sender)) full freshStation
 unfolding full
 full-allowed =
     let l = length-replicate {A = ℕ} maxWaiting 0 in

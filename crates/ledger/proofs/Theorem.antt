@@ -2,26 +2,28 @@
 -- Assumes nothing.
 use mathlib.Core.Path.{refl}
 use mathlib.Core.List.{List}
-use Rattle.ledger.specs.Ledger.{Sender}
+use Rattle.ledger.specs.Station.{Station}
 use Rattle.ledger.specs.Tally.{start}
-use Rattle.ledger.specs.Sound.{Sound}
 use Rattle.ledger.specs.Calls.{Along, run, history, tally}
 use Rattle.ledger.specs.ClaimCode.{LedgerClaim}
 use Rattle.ledger.proofs.Refine.{Refines, refined, sound-after}
 use Rattle.ledger.specs.Sizes.{Sizes}
-use Rattle.ledger.specs.CallsCode.{Move, Allowed, step, moveTold}
+use Rattle.ledger.specs.CallsCode.{Move, Allowed, step, moveTold, freshStation, SoundStation}
 use Rattle.ledger.specs.LedgerCode.{freshLedger}
 use Rattle.ledger.specs.SizesCode.{SizeRange}
 
 module _ (z : Sizes) (zr : SizeRange z) where
-  itself : Refines z zr Sender Move (Allowed z) (λ s. Unit {0}) (step z) (λ s. s) (λ c s. c) (moveTold z)
+  abbrev Ok : Move → Station → Type 0
+  Ok c s = Allowed z c (s .sender)
+
+  itself : Refines z zr Station Move Ok (λ s. Unit {0}) (step z) (λ s. s) (λ c s. c) (moveTold z)
   itself = record { allowed = λ c s al so ok. al; steps = λ c s al so ok. refl; tells = λ c s al so ok. refl; keeps = λ c s al so ok. tt }
 
-  pub demand3 : (cs : List Move) → Along (step z) (Allowed z) cs freshLedger → (c : Move) → Allowed z c (run (step z) cs freshLedger) →
-      LedgerClaim z (history (step z) (moveTold z) cs freshLedger) (run (step z) cs freshLedger) (tally (step z) (moveTold z) cs freshLedger start)
-      (moveTold z c (run (step z) cs freshLedger)) (step z c (run (step z) cs freshLedger))
+  pub demand3 : (cs : List Move) → Along (step z) Ok cs freshStation → (c : Move) → Ok c (run (step z) cs freshStation) →
+      LedgerClaim z (history (step z) (moveTold z) cs freshStation) (run (step z) cs freshStation .sender) (run (step z) cs freshStation .queue) (tally (step z) (moveTold z) cs freshStation start)
+      (moveTold z c (run (step z) cs freshStation)) (step z c (run (step z) cs freshStation) .sender)
   demand3 cs al c ok =
-      refined z zr Sender Move (Allowed z) (λ s. Unit {0}) (step z) (λ s. s) (λ c s. c) (moveTold z) itself freshLedger refl tt cs al c ok
+      refined z zr Station Move Ok (λ s. Unit {0}) (step z) (λ s. s) (λ c s. c) (moveTold z) itself freshStation refl tt cs al c ok
 
-  pub always-sound : (cs : List Move) → Along (step z) (Allowed z) cs freshLedger → Sound z (run (step z) cs freshLedger)
-  always-sound cs al = sound-after z zr Sender Move (Allowed z) (λ s. Unit {0}) (step z) (λ s. s) (λ c s. c) (moveTold z) itself freshLedger refl tt cs al
+  pub always-sound : (cs : List Move) → Along (step z) Ok cs freshStation → SoundStation z (run (step z) cs freshStation)
+  always-sound cs al = sound-after z zr Station Move Ok (λ s. Unit {0}) (step z) (λ s. s) (λ c s. c) (moveTold z) itself freshStation refl tt cs al

@@ -1,9 +1,10 @@
 -- The calls, as far as the ledger goes, lists of them, and what the tally is fed. Definitions only.
 use Prim.Native.Nat.{ℕ, _+_}
 use mathlib.Core.List.{List, [], _∷_, _++_}
-use Rattle.ledger.specs.Tally.{Tally, Event, feed, bytesTold}
+use Rattle.ledger.specs.Queue.{Message}
+use Rattle.ledger.specs.Tally.{Tally, Event, feed, queuedIn}
 
--- Any sender: its states C, a call's arguments I, and the state that a call leaves. The ledger's own has `Sender`, `Move` and `step`
+-- Any sender: its states C, a call's arguments I, and the state that a call leaves. The ledger's own has `Station`, `Move` and `step`
 module _ {C I : Type 0} (next : I → C → C) where
   -- the state after a list of calls
   abbrev pub run : List I → C → C
@@ -20,7 +21,7 @@ module _ {C I : Type 0} (next : I → C → C) where
   tally told [] c t = t
   tally told (i ∷ is) c t = tally told is (next i c) (feed (told i c) t)
 
-  -- the bytes queued, in order
-  abbrev pub history : (I → C → Event) → List I → C → List ℕ
+  -- the messages queued, in order
+  abbrev pub history : (I → C → Event) → List I → C → List Message
   history told [] c = []
-  history told (i ∷ is) c = bytesTold (told i c) ++ history told is (next i c)
+  history told (i ∷ is) c = queuedIn (told i c) ++ history told is (next i c)

@@ -1,21 +1,24 @@
 -- The calls, as far as the ledger goes, lists of them, and what the tally is fed: what follows the code or serves proofs; nothing here has to be believed.
 use Prim.Native.Nat.{ℕ, _+_, _≤_}
+use mathlib.Core.Path.{_≡_}
 use mathlib.Core.Bool.{Bool}
 use mathlib.Core.List.{List}
 use lib.ListN.{length}
 use Rattle.ledger.specs.Reply.{Reply}
-use Rattle.ledger.specs.Ledger.{Sender, Plan, dataBurst, hearAck, clearBurst, queue}
+use Rattle.ledger.specs.Ledger.{Sender, Plan, size, newPieces, dataBurst, hearAck, clearBurst, requeue}
+use Rattle.ledger.specs.Queue.{Queue, noQueue, goes, enqueue, flies}
+use Rattle.ledger.specs.Station.{Station}
 use Rattle.ledger.specs.Tally.{Event, silent, took, reply, turn, went}
-use Rattle.ledger.specs.Sound.{Fits}
+use Rattle.ledger.specs.Sound.{Sound, Fits}
 use Rattle.limits.specs.Limits.{maxWaiting, maxTaken}
 use Rattle.ledger.specs.Sizes.{Sizes}
-use Rattle.ledger.specs.LedgerCode.{frames, takenOf}
+use Rattle.ledger.specs.LedgerCode.{frames, takenOf, freshLedger}
 
 pub data Move : Type 0 where
   -- one that leaves the ledger as it is: refused, or a connect
   idle : Move
-  -- bytes queued
-  queues : List ℕ → Move
+  -- bytes queued, with a class
+  queues : ℕ → List ℕ → Move
   -- a short or long ack, and whether what it misses is held then
   hears : Reply → Bool → Move
   -- a turn
@@ -23,17 +26,32 @@ pub data Move : Type 0 where
   -- a burst, with the plan that the gear makes of it
   bursts : Plan → Move
 
-abbrev pub step : Sizes → Move → Sender → Sender
-step z idle s = s
-step z (queues bs) s = queue bs s
-step z (hears r keep) s = hearAck (z .top) r keep s
-step z turns s = clearBurst s
-step z (bursts g) s = dataBurst g s
+abbrev pub freshStation : Station
+freshStation = record { sender = freshLedger; queue = noQueue }
+
+-- the messages that a call leaves
+abbrev pub queueAfter : Move → Station → Queue
+queueAfter idle s = s .queue
+queueAfter (queues c bs) s = enqueue c bs (s .queue)
+queueAfter (hears r keep) s = s .queue
+queueAfter turns s = s .queue
+queueAfter (bursts g) s = flies (size (newPieces g (s .sender))) (s .queue)
+
+-- the sender that it leaves, where q is what waits then
+abbrev pub senderAfter : Sizes → Move → Queue → Sender → Sender
+senderAfter z idle q s = s
+senderAfter z (queues c bs) q s = requeue (goes q) s
+senderAfter z (hears r keep) q s = hearAck (z .top) r keep s
+senderAfter z turns q s = clearBurst s
+senderAfter z (bursts g) q s = dataBurst g s
+
+abbrev pub step : Sizes → Move → Station → Station
+step z c s = record { sender = senderAfter z c (queueAfter c s) (s .sender); queue = queueAfter c s }
 
 -- what is told of a call: its arguments, and its answer, from the sender that it leaves
 abbrev pub event : Move → Sender → Event
 event idle s = silent
-event (queues bs) s = took bs
+event (queues c bs) s = took c bs
 event (hears r keep) s = reply r
 event turns s = turn
 event (bursts g) s = went (s .number) (frames (s .pieces) (s .sent))
@@ -41,10 +59,15 @@ event (bursts g) s = went (s .number) (frames (s .pieces) (s .sent))
 -- an accepted call is within the limits: refusals 8 and 9, and a plan that fits
 abbrev pub Allowed : Sizes → Move → Sender → Type 0
 Allowed z idle s = Unit {0}
-Allowed z (queues bs) s = (length (s .waiting) + length bs ≤ maxWaiting) × (takenOf s + length bs ≤ maxTaken)
+Allowed z (queues c bs) s = (length (s .waiting) + length bs ≤ maxWaiting) × (takenOf s + length bs ≤ maxTaken)
 Allowed z (hears r keep) s = Unit {0}
 Allowed z turns s = Unit {0}
 Allowed z (bursts g) s = Fits z s g
 
-abbrev pub moveTold : Sizes → Move → Sender → Event
-moveTold z c s = event c (step z c s)
+abbrev pub moveTold : Sizes → Move → Station → Event
+moveTold z c s = event c (step z c s .sender)
+
+-- a sound sender, and the messages of its waiting bytes
+pub record SoundStation (z : Sizes) (s : Station) : Type 0 where
+  pub sound : Sound z (s .sender)
+  pub shows : s .sender .waiting ≡ goes (s .queue)

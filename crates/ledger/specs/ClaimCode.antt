@@ -1,14 +1,15 @@
 -- What the ledger proves for demand 3 (crates/demand/specs/Page.antt states it): follows the code or serves proofs; nothing here has to be believed.
 use Prim.Native.Nat.{ℕ, _+_, _≤_}
 use mathlib.Core.Path.{_≡_}
-use mathlib.Core.Bool.{true, _&&_, _||_}
+use mathlib.Core.Bool.{Bool, true, _&&_, _||_}
 use mathlib.Core.List.{List, [], _∷_, _++_, map}
 use lib.Dec.{ltb}
 use lib.ListN.{length, take, drop}
 use Rattle.laws.specs.Lists.{listed}
 use Rattle.limits.specs.Limits.{maxFlying, maxPieces}
 use Rattle.ledger.specs.Ledger.{Piece, Frame, Sender, size, find, offs, heldOffs}
-use Rattle.ledger.specs.Tally.{Tally, Event, byteOf, inFlight, acknowledged, feed, framesTold}
+use Rattle.ledger.specs.Queue.{Message, Queue, messageBytes, behind, rest, count, ofClass, Ascending}
+use Rattle.ledger.specs.Tally.{Tally, waits, Event, byteOf, inFlight, acknowledged, feed, framesTold}
 use Rattle.ledger.specs.Claim.{covering, flyingAt, ackedAt, settledBy}
 use Rattle.ledger.specs.CoverCode.{Ascend}
 use Rattle.ledger.specs.Sizes.{Sizes}
@@ -19,12 +20,17 @@ Carry bs ps [] = Unit {0}
 Carry bs ps (f ∷ fs) =
     (1 ≤ f .len) × (length (find (f .off) ps) ≡ f .len) × (find (f .off) ps ≡ take (f .len) (drop (f .off) bs)) × Carry bs ps fs
 
--- after a list of calls that queued `bytes` and left the sender s and the tally t; one further call, told as e, leaves the sender s′
-pub record LedgerClaim (z : Sizes) (bytes : List ℕ) (s : Sender) (t : Tally) (e : Event) (s′ : Sender) : Type 0 where
-  pub sum : t .taken ≡ length (t .waiting) + inFlight (t .flown) + acknowledged (t .flown)
-  pub taken : t .taken ≡ length bytes
-  pub history : bytes ≡ map byteOf (t .flown) ++ t .waiting
-  pub waiting : s .waiting ≡ t .waiting
+-- after a list of calls that queued the messages ms and left the sender s, the queue q and the tally t; one further call, told as e, leaves the
+-- sender s′
+pub record LedgerClaim (z : Sizes) (ms : List Message) (s : Sender) (q : Queue) (t : Tally) (e : Event) (s′ : Sender) : Type 0 where
+  pub sum : t .taken ≡ length (waits t) + inFlight (t .flown) + acknowledged (t .flown)
+  pub taken : t .taken ≡ length (messageBytes ms)
+  pub each : (p : Message → Bool) → count p ms ≡ count p (t .began) + count p (behind (t .queue .begun) (t .queue .messages))
+  pub history : map byteOf (t .flown) ++ rest (t .queue) ≡ messageBytes (t .began)
+  pub waiting : s .waiting ≡ waits t
+  pub queue : q ≡ t .queue
+  pub order : Ascending 0 (behind (t .queue .begun) (t .queue .messages))
+  pub earliest : (c : ℕ) → ofClass c ms ≡ ofClass c (t .began) ++ ofClass c (behind (t .queue .begun) (t .queue .messages))
   pub covers : (o : ℕ) → covering o (s .pieces) ≡ flyingAt o (t .flown)
   pub inPieces : size (s .pieces) ≡ inFlight (t .flown)
   pub ascends : Ascend (z .long) 0 (s .next) (s .pieces)

@@ -74,12 +74,13 @@ abbrev pub remove : ℕ → List Piece → List Piece
 remove o [] = []
 remove o (p ∷ ps) = cond (eqb o (p .off)) ps (p ∷ remove o ps)
 
--- ---- `Station::queue`
+-- ---- a queuing: what waits after it, the queue of messages says (Queue.antt); `Station::queue` is `requeue (s .waiting ++ bs) s`
 
-unfoldable pub queue : List ℕ → Sender → Sender
-queue bs s =
+-- now w waits
+unfoldable pub requeue : List ℕ → Sender → Sender
+requeue w s =
     record {
-      waiting = s .waiting ++ bs;
+      waiting = w;
       next = s .next;
       acked = s .acked;
       pieces = s .pieces;

@@ -4,6 +4,8 @@ pub mod Reply
 pub mod Ledger
 pub mod LedgerCode
 pub mod LeftOut
+pub mod Queue
+pub mod Station
 pub mod Tally
 pub mod Cover
 pub mod CoverCode

@@ -3,9 +3,10 @@ use Prim.Native.Nat.{ℕ, suc, _+_, _-_, max}
 use mathlib.Core.Bool.{Bool, true, false, cond, _&&_}
 use mathlib.Core.List.{List, [], _∷_, _++_, map}
 use lib.Dec.{leb, ltb, eqb}
-use lib.ListN.{length, take, drop}
+use lib.ListN.{length, take}
 use Rattle.ledger.specs.Reply.{Reply}
 use Rattle.ledger.specs.Ledger.{Frame}
+use Rattle.ledger.specs.Queue.{Message, Queue, noQueue, goes, enqueue, flies, begins, message}
 
 -- a byte that has flown, acknowledged or not
 pub record Flown : Type 0 where
@@ -20,20 +21,27 @@ pub data Outstanding : Type 0 where
 -- "It keeps a count taken, the waiting bytes, the flown bytes from offset 0 up, each acknowledged or not, and the outstanding burst"
 pub record Tally : Type 0 where
   pub taken : ℕ
-  pub waiting : List ℕ
+  -- the messages of which bytes wait
+  pub queue : Queue
+  -- the messages that have begun, whole, in the order of their beginning
+  pub began : List Message
   pub flown : List Flown
   pub out : Outstanding
 
+-- "the waiting bytes", in the order in which they will go
+abbrev pub waits : Tally → List ℕ
+waits t = goes (t .queue)
+
 -- "at first nothing"
 abbrev pub start : Tally
-start = record { taken = 0; waiting = []; flown = []; out = nothing }
+start = record { taken = 0; queue = noQueue; began = []; flown = []; out = nothing }
 
 -- a call, as it is told: its arguments and its answer
 pub data Event : Type 0 where
   -- refused, or a connect
   silent : Event
-  -- bytes queued
-  took : List ℕ → Event
+  -- bytes queued, with a class
+  took : ℕ → List ℕ → Event
   -- an ack
   reply : Reply → Event
   -- a turn
@@ -53,9 +61,9 @@ abbrev pub acknowledged : List Flown → ℕ
 acknowledged [] = 0
 acknowledged (f ∷ fs) = cond (f .acked) 1 0 + acknowledged fs
 
--- "A queuing raises taken and puts its bytes last among the waiting"
-unfoldable pub queued : List ℕ → Tally → Tally
-queued bs t = record { taken = t .taken + length bs; waiting = t .waiting ++ bs; flown = t .flown; out = t .out }
+-- "A queuing raises taken"; its message waits where its class puts it
+unfoldable pub queued : ℕ → List ℕ → Tally → Tally
+queued c bs t = record { taken = t .taken + length bs; queue = enqueue c bs (t .queue); began = t .began; flown = t .flown; out = t .out }
 
 -- bytes that begin to fly, not acknowledged
 abbrev pub unacked : List ℕ → List Flown
@@ -72,8 +80,9 @@ unfoldable pub sentOut : ℕ → List Frame → Tally → Tally
 sentOut n fs t =
     record {
       taken = t .taken;
-      waiting = drop (furthest fs - length (t .flown)) (t .waiting);
-      flown = t .flown ++ unacked (take (furthest fs - length (t .flown)) (t .waiting));
+      queue = flies (furthest fs - length (t .flown)) (t .queue);
+      began = t .began ++ begins (furthest fs - length (t .flown)) (t .queue);
+      flown = t .flown ++ unacked (take (furthest fs - length (t .flown)) (waits t));
       out = outstanding n fs;
     }
 
@@ -98,31 +107,31 @@ acknowledgedBy r (outstanding n fs) fl = cond (eqb (r .number) n) (acknowledgeAl
 
 -- "Any ack or turn leaves none outstanding"
 unfoldable pub heard : Reply → Tally → Tally
-heard r t = record { taken = t .taken; waiting = t .waiting; flown = acknowledgedBy r (t .out) (t .flown); out = nothing }
+heard r t = record { taken = t .taken; queue = t .queue; began = t .began; flown = acknowledgedBy r (t .out) (t .flown); out = nothing }
 
 unfoldable pub noneOutstanding : Tally → Tally
-noneOutstanding t = record { taken = t .taken; waiting = t .waiting; flown = t .flown; out = nothing }
+noneOutstanding t = record { taken = t .taken; queue = t .queue; began = t .began; flown = t .flown; out = nothing }
 
 -- "A refused call or a connect changes nothing"
 abbrev pub feed : Event → Tally → Tally
 feed silent t = t
-feed (took bs) t = queued bs t
+feed (took c bs) t = queued c bs t
 feed (reply r) t = heard r t
 feed turn t = noneOutstanding t
 feed (went n fs) t = sentOut n fs t
 
--- the bytes that an event queues
-abbrev pub bytesTold : Event → List ℕ
-bytesTold silent = []
-bytesTold (took bs) = bs
-bytesTold (reply r) = []
-bytesTold turn = []
-bytesTold (went n fs) = []
+-- the message that an event queues
+abbrev pub queuedIn : Event → List Message
+queuedIn silent = []
+queuedIn (took c bs) = message c bs
+queuedIn (reply r) = []
+queuedIn turn = []
+queuedIn (went n fs) = []
 
 -- the frames that it sends
 abbrev pub framesTold : Event → List Frame
 framesTold silent = []
-framesTold (took bs) = []
+framesTold (took c bs) = []
 framesTold (reply r) = []
 framesTold turn = []
 framesTold (went n fs) = fs

@@ -1,4 +1,4 @@
-// Document 01's limits, each named once in code and once in specs/Limits.antt. The crate has no function.
+// The papers' limits, each named once in code and once in specs/Limits.antt. The crate has no function.
 
 // Payload bytes of a frame at most: its length is one byte.
 pub const MAX_PAYLOAD: usize = 255;
@@ -32,3 +32,9 @@ pub const AREA_BYTES: usize = 49152;
 
 // Its first part: the flying bytes and then the waiting ones.
 pub const STREAM_BYTES: usize = 32768;
+
+// Messages that wait at most, the begun one counted.
+pub const MAX_MESSAGES: usize = 256;
+
+// Classes are 0, flash, to this, routine.
+pub const MAX_CLASS: u8 = 3;

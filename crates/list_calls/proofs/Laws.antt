@@ -10,7 +10,7 @@ use Rattle.laws.proofs.Picks.{cond-yes, cond-no}
 use Rattle.transcript.specs.Answers.{answerLine, pieceLine}
 use Rattle.numbered.specs.declared.Place.{Place}
 use Rattle.numbered.specs.declared.LeftBurst.{LeftBurst}
-use Rattle.record.specs.declared.Sender.{Sender}
+use Rattle.queuing.specs.declared.Station.{Station}
 use Rattle.text.specs.Buffer.{appended}
 use Rattle.words.specs.declared.Read.{Read}
 use Rattle.list_calls.specs.declared.answers.Said.{Said}
@@ -28,7 +28,7 @@ pub burst-said : {b : LeftBurst} {a out t₁ : List ℕ} {k : ℕ} {m : LeftBurs
     → (k, t₁) ≡ appended t (burstText (b .burst) size out) → (b, (a, out)) ≡ m → (said true (b .next) k, (a, (out, t₁))) ≡ sent size t m
 burst-said {b} {a} {out} size t e f = ap (λ (u : ℕ × List ℕ). (said true (b .next) (u .0), (a, (out, u .1)))) e ∙ ap (sent size t) f
 
-pub piece-said : {s : Sender} {k : ℕ} {t₁ : List ℕ} {t : ℕ × List ℕ} → (k, t₁) ≡ t → (said true s k, t₁) ≡ told true s t
+pub piece-said : {s : Station} {k : ℕ} {t₁ : List ℕ} {t : ℕ × List ℕ} → (k, t₁) ≡ t → (said true s k, t₁) ≡ told true s t
 piece-said {s} e = ap (told true s) e
 
 pub ask-said : {q : Asked} {a t₁ : List ℕ} {k : ℕ} {m : Asked × List ℕ} (chars : List ℕ) (r : Read) (t : ℕ × List ℕ)

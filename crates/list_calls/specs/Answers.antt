@@ -8,7 +8,7 @@ use lib.ListN.{take}
 use Rattle.laws.specs.Text.{text}
 use Rattle.config.specs.Durations.{frameBytes}
 use Rattle.config.specs.declared.Profile.{Profile}
-use Rattle.record.specs.declared.Sender.{Sender}
+use Rattle.queuing.specs.declared.Station.{Station}
 use Rattle.numbered.specs.declared.Burst.{Burst}
 use Rattle.numbered.specs.declared.LeftBurst.{LeftBurst}
 use Rattle.numbered.specs.declared.Left.{Left}
@@ -26,12 +26,12 @@ use Rattle.list_calls.specs.declared.answers.Said.{Said}
 use Rattle.list_calls.specs.Asked.{askedOf}
 
 -- whether the line was right, the record after it, and what is used of the buffer
-abbrev pub said : Bool → Sender → ℕ → Said
+abbrev pub said : Bool → Station → ℕ → Said
 said ok s n = record { ok = ok; text = n; next = s }
 
 -- a frame's size at the level of the record, which is below 17 where a burst is made
-unfoldable pub frameSize : Profile → Sender → ℕ
-frameSize p s = cond (ltb (s .gear .level) 17) (frameBytes p (s .gear .level)) 0
+unfoldable pub frameSize : Profile → Station → ℕ
+frameSize p s = cond (ltb (s .sender .gear .level) 17) (frameBytes p (s .sender .gear .level)) 0
 
 -- `burst ok ..` and a line for each frame, or "its name, `refused` and its number"
 unfoldable pub burstText : Burst → ℕ → List ℕ → List ℕ
@@ -44,7 +44,7 @@ sent size t b =
     (said true (b .0 .next) (u .0), (b .1 .0, (b .1 .1, u .1)))
 
 -- `burst` has no other word
-unfoldable pub burstSaid : Profile → Sender → List ℕ → List ℕ → List ℕ → Read → ℕ × List ℕ
+unfoldable pub burstSaid : Profile → Station → List ℕ → List ℕ → List ℕ → Read → ℕ × List ℕ
     → Said × (List ℕ × (List ℕ × List ℕ))
 burstSaid p s a out chars r t =
     cond (isDone chars r) (sent (frameSize p s) t (burstNumber (burstCall p s a out))) (said false s (t .0), (a, (out, t .1)))
@@ -56,14 +56,14 @@ pieceAnswer found bytes at =
     (answerLine (text "piece") (found .refusal))
 
 -- the call is made with the 32 bits of an offset
-abbrev pub pieceText : Profile → Sender → List ℕ → ℕ → List ℕ
+abbrev pub pieceText : Profile → Station → List ℕ → ℕ → List ℕ
 pieceText p s a at = pieceAnswer (findNumber (findOf p s a (at % 4294967296))) (pieceOf p s a (at % 4294967296)) at
 
 -- with the buffer after it
-abbrev pub told : Bool → Sender → ℕ × List ℕ → Said × List ℕ
+abbrev pub told : Bool → Station → ℕ × List ℕ → Said × List ℕ
 told ok s t = (said ok s (t .0), t .1)
 
-unfoldable pub pieceSaid : Profile → Sender → List ℕ → List ℕ → Read → ℕ × List ℕ → Said × List ℕ
+unfoldable pub pieceSaid : Profile → Station → List ℕ → List ℕ → Read → ℕ × List ℕ → Said × List ℕ
 pieceSaid p s a chars r t =
     let q : Read = readAs decimalOf chars r in
     cond (isDone chars q) (told true s (appended t (pieceText p s a (q .value)))) (told false s t)
@@ -79,7 +79,7 @@ replied chars r t q =
     (said (q .0 .ok) (q .0 .left .next) (u .0), (q .1, u .1))
 
 -- a queuing or a reply
-unfoldable pub askSaid : Profile → Sender → List ℕ → List ℕ → Named → ℕ × List ℕ → Said × (List ℕ × List ℕ)
+unfoldable pub askSaid : Profile → Station → List ℕ → List ℕ → Named → ℕ × List ℕ → Said × (List ℕ × List ℕ)
 askSaid p s a chars n t = replied chars (n .read) t (askedOf p s a chars n)
 
 -- the output stays as it is; so does the work area
@@ -90,7 +90,7 @@ abbrev pub keepingBoth : List ℕ → List ℕ → Said × List ℕ → Said × 
 keepingBoth a out q = (q .0, (a, (out, q .1)))
 
 -- by the call's number (Names.antt of `call_lines`)
-unfoldable pub saidOf : Profile → Sender → List ℕ → List ℕ → List ℕ → Named → ℕ × List ℕ
+unfoldable pub saidOf : Profile → Station → List ℕ → List ℕ → List ℕ → Named → ℕ × List ℕ
     → Said × (List ℕ × (List ℕ × List ℕ))
 saidOf p s a out chars n t =
     cond (eqb (n .call) 6) (burstSaid p s a out chars (n .read) t)

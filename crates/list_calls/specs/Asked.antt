@@ -6,41 +6,42 @@ use Prim.Native.Nat.{ℕ}
 use lib.Dec.{eqb}
 use lib.ListN.{length, take, replicate}
 use Rattle.config.specs.declared.Profile.{Profile}
-use Rattle.record.specs.declared.Sender.{Sender}
+use Rattle.queuing.specs.declared.Station.{Station}
 use Rattle.refusals.specs.declared.Reply.the-variants as R
 use Rattle.numbered.specs.declared.Left.{Left}
 use Rattle.numbered.specs.Numbered.{answerNumber}
 use Rattle.sender.specs.Calls.{queueOf, receiveOf}
 use Rattle.words.specs.declared.Read.{Read}
-use Rattle.words.specs.Words.{hexCount, hexInto}
-use Rattle.words.specs.Lines.{readAs, isDone, charsOf, nextWord}
-use Rattle.call_lines.specs.CallLines.{connectLine, shortLine, turnLine, longLine, longWishes}
+use Rattle.words.specs.Words.{hexInto}
+use Rattle.words.specs.Lines.{charsOf, nextWord}
+use Rattle.call_lines.specs.CallLines.{connectLine, shortLine, turnLine, longLine, longWishes, queueLine}
 use Rattle.call_lines.specs.declared.ConnectLine.{ConnectLine}
 use Rattle.call_lines.specs.declared.ShortLine.{ShortLine}
 use Rattle.call_lines.specs.declared.TurnLine.{TurnLine}
 use Rattle.call_lines.specs.declared.LongLine.{LongLine}
+use Rattle.call_lines.specs.declared.QueueLine.{QueueLine}
 use Rattle.call_lines.specs.declared.names.Named.{Named}
 use Rattle.list_calls.specs.declared.Asked.{Asked}
 
 -- a line that breaks the rules: no call is made
-abbrev pub broken : Sender → Asked
+abbrev pub broken : Station → Asked
 broken s = record { ok = false; left = record { refusal = 0; next = s } }
 
 -- the call that was made, where the line is right
-abbrev pub asked : Bool → Sender → List ℕ → Left × List ℕ → Asked × List ℕ
+abbrev pub asked : Bool → Station → List ℕ → Left × List ℕ → Asked × List ℕ
 asked ok s a made = cond ok (record { ok = true; left = made .0 }, made .1) (broken s, a)
 
-unfoldable pub connectAsked : Profile → Sender → List ℕ → List ℕ → Read → Asked × List ℕ
+unfoldable pub connectAsked : Profile → Station → List ℕ → List ℕ → Read → Asked × List ℕ
 connectAsked p s a chars r =
     let q : ConnectLine = connectLine chars r in
     asked (q .ok) s a (answerNumber (receiveOf p s a (q .heard) (R.ConnAck (q .reply)) []))
 
-unfoldable pub shortAsked : Profile → Sender → List ℕ → List ℕ → Read → Asked × List ℕ
+unfoldable pub shortAsked : Profile → Station → List ℕ → List ℕ → Read → Asked × List ℕ
 shortAsked p s a chars r =
     let q : ShortLine = shortLine chars r in
     asked (q .ok) s a (answerNumber (receiveOf p s a (q .heard) (R.Ack (q .reply)) []))
 
-unfoldable pub turnAsked : Profile → Sender → List ℕ → List ℕ → Read → Asked × List ℕ
+unfoldable pub turnAsked : Profile → Station → List ℕ → List ℕ → Read → Asked × List ℕ
 turnAsked p s a chars r =
     let q : TurnLine = turnLine chars r in
     asked (q .ok) s a (answerNumber (receiveOf p s a (q .heard) (R.Turn (q .reply)) []))
@@ -53,19 +54,19 @@ room = replicate 32768 0
 abbrev pub bytesIn : ℕ → List ℕ → Read → List ℕ
 bytesIn n chars r = take n (hexInto room (charsOf chars (nextWord chars r)))
 
-unfoldable pub longAsked : Profile → Sender → List ℕ → List ℕ → Read → Asked × List ℕ
+unfoldable pub longAsked : Profile → Station → List ℕ → List ℕ → Read → Asked × List ℕ
 longAsked p s a chars r =
     let q : LongLine = longLine (length room) chars r in
     asked (q .ok) s a (answerNumber (receiveOf p s a (q .heard) (R.LongAck (q .reply))
     (bytesIn (q .payload) chars (longWishes chars r .read))))
 
-unfoldable pub queueAsked : Profile → Sender → List ℕ → List ℕ → Read → Asked × List ℕ
+unfoldable pub queueAsked : Profile → Station → List ℕ → List ℕ → Read → Asked × List ℕ
 queueAsked p s a chars r =
-    let q : Read = readAs (hexCount (length room)) chars r in
-    asked (isDone chars q) s a (answerNumber (queueOf p s a (bytesIn (q .value) chars r)))
+    let q : QueueLine = queueLine (length room) chars r in
+    asked (q .ok) s a (answerNumber (queueOf p s a (q .class) (bytesIn (q .len) chars r)))
 
 -- by the call's number (Names.antt of `call_lines`)
-unfoldable pub askedOf : Profile → Sender → List ℕ → List ℕ → Named → Asked × List ℕ
+unfoldable pub askedOf : Profile → Station → List ℕ → List ℕ → Named → Asked × List ℕ
 askedOf p s a chars n =
     cond (eqb (n .call) 3) (shortAsked p s a chars (n .read))
     (cond (eqb (n .call) 4) (longAsked p s a chars (n .read))

@@ -7,7 +7,7 @@ use call_lines::names::PIECE;
 use config::Profile;
 use numbered::Burst;
 use profile_table::profile_of;
-use record::Sender;
+use queuing::Station;
 use words::Read;
 use words::done;
 use words::whole;
@@ -21,10 +21,10 @@ ghost use Rattle.list_calls.specs.Answers.{said, frameSize, burstText, b
 pub struct Said {
     pub ok: bool,
     pub text: usize,
-    pub next: Sender,
+    pub next: Station,
 }
 
-fn wrong(n: usize, s: Sender) -> Said
+fn wrong(n: usize, s: Station) -> Said
     ensures { λ r. ⌜ r ≡ said false s n ⌝ }
 {
     Said {
@@ -35,10 +35,10 @@ fn wrong(n: usize, s: Sender) -> Said
 }
 
 // A frame's size at the level of the record.
-fn frame_size(p: Profile, s: Sender) -> usize
+fn frame_size(p: Profile, s: Station) -> usize
     ensures { λ r. ⌜ r ≡ frameSize p s ⌝ }
 {
-    let g = s.gear;
+    let g = s.sender.gear;
     let level = g.level;
     if level < 17 {
         return p.frame_bytes(level) as usize;
@@ -61,7 +61,7 @@ fn burst(
     line: &[u8],
     r: Read,
     p: Profile,
-    s: Sender,
+    s: Station,
     area: &mut [u8],
     out: &mut [u8],
     t: &mut [u8],
@@ -85,7 +85,7 @@ fn burst(
 }
 
 // The answer to the question for a piece.
-fn piece_text(at: u64, p: Profile, s: Sender, area: &[u8], t: &mut [u8], n: usize) -> usize
+fn piece_text(at: u64, p: Profile, s: Station, area: &[u8], t: &mut [u8], n: usize) -> usize
     ensures { λ r. ⌜ (r, now (t .exit)) ≡ appended (n, now (t .entry)) (pieceText p s (now (area .entry)) at) ⌝ }
 {
     let off = (at % 4294967296) as u32;
@@ -100,7 +100,7 @@ fn piece_text(at: u64, p: Profile, s: Sender, area: &[u8], t: &mut [u8], n: usiz
     transcript::no_piece(t, n)
 }
 
-fn piece(line: &[u8], r: Read, p: Profile, s: Sender, area: &[u8], t: &mut [u8], n: usize) -> Said
+fn piece(line: &[u8], r: Read, p: Profile, s: Station, area: &[u8], t: &mut [u8], n: usize) -> Said
     ensures { λ q. ⌜ (q, now (t .exit)) ≡ pieceSaid p s (now (area .entry)) (now (line .entry)) r (n, now (t .entry)) ⌝ }
 {
     let q = whole(line, r);
@@ -130,7 +130,7 @@ fn asked(
     call: Named,
     line: &[u8],
     p: Profile,
-    s: Sender,
+    s: Station,
     area: &mut [u8],
     t: &mut [u8],
     n: usize,
@@ -154,7 +154,7 @@ pub fn say(
     call: Named,
     line: &[u8],
     v: &[u64; 147],
-    s: Sender,
+    s: Station,
     area: &mut [u8],
     out: &mut [u8],
     t: &mut [u8],

@@ -8,14 +8,14 @@ use call_lines::names::LONG;
 use call_lines::names::Named;
 use call_lines::names::SHORT;
 use call_lines::names::TURN;
+use call_lines::queue_words;
 use call_lines::short_words;
 use call_lines::turn_words;
 use config::Profile;
 use numbered::Left;
-use record::Sender;
+use numbered::Message;
+use queuing::Station;
 use words::Read;
-use words::done;
-use words::hex;
 ghost use mathlib.Core.Path.{_≡_};
 ghost use Rattle.list_calls.specs.Asked.{broken, connectAsked, shortAsked, turnAsked, longAsked, queueAsked, askedOf};
 
@@ -30,7 +30,7 @@ pub struct Asked {
     pub left: Left,
 }
 
-fn broken(s: Sender) -> Asked
+fn broken(s: Station) -> Asked
     ensures { λ r. ⌜ r ≡ broken s ⌝ }
 {
     Asked {
@@ -42,7 +42,7 @@ fn broken(s: Sender) -> Asked
     }
 }
 
-fn connect(line: &[u8], r: Read, p: Profile, s: Sender, area: &mut [u8]) -> Asked
+fn connect(line: &[u8], r: Read, p: Profile, s: Station, area: &mut [u8]) -> Asked
     ensures { λ q. ⌜ (q, now (area .exit)) ≡ connectAsked p s (now (area .entry)) (now (line .entry)) r ⌝ }
 {
     let q = connect_words(line, r);
@@ -53,7 +53,7 @@ fn connect(line: &[u8], r: Read, p: Profile, s: Sender, area: &mut [u8]) -> Aske
     Asked { ok: true, left }
 }
 
-fn short(line: &[u8], r: Read, p: Profile, s: Sender, area: &mut [u8]) -> Asked
+fn short(line: &[u8], r: Read, p: Profile, s: Station, area: &mut [u8]) -> Asked
     ensures { λ q. ⌜ (q, now (area .exit)) ≡ shortAsked p s (now (area .entry)) (now (line .entry)) r ⌝ }
 {
     let q = short_words(line, r);
@@ -64,7 +64,7 @@ fn short(line: &[u8], r: Read, p: Profile, s: Sender, area: &mut [u8]) -> Asked
     Asked { ok: true, left }
 }
 
-fn turn(line: &[u8], r: Read, p: Profile, s: Sender, area: &mut [u8]) -> Asked
+fn turn(line: &[u8], r: Read, p: Profile, s: Station, area: &mut [u8]) -> Asked
     ensures { λ q. ⌜ (q, now (area .exit)) ≡ turnAsked p s (now (area .entry)) (now (line .entry)) r ⌝ }
 {
     let q = turn_words(line, r);
@@ -75,7 +75,7 @@ fn turn(line: &[u8], r: Read, p: Profile, s: Sender, area: &mut [u8]) -> Asked
     Asked { ok: true, left }
 }
 
-fn long(line: &[u8], r: Read, p: Profile, s: Sender, area: &mut [u8]) -> Asked
+fn long(line: &[u8], r: Read, p: Profile, s: Station, area: &mut [u8]) -> Asked
     ensures { λ q. ⌜ (q, now (area .exit)) ≡ longAsked p s (now (area .entry)) (now (line .entry)) r ⌝ }
 {
     let mut bytes = [0u8; BYTES];
@@ -88,21 +88,22 @@ fn long(line: &[u8], r: Read, p: Profile, s: Sender, area: &mut [u8]) -> Asked
     Asked { ok: true, left }
 }
 
-fn queue(line: &[u8], r: Read, p: Profile, s: Sender, area: &mut [u8]) -> Asked
+fn queue(line: &[u8], r: Read, p: Profile, s: Station, area: &mut [u8]) -> Asked
     ensures { λ q. ⌜ (q, now (area .exit)) ≡ queueAsked p s (now (area .entry)) (now (line .entry)) r ⌝ }
 {
     let mut bytes = [0u8; BYTES];
-    let q = hex(line, r, &mut bytes);
-    if !done(line, q) {
+    let q = queue_words(line, r, &mut bytes);
+    if !q.ok {
         return broken(s);
     }
-    let n = least(q.value as usize, &bytes);
-    let left = numbered::queue(p, s, area, &bytes[..n]);
+    let n = least(q.len, &bytes);
+    let m = Message { class: q.class };
+    let left = numbered::queue(p, s, area, m, &bytes[..n]);
     Asked { ok: true, left }
 }
 
 // A queuing or a reply.
-pub(crate) fn ask(n: Named, line: &[u8], p: Profile, s: Sender, area: &mut [u8]) -> Asked
+pub(crate) fn ask(n: Named, line: &[u8], p: Profile, s: Station, area: &mut [u8]) -> Asked
     ensures { λ q. ⌜ (q, now (area .exit)) ≡ askedOf p s (now (area .entry)) (now (line .entry)) n ⌝ }
 {
     if n.call == SHORT {

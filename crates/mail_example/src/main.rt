@@ -7,12 +7,13 @@ use defaults::new_profile;
 use io::write_all;
 use libc::STDOUT_FILENO;
 use numbered::Left;
+use numbered::Message;
 use numbered::connect;
 use numbered::data_burst;
 use numbered::queue;
 use numbered::short_ack;
-use record::Sender;
-use record::fresh;
+use queuing::Station;
+use queuing::fresh;
 use replies::Ack;
 use replies::ConnAck;
 use replies::Heard;
@@ -70,7 +71,7 @@ fn arrived() -> Ack {
 
 // The record that the last call left, and how much of the transcript's buffer is used.
 struct Step {
-    s: Sender,
+    s: Station,
     n: usize,
 }
 
@@ -86,7 +87,14 @@ fn connect_step(p: Profile, a: &mut [u8], t: &mut [u8]) -> Step {
 }
 
 fn queue_step(p: Profile, last: Step, a: &mut [u8], t: &mut [u8]) -> Step {
-    let q = queue(p, last.s, a, b"Snow since midnight, 40 cm at the door.\n");
+    let routine = Message { class: 3 };
+    let q = queue(
+        p,
+        last.s,
+        a,
+        routine,
+        b"Snow since midnight, 40 cm at the door.\n",
+    );
     answered(q, t, last.n, b"queue")
 }
 
@@ -125,6 +133,6 @@ fn main() {
     let queued = queue_step(p, connected, &mut area, &mut text);
     let sent = burst_step(p, queued, &mut area, &mut out, &mut text);
     let acked = ack_step(p, sent, &mut area, &mut text);
-    let n = state_lines::end(&mut text, acked.n, acked.s.counts);
+    let n = state_lines::end(&mut text, acked.n, acked.s.sender.counts);
     write_first(&text, n);
 }

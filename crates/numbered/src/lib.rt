@@ -1,7 +1,7 @@
 // The sender's calls with document 01's numbers in place of the verdicts, and a function for each reply: what the C interface stands on.
 use config::Profile;
 use outgoing::Outgoing;
-use record::Sender;
+use queuing::Station;
 use refusals::Reply;
 use refusals::number;
 use replies::Ack;
@@ -16,10 +16,16 @@ ghost use Rattle.sender.specs.Calls.{queueOf, receiveOf, findOf, burstCall};
 ghost use Rattle.refusals.specs.declared.Reply.the-variants as R;
 ghost use Rattle.numbered.specs.Numbered.{answerNumber, burstNumber, findNumber};
 
+// What a queuing says of its message (document 02, Change 1).
+#[repr(C)]
+pub struct Message {
+    pub class: u8,
+}
+
 // A refusal's number, 0 where the call is accepted, and the next record.
 pub struct Left {
     pub refusal: u8,
-    pub next: Sender,
+    pub next: Station,
 }
 
 // A refusal's number, 0 where the burst is made, and the burst.
@@ -31,7 +37,7 @@ pub struct Burst {
 
 pub struct LeftBurst {
     pub burst: Burst,
-    pub next: Sender,
+    pub next: Station,
 }
 
 // A refusal's number; whether there is a piece, and where its bytes lie in the work area.
@@ -43,57 +49,58 @@ pub struct Place {
     pub len: usize,
 }
 
-pub fn queue(p: Profile, s: Sender, a: &mut [u8], bytes: &[u8]) -> Left
-    ensures { λ r. ⌜ (r, now (a .exit)) ≡ answerNumber (queueOf p s (now (a .entry)) (now (bytes .entry))) ⌝ }
+// Bytes to send, as one message.
+pub fn queue(p: Profile, t: Station, a: &mut [u8], m: Message, bytes: &[u8]) -> Left
+    ensures { λ r. ⌜ (r, now (a .exit)) ≡ answerNumber (queueOf p t (now (a .entry)) (m .class) (now (bytes .entry))) ⌝ }
 {
-    let q = sender::queue(p, s, a, bytes);
+    let q = sender::queue(p, t, a, m.class, bytes);
     let v = q.verdict;
     let refusal = number(v);
     let next = q.next;
     Left { refusal, next }
 }
 
-fn reply(p: Profile, s: Sender, a: &mut [u8], h: Heard, r: Reply, payload: &[u8]) -> Left
-    ensures { λ q. ⌜ (q, now (a .exit)) ≡ answerNumber (receiveOf p s (now (a .entry)) h r (now (payload .entry))) ⌝ }
+fn reply(p: Profile, t: Station, a: &mut [u8], h: Heard, r: Reply, payload: &[u8]) -> Left
+    ensures { λ q. ⌜ (q, now (a .exit)) ≡ answerNumber (receiveOf p t (now (a .entry)) h r (now (payload .entry))) ⌝ }
 {
-    let q = sender_rx(p, s, a, h, r, payload);
+    let q = sender_rx(p, t, a, h, r, payload);
     let v = q.verdict;
     let refusal = number(v);
     let next = q.next;
     Left { refusal, next }
 }
 
-pub fn connect(p: Profile, s: Sender, a: &mut [u8], h: Heard, r: ConnAck) -> Left
-    ensures { λ q. ⌜ (q, now (a .exit)) ≡ answerNumber (receiveOf p s (now (a .entry)) h (R.ConnAck r) []) ⌝ }
+pub fn connect(p: Profile, t: Station, a: &mut [u8], h: Heard, r: ConnAck) -> Left
+    ensures { λ q. ⌜ (q, now (a .exit)) ≡ answerNumber (receiveOf p t (now (a .entry)) h (R.ConnAck r) []) ⌝ }
 {
     let none: [u8; 1] = [0];
-    reply(p, s, a, h, Reply::ConnAck(r), &none[..0])
+    reply(p, t, a, h, Reply::ConnAck(r), &none[..0])
 }
 
-pub fn short_ack(p: Profile, s: Sender, a: &mut [u8], h: Heard, r: Ack) -> Left
-    ensures { λ q. ⌜ (q, now (a .exit)) ≡ answerNumber (receiveOf p s (now (a .entry)) h (R.Ack r) []) ⌝ }
+pub fn short_ack(p: Profile, t: Station, a: &mut [u8], h: Heard, r: Ack) -> Left
+    ensures { λ q. ⌜ (q, now (a .exit)) ≡ answerNumber (receiveOf p t (now (a .entry)) h (R.Ack r) []) ⌝ }
 {
     let none: [u8; 1] = [0];
-    reply(p, s, a, h, Reply::Ack(r), &none[..0])
+    reply(p, t, a, h, Reply::Ack(r), &none[..0])
 }
 
-pub fn long_ack(p: Profile, s: Sender, a: &mut [u8], h: Heard, r: LongAck, payload: &[u8]) -> Left
-    ensures { λ q. ⌜ (q, now (a .exit)) ≡ answerNumber (receiveOf p s (now (a .entry)) h (R.LongAck r) (now (payload .entry))) ⌝ }
+pub fn long_ack(p: Profile, t: Station, a: &mut [u8], h: Heard, r: LongAck, payload: &[u8]) -> Left
+    ensures { λ q. ⌜ (q, now (a .exit)) ≡ answerNumber (receiveOf p t (now (a .entry)) h (R.LongAck r) (now (payload .entry))) ⌝ }
 {
-    reply(p, s, a, h, Reply::LongAck(r), payload)
+    reply(p, t, a, h, Reply::LongAck(r), payload)
 }
 
-pub fn turn(p: Profile, s: Sender, a: &mut [u8], h: Heard, r: Turn) -> Left
-    ensures { λ q. ⌜ (q, now (a .exit)) ≡ answerNumber (receiveOf p s (now (a .entry)) h (R.Turn r) []) ⌝ }
+pub fn turn(p: Profile, t: Station, a: &mut [u8], h: Heard, r: Turn) -> Left
+    ensures { λ q. ⌜ (q, now (a .exit)) ≡ answerNumber (receiveOf p t (now (a .entry)) h (R.Turn r) []) ⌝ }
 {
     let none: [u8; 1] = [0];
-    reply(p, s, a, h, Reply::Turn(r), &none[..0])
+    reply(p, t, a, h, Reply::Turn(r), &none[..0])
 }
 
-pub fn data_burst(p: Profile, s: Sender, a: &mut [u8], out: &mut [u8]) -> LeftBurst
-    ensures { λ r. ⌜ (r, (now (a .exit), now (out .exit))) ≡ burstNumber (burstCall p s (now (a .entry)) (now (out .entry))) ⌝ }
+pub fn data_burst(p: Profile, t: Station, a: &mut [u8], out: &mut [u8]) -> LeftBurst
+    ensures { λ r. ⌜ (r, (now (a .exit), now (out .exit))) ≡ burstNumber (burstCall p t (now (a .entry)) (now (out .entry))) ⌝ }
 {
-    let q = sender::data_burst(p, s, a, out);
+    let q = sender::data_burst(p, t, a, out);
     let v = q.verdict;
     let refusal = number(v);
     let outgoing = q.outgoing;
@@ -102,10 +109,10 @@ pub fn data_burst(p: Profile, s: Sender, a: &mut [u8], out: &mut [u8]) -> LeftBu
     LeftBurst { burst, next }
 }
 
-pub fn find(p: Profile, s: Sender, a: &[u8], off: u32) -> Place
-    ensures { λ r. ⌜ r ≡ findNumber (findOf p s (now (a .entry)) off) ⌝ }
+pub fn find(p: Profile, t: Station, a: &[u8], off: u32) -> Place
+    ensures { λ r. ⌜ r ≡ findNumber (findOf p t (now (a .entry)) off) ⌝ }
 {
-    let q = sender::find(p, s, a, off);
+    let q = sender::find(p, t, a, off);
     let v = q.verdict;
     let refusal = number(v);
     let f = q.found;

@@ -8,12 +8,12 @@ use Rattle.laws.specs.Tests.{all}
 use Rattle.ieee.specs.Range.{w32, w64, inside}
 use Rattle.replies.specs.declared.Heard.{Heard}
 use Rattle.refusals.specs.declared.Verdict.{Verdict}
-use Rattle.refusals.specs.declared.Verdict.the-variants.{Accepted, ProfileOutOfRange, ShortOverLong, Unsound, OutOfTurn, BadTime, BadValue, ShortPayload, QueueFull, AllTaken, ShortOutput}
+use Rattle.refusals.specs.declared.Verdict.the-variants.{Accepted, ProfileOutOfRange, ShortOverLong, Unsound, OutOfTurn, BadTime, BadValue, ShortPayload, QueueFull, AllTaken, ShortOutput, BadClass, TooManyMessages}
 use Rattle.refusals.specs.declared.Reply.{Reply}
 use Rattle.refusals.specs.declared.Reply.the-variants.{ConnAck, Ack, LongAck, Turn}
 use Rattle.limits.specs.Limits.{maxNumber, tinyAll}
 
--- document 01's number of each: 0 where the call is accepted
+-- the papers' number of each: 0 where the call is accepted
 abbrev pub numberOf : Verdict → ℕ
 numberOf Accepted = 0
 numberOf ProfileOutOfRange = 1
@@ -26,6 +26,8 @@ numberOf ShortPayload = 7
 numberOf QueueFull = 8
 numberOf AllTaken = 9
 numberOf ShortOutput = 10
+numberOf BadClass = 11
+numberOf TooManyMessages = 12
 
 -- 5: "The time isn't within 0 to 10^9 or is earlier than the last accepted one (equal is fine)"
 unfoldable pub timeOk : Float → Float → Bool

@@ -1,4 +1,4 @@
-// What a refusal is: document 01's numbers, and the values that a reply may carry. No function requires anything.
+// What a refusal is: the papers' numbers, and the values that a reply may carry. No function requires anything.
 use replies::Ack;
 use replies::ConnAck;
 use replies::Heard;
@@ -7,7 +7,7 @@ use replies::Turn;
 ghost use mathlib.Core.Path.{_≡_};
 ghost use Rattle.refusals.specs.Refusals.{numberOf, kindOf, timeOk, reportOk, heardOk, replyOk};
 
-// What becomes of a call: document 01's refusals 1 to 10, each by its name.
+// What becomes of a call: the papers' refusals, each by its name: document 01's 1 to 10, and 11 and 12 of document 02.
 pub enum Verdict {
     Accepted,
     ProfileOutOfRange,
@@ -20,6 +20,8 @@ pub enum Verdict {
     QueueFull,
     AllTaken,
     ShortOutput,
+    BadClass,
+    TooManyMessages,
 }
 
 // A reply. A long ack's payload travels beside it.
@@ -30,7 +32,7 @@ pub enum Reply {
     Turn(Turn),
 }
 
-// Document 01's number: 0 where the call is accepted.
+// The papers' number: 0 where the call is accepted.
 pub fn number(v: Verdict) -> u8
     ensures { λ r. ⌜ r ≡ numberOf v ⌝ }
 {
@@ -46,6 +48,8 @@ pub fn number(v: Verdict) -> u8
         Verdict::QueueFull => 8,
         Verdict::AllTaken => 9,
         Verdict::ShortOutput => 10,
+        Verdict::BadClass => 11,
+        Verdict::TooManyMessages => 12,
     }
 }
 

@@ -13,6 +13,8 @@ use call_lines::names::OUT;
 use call_lines::range_words;
 use config::Profile;
 use list_calls::answers::say;
+use messages::Messages;
+use queuing::Station;
 use reachable::levels_under;
 use record::Sender;
 use words::Input;
@@ -24,7 +26,7 @@ use words::whole;
 // Bytes that a line can have as HEX: its 65,536 characters have no more pairs.
 const BYTES: usize = 32768;
 
-// The run so far, but for the sender: the input, what is lent of the work area and of the output, and what is used of the text's buffer;
+// The run so far, but for the record: the input, what is lent of the work area and of the output, and what is used of the text's buffer;
 // `stage` counts the profile's lines read, `ok` is false after a line that breaks the rules.
 pub struct Run {
     pub input: Input,
@@ -35,10 +37,10 @@ pub struct Run {
     pub text: usize,
 }
 
-// The run and its sender.
+// The run and its record.
 pub struct Step {
     pub run: Run,
-    pub s: Sender,
+    pub s: Station,
 }
 
 pub(crate) fn failed(mut run: Run) -> Run {
@@ -63,7 +65,7 @@ pub(crate) fn asked(
     n: Named,
     line: &[u8],
     run: Run,
-    s: Sender,
+    s: Station,
     area: &mut [u8],
     t: &mut [u8],
     v: &[u64; 147],
@@ -154,6 +156,15 @@ pub(crate) fn show(
     }
     let burst_s = s.gear.burst_seconds(usual);
     let n = state_lines::state(t, run.text, burst_s, s, area);
+    with_text(run, n)
+}
+
+// The messages that wait.
+pub(crate) fn list(line: &[u8], r: Read, run: Run, m: Messages, t: &mut [u8]) -> Run {
+    if !done(line, r) {
+        return failed(run);
+    }
+    let n = state_lines::queue::messages(t, run.text, m);
     with_text(run, n)
 }
 

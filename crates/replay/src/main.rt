@@ -7,6 +7,7 @@ use buffer::flush;
 use buffer::room;
 use byte_copy::least;
 use call_lines::names::LEVELS;
+use call_lines::names::MESSAGES;
 use call_lines::names::NO_CALL;
 use call_lines::names::Named;
 use call_lines::names::PIECE;
@@ -21,8 +22,8 @@ use limits::AREA_BYTES;
 use profile_table::LINES;
 use profile_table::listed::profile_line;
 use profile_table::profile_of;
+use queuing::Station;
 use record::Counts;
-use record::Sender;
 use sender::fresh;
 use words::Input;
 use words::done;
@@ -84,14 +85,17 @@ fn look(
     n: Named,
     line: &[u8],
     run: Run,
-    s: Sender,
+    s: Station,
     area: &[u8],
     t: &mut [u8],
     v: &[u64; 147],
 ) -> Run {
     if n.call == STATE {
         let usual = profile_of(v).lengths.max_burst_s;
-        return calls::show(line, n.read, run, usual, s, area, t);
+        return calls::show(line, n.read, run, usual, s.sender, area, t);
+    }
+    if n.call == MESSAGES {
+        return calls::list(line, n.read, run, s.messages, t);
     }
     if n.call == LEVELS {
         return calls::levels(line, n.read, run, profile_of(v), t);
@@ -99,7 +103,7 @@ fn look(
     calls::aside(n, line, run, t)
 }
 
-fn call(line: &[u8], run: Run, s: Sender, area: &mut [u8], t: &mut [u8], v: &[u64; 147]) -> Step {
+fn call(line: &[u8], run: Run, s: Station, area: &mut [u8], t: &mut [u8], v: &[u64; 147]) -> Step {
     let n = call_of(line);
     if (n.call == NO_CALL) | (n.call > PIECE) {
         let run = look(n, line, run, s, area, t, v);
@@ -144,11 +148,11 @@ fn no_call(
     failed(run)
 }
 
-// One line. The sender is fresh from `profile` to the end of the profile.
+// One line. The record is fresh from `profile` to the end of the profile.
 fn step(
     line: &[u8],
     run: Run,
-    s: Sender,
+    s: Station,
     area: &mut [u8],
     t: &mut [u8],
     v: &mut [u64; 147],
@@ -156,7 +160,7 @@ fn step(
     if is_call(line, run) {
         return call(line, run, s, area, t, v);
     }
-    let run = no_call(line, run, s.counts, area, t, v);
+    let run = no_call(line, run, s.sender.counts, area, t, v);
     if run.stage < LINES {
         return Step { run, s: fresh() };
     }
@@ -177,7 +181,7 @@ fn last_line(run: Run, c: Counts, n: u64, t: &mut [u8]) -> usize {
 
 fn finish(q: Step, n: u64, t: &mut [u8]) {
     let s = q.s;
-    let k = last_line(q.run, s.counts, n, t);
+    let k = last_line(q.run, s.sender.counts, n, t);
     flush(t, k);
 }
 

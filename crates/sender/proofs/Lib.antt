@@ -1,4 +1,3 @@
-pub mod Queuing
 pub mod Answered
 pub mod Bursting
 pub mod Refused

@@ -1,7 +1,7 @@
 -- A REFUSED CALL CHANGES NOTHING: record, work area and output are what they were. And no call, refused or not, changes a byte of the work area past its 49,152.
 -- Assumes nothing.
 use mathlib.Core.Path.{_≡_, refl, sym, ap, _∙_}
-use mathlib.Core.List.{List, _++_}
+use mathlib.Core.List.{List, [], _∷_, _++_}
 use mathlib.Core.Bool.{Bool, true, false}
 use Prim.Native.Nat.{ℕ, _+_, _≤_}
 use native.Mathlib.Omega.{arith}
@@ -9,7 +9,7 @@ use lib.Dec.{eqb}
 use lib.Ieee.{Float}
 use lib.ListN.{length, drop, length-append, length-map, length-take}
 use Rattle.laws.specs.Bytes.{overwrite, part}
-use Rattle.laws.proofs.Bytes.{drop-over}
+use Rattle.laws.proofs.Bytes.{drop-over, length-part}
 use Rattle.laws.proofs.Picks.{by, either}
 use Rattle.harq.specs.Held.{hMax}
 use Rattle.report.specs.Ack.{ackOf}
@@ -25,8 +25,8 @@ use Rattle.ledger.specs.Plan.{planOf}
 use Rattle.ledger.specs.Sizes.{Sizes}
 use Rattle.ledger.specs.SizesCode.{SizeRange}
 use Rattle.ledger.specs.Sound.{Sound}
-use Rattle.ledger.specs.CallsCode.{Move, Allowed, step, hears, turns, bursts}
-use Rattle.ledger.proofs.Kept.{step-sound}
+use Rattle.ledger.proofs.Burst.{burst-sound}
+use Rattle.ledger.proofs.Kept.{ack-sound, clear-sound, queue-sound}
 use Rattle.ledger.proofs.Planned.{planned-fits}
 use Rattle.ledger.proofs.ShortFrames.{pieces-shortFrames}
 use Rattle.ledger.proofs.Stream.{length-bytesOf}
@@ -34,10 +34,20 @@ use Rattle.area.specs.Layout.{areaBytes, place, streamBytes}
 use Rattle.area.specs.Table.{rowsFrom, tableBytes}
 use Rattle.area.specs.declared.table.Row.{Row}
 use Rattle.area.proofs.table.Laws.{length-table, length-rows}
-use Rattle.area.proofs.room.Laws.{stream-holds}
+use Rattle.area.specs.Room.{queueRefusal}
+use Rattle.area.proofs.room.Laws.{stream-holds, queue-allowed}
 use Rattle.pieces.proofs.Sound.{size-rows, length-pieces}
 use Rattle.record.specs.Profiles.{sizesOf}
 use Rattle.record.specs.View.{view, rowsOf, store, storeArea}
+use Rattle.ledger.specs.Queue.{goes, enqueue}
+use Rattle.ledger.specs.Station.{takeIn}
+use Rattle.ledger.proofs.Queue.{length-enqueue}
+use Rattle.messages.specs.Messages.{queueIn}
+use Rattle.messages.proofs.Link.{shown}
+use Rattle.messages.proofs.Kept.{ok-sound}
+use Rattle.queuing.specs.Station.{viewStation, queuedIn}
+use Rattle.queuing.specs.declared.Station.{Station}
+use Rattle.soundness.specs.SoundnessCode.{SoundRecord}
 use Rattle.record.specs.declared.Sender.{Sender}
 use Rattle.record.proofs.View.{Arrays}
 use Rattle.soundness.specs.Soundness.{soundOk}
@@ -52,7 +62,7 @@ use Rattle.outgoing.specs.Choosing.{choice}
 use Rattle.outgoing.specs.Outgoing.{burstOf}
 use Rattle.outgoing.proofs.Choices.{choice-ranged}
 use Rattle.verdicts.specs.Verdicts.{passed, queueVerdict, receiveVerdict, burstVerdict}
-use Rattle.verdicts.proofs.Passed.{queue-passed, queue-room, receive-three, burst-passed}
+use Rattle.verdicts.proofs.Passed.{queue-passed, receive-three, burst-passed}
 use Rattle.receive.specs.Accepted.{longRead, acceptedReply}
 use Rattle.sender.specs.declared.Answer.{Answer}
 use Rattle.sender.specs.declared.Bursted.{Bursted}
@@ -63,33 +73,33 @@ use Rattle.limits.specs.Limits.{maxPieces}
 
 -- ---- the verdict that comes back
 
-module _ (p : Profile) (s : Sender) (a : List ℕ) where
-  pub queue-verdict : (bs : List ℕ) → queueOf p s a bs .0 .verdict ≡ queueVerdict p s a (length bs)
+module _ (p : Profile) (t : Station) (a : List ℕ) where
+  pub queue-verdict : (class : ℕ) (bs : List ℕ) → queueOf p t a class bs .0 .verdict ≡ queueVerdict p t a class (length bs)
   unfolding queueOf
-  queue-verdict bs = let v = queueVerdict p s a (length bs) in either (λ (x : Answer × List ℕ). x .0 .verdict ≡ v) (passed v) _ _ refl refl
+  queue-verdict class bs = let v = queueVerdict p t a class (length bs) in either (λ (x : Answer × List ℕ). x .0 .verdict ≡ v) (passed v) _ _ refl refl
 
-  pub receive-verdict : (h : Heard) (r : Reply) (payload : List ℕ) → receiveOf p s a h r payload .0 .verdict ≡ receiveVerdict p s a h r (length payload)
+  pub receive-verdict : (h : Heard) (r : Reply) (payload : List ℕ) → receiveOf p t a h r payload .0 .verdict ≡ receiveVerdict p t a h r (length payload)
   unfolding receiveOf
-  receive-verdict h r payload = let v = receiveVerdict p s a h r (length payload) in either (λ (x : Answer × List ℕ). x .0 .verdict ≡ v) (passed v) _ _ refl refl
+  receive-verdict h r payload = let v = receiveVerdict p t a h r (length payload) in either (λ (x : Answer × List ℕ). x .0 .verdict ≡ v) (passed v) _ _ refl refl
 
-  pub burst-verdict : (out : List ℕ) → burstCall p s a out .0 .verdict ≡ burstVerdict p s a (length out)
+  pub burst-verdict : (out : List ℕ) → burstCall p t a out .0 .verdict ≡ burstVerdict p t a (length out)
   unfolding burstCall
-  burst-verdict out = let v = burstVerdict p s a (length out) in either (λ (x : Bursted × (List ℕ × List ℕ)). x .0 .verdict ≡ v) (passed v) _ _ refl refl
+  burst-verdict out = let v = burstVerdict p t a (length out) in either (λ (x : Bursted × (List ℕ × List ℕ)). x .0 .verdict ≡ v) (passed v) _ _ refl refl
 
 -- ---- refused
 
-module _ (p : Profile) (s : Sender) (a : List ℕ) where
-  pub queue-keeps : (bs : List ℕ) → passed (queueVerdict p s a (length bs)) ≡ false
-      → queueOf p s a bs ≡ (record { verdict = queueVerdict p s a (length bs); next = s }, a)
-  queue-keeps bs e = sym (queue-refused p s a bs (queueVerdict p s a (length bs)) refl e)
+module _ (p : Profile) (t : Station) (a : List ℕ) where
+  pub queue-keeps : (class : ℕ) (bs : List ℕ) → passed (queueVerdict p t a class (length bs)) ≡ false
+      → queueOf p t a class bs ≡ (record { verdict = queueVerdict p t a class (length bs); next = t }, a)
+  queue-keeps class bs e = sym (queue-refused p t a class bs (queueVerdict p t a class (length bs)) refl e)
 
-  pub receive-keeps : (h : Heard) (r : Reply) (payload : List ℕ) → passed (receiveVerdict p s a h r (length payload)) ≡ false
-      → receiveOf p s a h r payload ≡ (record { verdict = receiveVerdict p s a h r (length payload); next = s }, a)
-  receive-keeps h r payload e = sym (receive-refused p s a h r payload (receiveVerdict p s a h r (length payload)) refl e)
+  pub receive-keeps : (h : Heard) (r : Reply) (payload : List ℕ) → passed (receiveVerdict p t a h r (length payload)) ≡ false
+      → receiveOf p t a h r payload ≡ (record { verdict = receiveVerdict p t a h r (length payload); next = t }, a)
+  receive-keeps h r payload e = sym (receive-refused p t a h r payload (receiveVerdict p t a h r (length payload)) refl e)
 
-  pub burst-keeps : (out : List ℕ) → passed (burstVerdict p s a (length out)) ≡ false
-      → burstCall p s a out ≡ (record { verdict = burstVerdict p s a (length out); outgoing = noBurst; next = s }, (a, out))
-  burst-keeps out e = sym (burst-refused p s a out (burstVerdict p s a (length out)) noBurst refl refl e)
+  pub burst-keeps : (out : List ℕ) → passed (burstVerdict p t a (length out)) ≡ false
+      → burstCall p t a out ≡ (record { verdict = burstVerdict p t a (length out); outgoing = noBurst; next = t }, (a, out))
+  burst-keeps out e = sym (burst-refused p t a out (burstVerdict p t a (length out)) noBurst refl refl e)
 
 -- ---- the work area past its bytes
 
@@ -109,6 +119,10 @@ module _ (a : List ℕ) where
       past l (omega (arith, pieces-shortFrames (z .short) (omega (arith, zr .least)) (z .long) 0 (l .next) (l .pieces) (so .ascend), so .shorts))
       (omega (arith, so .bytes, so .waitingFew, stream-holds))
 
+waiting-length : (p : Profile) (s : Sender) (a : List ℕ) → SoundRecord p s a → length (view s a .waiting) ≡ s .counts .waiting
+unfolding view
+waiting-length p s a so = let c = sound-counted p s a so in length-part a (s .counts .flying) (s .counts .waiting) (omega (arith, c .stream, c .area))
+
 -- an accepted reply or burst
 module _ (p : Profile) (s : Sender) (a : List ℕ) (ar : Arrays s) (one : inRange p ≡ true) (two : inOrder p ≡ true) (three : soundOk p s a ≡ true) where
   abbrev z : Sizes
@@ -117,16 +131,14 @@ module _ (p : Profile) (s : Sender) (a : List ℕ) (ar : Arrays s) (one : inRang
   ledger : Sound z (view s a)
   ledger = test-sound p s a ar three .ledger
 
-  move-past : (c : Move) → Allowed z c (view s a) → drop areaBytes (storeArea (step z c (view s a)) a) ≡ drop areaBytes a
-  move-past c al =
-      let zr = profile-sizes p (ranged p one) two in
-      sound-past a z zr (step z c (view s a)) (step-sound z zr c (view s a) al ledger)
+  zr : SizeRange z
+  zr = profile-sizes p (ranged p one) two
 
   -- an ack, once it is noted
   ack-past : (r : B.Reply) (stored : Bool) (snr now : Float) (q : Sender) → view q a ≡ view s a → drop areaBytes (ackIn p r stored snr now q a .1) ≡ drop areaBytes a
   unfolding ackIn
   ack-past r stored snr now q e =
-      ap (λ (l : L.Sender). drop areaBytes (storeArea (L.hearAck (hMax (p .codes)) r (keeps p (q .gear) stored) l) a)) e ∙ move-past (hears r (keeps p (q .gear) stored)) tt
+      ap (λ (l : L.Sender). drop areaBytes (storeArea (L.hearAck (hMax (p .codes)) r (keeps p (q .gear) stored) l) a)) e ∙ sound-past a z zr _ (ack-sound z r (keeps p (q .gear) stored) (view s a) ledger)
 
   abbrev Past : Sender × List ℕ → Type 0
   Past x = drop areaBytes (x .1) ≡ drop areaBytes a
@@ -141,40 +153,48 @@ module _ (p : Profile) (s : Sender) (a : List ℕ) (ar : Arrays s) (one : inRang
   reply-past h (ConnAck r) payload = refl
   reply-past h (Ack r) payload = either Past (s .link .awaiting) _ _ (ack-past _ _ _ _ _ refl) refl
   reply-past h (LongAck r) payload = long-past h r (ackOf payload)
-  reply-past h (Turn r) payload = move-past turns tt
+  reply-past h (Turn r) payload = sound-past a z zr _ (clear-sound z (view s a) ledger)
 
   sent-past : length (p .codes .ends) ≤ 6 → (out : List ℕ) → drop areaBytes (burstOf p s a out .1 .0) ≡ drop areaBytes a
   unfolding burstOf
   sent-past six out =
       let fits = planned-fits z (choice p s) (view s a) ledger (choice-ranged p (ranged p one) s (sound-level p s a (test-sound p s a ar three)) six) in
-      move-past (bursts (planOf z (choice p s) (view s a))) fits
+      sound-past a z zr _ (burst-sound z zr (view s a) (planOf z (choice p s) (view s a)) ledger fits)
 
 -- of each call, refused or not: `Arrays`, and six rate ends, are what the types say
-module _ (p : Profile) (s : Sender) (a : List ℕ) (ar : Arrays s) where
-  pub queue-past : (bs : List ℕ) → drop areaBytes (queueOf p s a bs .1) ≡ drop areaBytes a
-  unfolding queueOf view L.queue
-  queue-past bs =
-      let f = s .counts .flying in
-      let w = s .counts .waiting in
-      let rows = rowsFrom a 0 (s .counts .pieces) in
-      by (λ (x : Answer × List ℕ). drop areaBytes (x .1) ≡ drop areaBytes a) (passed (queueVerdict p s a (length bs)))
-      (λ e.
-      let c = sound-counted p s a (test-sound p s a ar (queue-passed p s a (length bs) e .1)) in
-      let n = size-rows rows a (omega (arith, c .flying, c .stream, c .area)) in
-      past a (L.queue bs (view s a)) (omega (arith, length-pieces rows a, length-rows a 0 (s .counts .pieces), c .pieces))
-      (omega (arith, n, c .flying, length-append (part a f w) bs, length-take w (drop f a), queue-room p s a (length bs) e .0)))
-      (λ e. refl)
+module _ (p : Profile) (t : Station) (a : List ℕ) (ar : Arrays (t .sender)) where
+  abbrev s : Sender
+  s = t .sender
 
-  pub receive-past : (h : Heard) (r : Reply) (payload : List ℕ) → drop areaBytes (receiveOf p s a h r payload .1) ≡ drop areaBytes a
+  -- an accepted queuing
+  queued-past : (class : ℕ) (bs : List ℕ) → passed (queueVerdict p t a class (length bs)) ≡ true → drop areaBytes (queuedIn class bs t a .1) ≡ drop areaBytes a
+  unfolding queuedIn takeIn viewStation view
+  queued-past class [] e = refl
+  queued-past class (b ∷ bs) e =
+      let q = queue-passed p t a class (length (b ∷ bs)) e in
+      let so = test-sound p s a ar (q .sound) in
+      let w = view s a .waiting in
+      let n : length w ≡ s .counts .waiting = waiting-length p s a so in
+      let h : length (goes (enqueue class (b ∷ bs) (queueIn (t .messages) w))) ≡ length w + length (b ∷ bs) =
+      length-enqueue class (queueIn (t .messages) w) (b ∷ bs) ∙ ap (λ (v : List ℕ). length v + length (b ∷ bs)) (shown (t .messages) w (ok-sound _ _ (q .listed) .sum ∙ sym n)) in
+      let al = queue-allowed (sizesOf p) (view s a) class (b ∷ bs) (ap (λ (m : ℕ). queueRefusal m (s .counts .«next_offset» + m) (length (b ∷ bs))) n ∙ q .room) in
+      sound-past a (sizesOf p) (profile-sizes p (ranged p (q .one)) (q .two)) _ (queue-sound (sizesOf p) class (b ∷ bs) _ (view s a) al h (so .ledger))
+
+  pub queue-past : (class : ℕ) (bs : List ℕ) → drop areaBytes (queueOf p t a class bs .1) ≡ drop areaBytes a
+  unfolding queueOf
+  queue-past class bs =
+      by (λ (x : Answer × List ℕ). drop areaBytes (x .1) ≡ drop areaBytes a) (passed (queueVerdict p t a class (length bs))) (queued-past class bs) (λ e. refl)
+
+  pub receive-past : (h : Heard) (r : Reply) (payload : List ℕ) → drop areaBytes (receiveOf p t a h r payload .1) ≡ drop areaBytes a
   unfolding receiveOf
   receive-past h r payload =
-      by (λ (x : Answer × List ℕ). drop areaBytes (x .1) ≡ drop areaBytes a) (passed (receiveVerdict p s a h r (length payload)))
-      (λ e. let ok = receive-three p s a h r (length payload) e in reply-past p s a ar (ok .0) (ok .1) (ok .2) h r payload)
+      by (λ (x : Answer × List ℕ). drop areaBytes (x .1) ≡ drop areaBytes a) (passed (receiveVerdict p t a h r (length payload)))
+      (λ e. let ok = receive-three p t a h r (length payload) e in reply-past p s a ar (ok .0) (ok .1) (ok .2) h r payload)
       (λ e. refl)
 
-  pub burst-past : length (p .codes .ends) ≤ 6 → (out : List ℕ) → drop areaBytes (burstCall p s a out .1 .0) ≡ drop areaBytes a
+  pub burst-past : length (p .codes .ends) ≤ 6 → (out : List ℕ) → drop areaBytes (burstCall p t a out .1 .0) ≡ drop areaBytes a
   unfolding burstCall
   burst-past six out =
-      by (λ (x : Bursted × (List ℕ × List ℕ)). drop areaBytes (x .1 .0) ≡ drop areaBytes a) (passed (burstVerdict p s a (length out)))
-      (λ e. let ok = burst-passed p s a (length out) e in sent-past p s a ar (ok .0) (ok .1) (ok .2) six out)
+      by (λ (x : Bursted × (List ℕ × List ℕ)). drop areaBytes (x .1 .0) ≡ drop areaBytes a) (passed (burstVerdict p t a (length out)))
+      (λ e. let ok = burst-passed p t a (length out) e in sent-past p s a ar (ok .0) (ok .1) (ok .2) six out)
       (λ e. refl)

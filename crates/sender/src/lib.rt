@@ -1,12 +1,13 @@
-// The sender's calls (sender.rs), with document 01's refusals. No call requires anything.
+// The station's calls (sender.rs; the queue of messages: document 02, Change 1), with the papers' refusals. No call requires anything.
 use area::lookup::Found;
-use byte_copy::copy_in;
 use config::Profile;
 use limits::MAX_SLOTS;
+use messages::fly;
 use outgoing::Frames;
 use outgoing::Outgoing;
+use queuing::Station;
+use queuing::enqueue;
 use receive::accepted::answer;
-use record::Sender;
 use refusals::Reply;
 use refusals::Verdict;
 use refusals::kind;
@@ -17,19 +18,19 @@ use verdicts::queue_verdict;
 use verdicts::receive_verdict;
 use verdicts::standing;
 ghost use mathlib.Core.Path.{_≡_};
-ghost use Rattle.record.specs.Fresh.{fresh};
+ghost use Rattle.queuing.specs.Station.{freshStation};
 ghost use Rattle.sender.specs.Calls.{queueOf, receiveOf, findOf, pieceOf, noBurst, burstCall};
 
 // What a queuing or a reply answers, and the next record.
 pub struct Answer {
     pub verdict: Verdict,
-    pub next: Sender,
+    pub next: Station,
 }
 
 pub struct Bursted {
     pub verdict: Verdict,
     pub outgoing: Outgoing,
-    pub next: Sender,
+    pub next: Station,
 }
 
 pub struct Finding {
@@ -37,55 +38,56 @@ pub struct Finding {
     pub found: Found,
 }
 
-pub fn fresh() -> Sender
-    ensures { λ r. ⌜ r ≡ fresh ⌝ }
+pub fn fresh() -> Station
+    ensures { λ r. ⌜ r ≡ freshStation ⌝ }
 {
-    record::fresh()
+    queuing::fresh()
 }
 
-// Bytes to send.
-pub fn queue(p: Profile, s: Sender, a: &mut [u8], bytes: &[u8]) -> Answer
-    ensures { λ r. ⌜ (r, now (a .exit)) ≡ queueOf p s (now (a .entry)) (now (bytes .entry)) ⌝ }
+// Bytes to send, as one message of this class.
+pub fn queue(p: Profile, t: Station, a: &mut [u8], class: u8, bytes: &[u8]) -> Answer
+    ensures { λ r. ⌜ (r, now (a .exit)) ≡ queueOf p t (now (a .entry)) class (now (bytes .entry)) ⌝ }
 {
     let n = bytes.len();
-    let c = s.counts;
-    let v = queue_verdict(standing(p, s, a, false), c, n);
+    let c = t.sender.counts;
+    let m = t.messages.n;
+    let v = queue_verdict(standing(p, t, a, false), c, m, class, n);
     if number(v) != 0 {
         return Answer {
             verdict: v,
-            next: s,
+            next: t,
         };
     }
-    let at = c.flying as usize + c.waiting as usize;
-    copy_in(a, at, bytes);
-    let w = c.waiting + n as u32;
-    let mut next = s;
-    next.counts.waiting = w;
+    let next = enqueue(t, a, class, bytes);
     Answer { verdict: v, next }
 }
 
-// A reply, and a long ack's payload.
-pub fn sender_rx(p: Profile, s: Sender, a: &mut [u8], h: Heard, r: Reply, payload: &[u8]) -> Answer
-    ensures { λ q. ⌜ (q, now (a .exit)) ≡ receiveOf p s (now (a .entry)) h r (now (payload .entry)) ⌝ }
+// A reply, and a long ack's payload. The messages stay.
+pub fn sender_rx(p: Profile, t: Station, a: &mut [u8], h: Heard, r: Reply, payload: &[u8]) -> Answer
+    ensures { λ q. ⌜ (q, now (a .exit)) ≡ receiveOf p t (now (a .entry)) h r (now (payload .entry)) ⌝ }
 {
     let n = payload.len();
-    let last = s.link.last_time;
-    let v = receive_verdict(standing(p, s, a, kind(r) == 0), last, h, r, n);
+    let last = t.sender.link.last_time;
+    let v = receive_verdict(standing(p, t, a, kind(r) == 0), last, h, r, n);
     if number(v) != 0 {
         return Answer {
             verdict: v,
-            next: s,
+            next: t,
         };
     }
-    let next = answer(p, s, a, h, r, payload);
-    Answer { verdict: v, next }
+    let sender = answer(p, t.sender, a, h, r, payload);
+    let messages = t.messages;
+    Answer {
+        verdict: v,
+        next: Station { sender, messages },
+    }
 }
 
 // Where the bytes of the piece at `off` lie in the work area.
-pub fn find(p: Profile, s: Sender, a: &[u8], off: u32) -> Finding
-    ensures { λ r. ⌜ r ≡ findOf p s (now (a .entry)) off ⌝ }
+pub fn find(p: Profile, t: Station, a: &[u8], off: u32) -> Finding
+    ensures { λ r. ⌜ r ≡ findOf p t (now (a .entry)) off ⌝ }
 {
-    let v = standing(p, s, a, false);
+    let v = standing(p, t, a, false);
     let nowhere = Found {
         here: false,
         start: 0,
@@ -97,20 +99,20 @@ pub fn find(p: Profile, s: Sender, a: &[u8], off: u32) -> Finding
             found: nowhere,
         };
     }
-    let n = s.counts.pieces;
+    let n = t.sender.counts.pieces;
     let found = area::lookup::find(a, n, off);
     Finding { verdict: v, found }
 }
 
 // The bytes of the piece at `off`: the part of the work area that holds them. Empty where refused or not found.
-pub fn piece(p: Profile, s: Sender, a: &[u8], off: u32) -> &[u8]
-    ensures { λ b. ⌜ now b ≡ pieceOf p s (now (a .entry)) off ⌝ }
+pub fn piece(p: Profile, t: Station, a: &[u8], off: u32) -> &[u8]
+    ensures { λ b. ⌜ now b ≡ pieceOf p t (now (a .entry)) off ⌝ }
 {
-    let v = standing(p, s, a, false);
+    let v = standing(p, t, a, false);
     if number(v) != 0 {
         return &a[..0];
     }
-    let n = s.counts.pieces;
+    let n = t.sender.counts.pieces;
     area::lookup::piece(a, n, off)
 }
 
@@ -135,26 +137,28 @@ fn no_burst() -> Outgoing
     }
 }
 
-// data_burst: the next burst. Its frames stand in the output back to back.
-pub fn data_burst(p: Profile, s: Sender, a: &mut [u8], out: &mut [u8]) -> Bursted
-    ensures { λ r. ⌜ (r, (now (a .exit), now (out .exit))) ≡ burstCall p s (now (a .entry)) (now (out .entry)) ⌝ }
+// data_burst: the next burst. Its frames stand in the output back to back. The bytes that begin to fly leave their messages.
+pub fn data_burst(p: Profile, t: Station, a: &mut [u8], out: &mut [u8]) -> Bursted
+    ensures { λ r. ⌜ (r, (now (a .exit), now (out .exit))) ≡ burstCall p t (now (a .entry)) (now (out .entry)) ⌝ }
 {
     let n = out.len();
-    let v = burst_verdict(standing(p, s, a, false), p.long_bytes, n);
+    let v = burst_verdict(standing(p, t, a, false), p.long_bytes, n);
     if number(v) != 0 {
         let outgoing = no_burst();
         return Bursted {
             verdict: v,
             outgoing,
-            next: s,
+            next: t,
         };
     }
-    let b = data_burst::burst::data_burst(p, s, a, out);
+    let b = data_burst::burst::data_burst(p, t.sender, a, out);
+    let k = b.next.counts.next_offset - t.sender.counts.next_offset;
+    let messages = fly(t.messages, k);
     let outgoing = b.outgoing;
-    let next = b.next;
+    let sender = b.next;
     Bursted {
         verdict: v,
         outgoing,
-        next,
+        next: Station { sender, messages },
     }
 }

@@ -1,4 +1,4 @@
-// The lines of a transcript that tell the sender's state (docs/CALLS.md): those of `state`, and `end`. As in `transcript`, a lent buffer
+// The lines of a transcript that tell the sender's state (docs/CALLS.md): those of `state`, `messages` and `end`. As in `transcript`, a lent buffer
 // has n bytes that are used, and each function gives what is used then.
 use gear::Gear;
 use levels::memory::Reports;
@@ -26,6 +26,7 @@ ghost use Rattle.state_lines.specs.State.{tallyWords, endLine, stateLine
 ghost use Rattle.state_lines.specs.State.{countsLine, stateLines};
 
 mod lists;
+pub mod queue;
 
 // TAKEN WAITING FLYING ACKED.
 fn tally(t: &mut [u8], n: usize, c: Counts) -> usize

@@ -26,7 +26,7 @@ fn entry(t: &mut [u8], n: usize, a: u32, b: u32) -> usize
 }
 
 // The smaller of two.
-fn smaller(a: usize, b: usize) -> usize
+pub(crate) fn smaller(a: usize, b: usize) -> usize
     ensures { λ r. ⌜ r ≡ min a b ⌝ }
 {
     if a < b {
@@ -130,7 +130,7 @@ pub(crate) fn rest(t: &mut [u8], n: usize, h: AtPeer) -> usize
 }
 
 // N:N:N.
-fn long_entry(t: &mut [u8], n: usize, a: u32, b: u32, c: u32) -> usize
+pub(crate) fn long_entry(t: &mut [u8], n: usize, a: u32, b: u32, c: u32) -> usize
     ensures { λ r. ⌜ (r, now (t .exit)) ≡ appended (n, now (t .entry)) (entry a b ++ afterColon c) ⌝ }
 {
     let n = entry(t, n, a, b);

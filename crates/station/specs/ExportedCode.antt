@@ -2,8 +2,8 @@
 use mathlib.Core.Bool.{cond}
 use Prim.Native.Nat.{ℕ}
 use lib.Dec.{eqb}
-use Rattle.record.specs.declared.Sender.{Sender}
+use Rattle.queuing.specs.declared.Station.{Station}
 
--- the record after a call that got s and answers with this number and this next record
-abbrev pub kept : Sender → ℕ → Sender → Sender
-kept s refusal next = cond (eqb refusal 0) next s
+-- the record after a call that got t and answers with this number and this next record
+abbrev pub kept : Station → ℕ → Station → Station
+kept t refusal next = cond (eqb refusal 0) next t

@@ -4,9 +4,12 @@
 use adif::Logged;
 use config::Profile;
 use numbered::Burst;
+use numbered::Left;
+use numbered::LeftBurst;
+use numbered::Message;
 use numbered::Place;
+use queuing::Station;
 use reachable::Listing;
-use record::Sender;
 use replies::Ack;
 use replies::ConnAck;
 use replies::Heard;
@@ -15,7 +18,7 @@ use replies::Turn;
 use report::ChanClass;
 ghost use mathlib.Core.Path.{_≡_};
 ghost use mathlib.Core.List.{[]};
-ghost use Rattle.record.specs.Fresh.{fresh};
+ghost use Rattle.queuing.specs.Station.{freshStation};
 ghost use Rattle.sender.specs.Calls.{queueOf, receiveOf, findOf, pieceOf, burstCall};
 ghost use Rattle.refusals.specs.declared.Reply.the-variants as R;
 ghost use Rattle.numbered.specs.Numbered.{answerNumber, burstNumber, findNumber};
@@ -25,31 +28,52 @@ ghost use Rattle.station.specs.Exported.{left, leftBurst};
 ghost use Rattle.station.specs.ExportedCode.{kept};
 
 // Stores the next record, unless a number refuses the call: then nothing is written.
-fn keep(s: &mut Sender, refusal: u8, next: Sender)
-    ensures { λ _. ⌜ now (s .exit) ≡ kept (now (s .entry)) refusal next ⌝ }
+fn keep(t: &mut Station, refusal: u8, next: Station)
+    ensures { λ _. ⌜ now (t .exit) ≡ kept (now (t .entry)) refusal next ⌝ }
 {
     if refusal == 0 {
-        *s = next;
+        *t = next;
     }
 }
 
-// The record of a new sender.
-#[no_mangle]
-pub extern "C" fn vanitycrow_fresh(s: &mut Sender)
-    ensures { λ _. ⌜ now (s .exit) ≡ fresh ⌝ }
+// What a burst leaves, as of the other calls; and the burst.
+fn after_burst(q: LeftBurst) -> Left
+    ensures { λ r. ⌜ (r .refusal ≡ q .burst .refusal) × (r .next ≡ q .next) ⌝ }
 {
-    let f = record::fresh();
-    *s = f;
+    let refusal = q.burst.refusal;
+    let next = q.next;
+    Left { refusal, next }
 }
 
-// Bytes to send.
-#[no_mangle]
-pub extern "C" fn vanitycrow_queue(p: &Profile, s: &mut Sender, a: &mut [u8], bytes: &[u8]) -> u8
-    ensures { λ r. ⌜ (left r (now (s .exit)), now (a .exit))
-        ≡ answerNumber (queueOf (now (p .entry)) (now (s .entry)) (now (a .entry)) (now (bytes .entry))) ⌝ }
+fn made(q: LeftBurst) -> Burst
+    ensures { λ r. ⌜ r ≡ q .burst ⌝ }
 {
-    let q = numbered::queue(*p, *s, a, bytes);
-    keep(s, q.refusal, q.next);
+    q.burst
+}
+
+// The record of a new station.
+#[no_mangle]
+pub extern "C" fn vanitycrow_fresh(t: &mut Station)
+    ensures { λ _. ⌜ now (t .exit) ≡ freshStation ⌝ }
+{
+    let f = sender::fresh();
+    *t = f;
+}
+
+// Bytes to send, as one message.
+#[no_mangle]
+pub extern "C" fn vanitycrow_queue(
+    p: &Profile,
+    t: &mut Station,
+    a: &mut [u8],
+    m: Message,
+    bytes: &[u8],
+) -> u8
+    ensures { λ r. ⌜ (left r (now (t .exit)), now (a .exit))
+        ≡ answerNumber (queueOf (now (p .entry)) (now (t .entry)) (now (a .entry)) (m .class) (now (bytes .entry))) ⌝ }
+{
+    let q = numbered::queue(*p, *t, a, m, bytes);
+    keep(t, q.refusal, q.next);
     q.refusal
 }
 
@@ -57,16 +81,16 @@ pub extern "C" fn vanitycrow_queue(p: &Profile, s: &mut Sender, a: &mut [u8], by
 #[no_mangle]
 pub extern "C" fn vanitycrow_connect(
     p: &Profile,
-    s: &mut Sender,
+    t: &mut Station,
     a: &mut [u8],
     h: Heard,
     r: ConnAck,
 ) -> u8
-    ensures { λ q. ⌜ (left q (now (s .exit)), now (a .exit))
-        ≡ answerNumber (receiveOf (now (p .entry)) (now (s .entry)) (now (a .entry)) h (R.ConnAck r) []) ⌝ }
+    ensures { λ q. ⌜ (left q (now (t .exit)), now (a .exit))
+        ≡ answerNumber (receiveOf (now (p .entry)) (now (t .entry)) (now (a .entry)) h (R.ConnAck r) []) ⌝ }
 {
-    let q = numbered::connect(*p, *s, a, h, r);
-    keep(s, q.refusal, q.next);
+    let q = numbered::connect(*p, *t, a, h, r);
+    keep(t, q.refusal, q.next);
     q.refusal
 }
 
@@ -74,16 +98,16 @@ pub extern "C" fn vanitycrow_connect(
 #[no_mangle]
 pub extern "C" fn vanitycrow_short_ack(
     p: &Profile,
-    s: &mut Sender,
+    t: &mut Station,
     a: &mut [u8],
     h: Heard,
     r: Ack,
 ) -> u8
-    ensures { λ q. ⌜ (left q (now (s .exit)), now (a .exit))
-        ≡ answerNumber (receiveOf (now (p .entry)) (now (s .entry)) (now (a .entry)) h (R.Ack r) []) ⌝ }
+    ensures { λ q. ⌜ (left q (now (t .exit)), now (a .exit))
+        ≡ answerNumber (receiveOf (now (p .entry)) (now (t .entry)) (now (a .entry)) h (R.Ack r) []) ⌝ }
 {
-    let q = numbered::short_ack(*p, *s, a, h, r);
-    keep(s, q.refusal, q.next);
+    let q = numbered::short_ack(*p, *t, a, h, r);
+    keep(t, q.refusal, q.next);
     q.refusal
 }
 
@@ -91,17 +115,17 @@ pub extern "C" fn vanitycrow_short_ack(
 #[no_mangle]
 pub extern "C" fn vanitycrow_long_ack(
     p: &Profile,
-    s: &mut Sender,
+    t: &mut Station,
     a: &mut [u8],
     h: Heard,
     r: LongAck,
     payload: &[u8],
 ) -> u8
-    ensures { λ q. ⌜ (left q (now (s .exit)), now (a .exit))
-        ≡ answerNumber (receiveOf (now (p .entry)) (now (s .entry)) (now (a .entry)) h (R.LongAck r) (now (payload .entry))) ⌝ }
+    ensures { λ q. ⌜ (left q (now (t .exit)), now (a .exit))
+        ≡ answerNumber (receiveOf (now (p .entry)) (now (t .entry)) (now (a .entry)) h (R.LongAck r) (now (payload .entry))) ⌝ }
 {
-    let q = numbered::long_ack(*p, *s, a, h, r, payload);
-    keep(s, q.refusal, q.next);
+    let q = numbered::long_ack(*p, *t, a, h, r, payload);
+    keep(t, q.refusal, q.next);
     q.refusal
 }
 
@@ -109,16 +133,16 @@ pub extern "C" fn vanitycrow_long_ack(
 #[no_mangle]
 pub extern "C" fn vanitycrow_turn(
     p: &Profile,
-    s: &mut Sender,
+    t: &mut Station,
     a: &mut [u8],
     h: Heard,
     r: Turn,
 ) -> u8
-    ensures { λ q. ⌜ (left q (now (s .exit)), now (a .exit))
-        ≡ answerNumber (receiveOf (now (p .entry)) (now (s .entry)) (now (a .entry)) h (R.Turn r) []) ⌝ }
+    ensures { λ q. ⌜ (left q (now (t .exit)), now (a .exit))
+        ≡ answerNumber (receiveOf (now (p .entry)) (now (t .entry)) (now (a .entry)) h (R.Turn r) []) ⌝ }
 {
-    let q = numbered::turn(*p, *s, a, h, r);
-    keep(s, q.refusal, q.next);
+    let q = numbered::turn(*p, *t, a, h, r);
+    keep(t, q.refusal, q.next);
     q.refusal
 }
 
@@ -126,31 +150,32 @@ pub extern "C" fn vanitycrow_turn(
 #[no_mangle]
 pub extern "C" fn vanitycrow_data_burst(
     p: &Profile,
-    s: &mut Sender,
+    t: &mut Station,
     a: &mut [u8],
     out: &mut [u8],
 ) -> Burst
-    ensures { λ r. ⌜ (leftBurst r (now (s .exit)), (now (a .exit), now (out .exit)))
-        ≡ burstNumber (burstCall (now (p .entry)) (now (s .entry)) (now (a .entry)) (now (out .entry))) ⌝ }
+    ensures { λ r. ⌜ (leftBurst r (now (t .exit)), (now (a .exit), now (out .exit)))
+        ≡ burstNumber (burstCall (now (p .entry)) (now (t .entry)) (now (a .entry)) (now (out .entry))) ⌝ }
 {
-    let q = numbered::data_burst(*p, *s, a, out);
-    keep(s, q.burst.refusal, q.next);
-    q.burst
+    let q = numbered::data_burst(*p, *t, a, out);
+    let l = after_burst(q);
+    keep(t, l.refusal, l.next);
+    made(q)
 }
 
 // Where the bytes of the piece at `off` lie in the work area.
 #[no_mangle]
-pub extern "C" fn vanitycrow_find(p: &Profile, s: &Sender, a: &[u8], off: u32) -> Place
-    ensures { λ r. ⌜ r ≡ findNumber (findOf (now (p .entry)) (now (s .entry)) (now (a .entry)) off) ⌝ }
+pub extern "C" fn vanitycrow_find(p: &Profile, t: &Station, a: &[u8], off: u32) -> Place
+    ensures { λ r. ⌜ r ≡ findNumber (findOf (now (p .entry)) (now (t .entry)) (now (a .entry)) off) ⌝ }
 {
-    numbered::find(*p, *s, a, off)
+    numbered::find(*p, *t, a, off)
 }
 
 // The bytes of the piece at `off`: the part of the work area that holds them. Empty where refused or not found. No reference is handed to C.
-pub fn piece<'a>(p: &Profile, s: &Sender, a: &'a [u8], off: u32) -> &'a [u8]
-    ensures { λ b. ⌜ now b ≡ pieceOf (now (p .entry)) (now (s .entry)) (now (a .entry)) off ⌝ }
+pub fn piece<'a>(p: &Profile, t: &Station, a: &'a [u8], off: u32) -> &'a [u8]
+    ensures { λ b. ⌜ now b ≡ pieceOf (now (p .entry)) (now (t .entry)) (now (a .entry)) off ⌝ }
 {
-    sender::piece(*p, *s, a, off)
+    sender::piece(*p, *t, a, off)
 }
 
 // A finished link with `call`, from the second `on` to the second `off`, as one ADIF record at the start of the output.

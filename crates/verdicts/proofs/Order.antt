@@ -1,27 +1,28 @@
--- THE NUMBER THAT COMES BACK is that of the first reason that holds in the call's table (specs/Reasons.antt), and 0 where none does: both ways, document 01's order.
+-- THE NUMBER THAT COMES BACK is that of the first reason that holds in the call's table (specs/Reasons.antt), and 0 where none does: both ways, the papers' order.
 -- Assumes nothing.
 use mathlib.Core.Path.{_≡_, refl, sym, ap, subst, _∙_}
 use mathlib.Core.Logic.{_⊎_, inl, inr}
 use mathlib.Core.List.{List, [], _∷_, _++_}
 use mathlib.Core.Bool.{Bool, true, false, cond, not, _&&_, _||_, false≢true}
-use Prim.Native.Nat.{ℕ, _+_, _*_, _≤_}
+use Prim.Native.Nat.{ℕ, suc, _+_, _*_, _≤_}
 use native.Mathlib.Omega.{arith}
-use lib.Dec.{ltb, eqb, lit≤}
-use borrow.Author.Tests.{eq-eqb, ne-eqb, ltb-true, ltb-false}
+use lib.Dec.{leb, ltb, eqb, lit≤}
+use borrow.Author.Tests.{eq-eqb, ne-eqb, le-leb, leb-true, leb-false, ltb-true, ltb-false}
 use Rattle.laws.proofs.Picks.{by, test}
 use Rattle.config.specs.declared.Profile.{Profile}
 use Rattle.config.specs.Ranges.{inRange, inOrder}
+use Rattle.area.specs.Room.{queueRefusal}
 use Rattle.area.proofs.room.Laws.{full, over, room}
-use Rattle.record.specs.declared.Sender.{Sender}
-use Rattle.soundness.specs.Soundness.{soundOk}
+use Rattle.record.specs.declared.Counts.{Counts}
+use Rattle.queuing.specs.declared.Station.{Station}
 use Rattle.replies.specs.declared.Heard.{Heard}
 use Rattle.refusals.specs.declared.Verdict.{Verdict}
-use Rattle.refusals.specs.declared.Verdict.the-variants.{Accepted, ProfileOutOfRange, ShortOverLong, Unsound, OutOfTurn, BadTime, BadValue, ShortPayload, QueueFull, AllTaken, ShortOutput}
+use Rattle.refusals.specs.declared.Verdict.the-variants.{Accepted, ProfileOutOfRange, ShortOverLong, Unsound, OutOfTurn, BadTime, BadValue, ShortPayload, QueueFull, AllTaken, ShortOutput, BadClass, TooManyMessages}
 use Rattle.refusals.specs.declared.Reply.{Reply}
 use Rattle.refusals.specs.Refusals.{numberOf, kindOf, timeOk, heardOk, replyOk}
-use Rattle.verdicts.specs.Verdicts.{firstOf, standing, replyVerdict, roomVerdict, outputVerdict, queueVerdict, receiveVerdict, burstVerdict}
+use Rattle.verdicts.specs.Verdicts.{stationOk, firstOf, standing, replyVerdict, roomVerdict, outputVerdict, queueVerdict, receiveVerdict, burstVerdict}
 use Rattle.verdicts.specs.Reasons.{Reason, First, standingReasons, lookupReasons, queueReasons, replyReasons, burstReasons}
-use Rattle.limits.specs.Limits.{maxSlots, maxWaiting, maxTaken}
+use Rattle.limits.specs.Limits.{maxSlots, maxWaiting, maxTaken, maxClass, maxMessages}
 
 -- ---- tables
 
@@ -56,68 +57,103 @@ turn-test true false = refl
 turn-test false true = refl
 turn-test false false = refl
 
+-- a 257th
+one-more : (m : ℕ) → leb maxMessages m ≡ ltb maxMessages (m + 1)
+one-more m =
+    test (leb maxMessages m) (λ e. e ∙ sym (le-leb (suc maxMessages) (m + 1) (omega (arith, leb-true maxMessages m e))))
+    (λ e. test (ltb maxMessages (m + 1)) (λ f. absurd (omega (arith, leb-false maxMessages m e, ltb-true maxMessages (m + 1) f))) (λ f. e ∙ sym f))
+
 -- ---- the calls
 
-module _ (p : Profile) (s : Sender) (a : List ℕ) where
+module _ (p : Profile) (t : Station) (a : List ℕ) where
   module _ (connect : Bool) where
-    standing-first : First (standingReasons p s a connect) (numberOf (standing p s a connect))
+    standing-first : First (standingReasons p t a connect) (numberOf (standing p t a connect))
     unfolding standing
     standing-first =
-        let c = s .link .connected in
-        let t = (c && connect) || (not c && not connect) in
+        let c = t .sender .link .connected in
+        let u = (c && connect) || (not c && not connect) in
         let last : List Reason = (4, cond connect c (not c)) ∷ [] in
-        let v₄ : Verdict = cond t OutOfTurn Accepted in
-        let v₃ : Verdict = cond (not (soundOk p s a)) Unsound v₄ in
+        let v₄ : Verdict = cond u OutOfTurn Accepted in
+        let v₃ : Verdict = cond (not (stationOk p t a)) Unsound v₄ in
         let v₂ : Verdict = cond (not (inOrder p)) ShortOverLong v₃ in
-        tested 1 (not (inRange p)) ProfileOutOfRange v₂ ((2, not (inOrder p)) ∷ (3, not (soundOk p s a)) ∷ last) refl
-        (tested 2 (not (inOrder p)) ShortOverLong v₃ ((3, not (soundOk p s a)) ∷ last) refl
-        (tested 3 (not (soundOk p s a)) Unsound v₄ last refl
-        (subst (λ (b : Bool). First ((4, b) ∷ []) (numberOf v₄)) (turn-test c connect) (tested 4 t OutOfTurn Accepted [] refl refl))))
+        tested 1 (not (inRange p)) ProfileOutOfRange v₂ ((2, not (inOrder p)) ∷ (3, not (stationOk p t a)) ∷ last) refl
+        (tested 2 (not (inOrder p)) ShortOverLong v₃ ((3, not (stationOk p t a)) ∷ last) refl
+        (tested 3 (not (stationOk p t a)) Unsound v₄ last refl
+        (subst (λ (b : Bool). First ((4, b) ∷ []) (numberOf v₄)) (turn-test c connect) (tested 4 u OutOfTurn Accepted [] refl refl))))
 
-    standing-refusals : Refusals (standingReasons p s a connect)
+    standing-refusals : Refusals (standingReasons p t a connect)
     standing-refusals = (lit≤ tt, (lit≤ tt, (lit≤ tt, (lit≤ tt, tt))))
 
-  pub lookup-first : First (lookupReasons p s a) (numberOf (standing p s a false))
+  pub lookup-first : First (lookupReasons p t a) (numberOf (standing p t a false))
   lookup-first = standing-first false
 
   module _ (n : ℕ) where
-    room-first : First ((8, ltb maxWaiting (s .counts .waiting + n)) ∷ (9, ltb maxTaken (s .counts .«next_offset» + s .counts .waiting + n)) ∷ []) (numberOf (roomVerdict (s .counts) n))
-    unfolding roomVerdict
-    room-first =
-        let w = s .counts .waiting in
-        let t = s .counts .«next_offset» + s .counts .waiting in
-        let said : ℕ → ℕ = λ (q : ℕ). numberOf (cond (eqb q 8) QueueFull (cond (eqb q 9) AllTaken Accepted)) in
+    abbrev counts : Counts
+    counts = t .sender .counts
+
+    abbrev roomReasons : ℕ → List Reason
+    roomReasons class =
+        (11, ltb maxClass class) ∷ (8, ltb maxWaiting (counts .waiting + n)) ∷ (9, ltb maxTaken (counts .«next_offset» + counts .waiting + n))
+        ∷ (12, ltb 0 n && ltb maxMessages (t .messages .n + 1)) ∷ []
+
+    abbrev last : Verdict
+    last = cond (ltb 0 n && leb maxMessages (t .messages .n)) TooManyMessages Accepted
+
+    abbrev fullOr : Verdict → Verdict
+    fullOr v =
+        let q = queueRefusal (counts .waiting) (counts .«next_offset» + counts .waiting) n in
+        cond (eqb q 8) QueueFull (cond (eqb q 9) AllTaken v)
+
+    last-first : First ((12, ltb 0 n && ltb maxMessages (t .messages .n + 1)) ∷ []) (numberOf last)
+    last-first =
+        subst (λ (b : Bool). First ((12, ltb 0 n && b) ∷ []) (numberOf last)) (one-more (t .messages .n))
+        (tested 12 (ltb 0 n && leb maxMessages (t .messages .n)) TooManyMessages Accepted [] refl refl)
+
+    -- 8 and 9, and 12 behind them
+    full-first : First ((8, ltb maxWaiting (counts .waiting + n)) ∷ (9, ltb maxTaken (counts .«next_offset» + counts .waiting + n))
+        ∷ (12, ltb 0 n && ltb maxMessages (t .messages .n + 1)) ∷ []) (numberOf (fullOr last))
+    full-first =
+        let w = counts .waiting in
+        let k = counts .«next_offset» + counts .waiting in
+        let said : ℕ → Verdict = λ (q : ℕ). cond (eqb q 8) QueueFull (cond (eqb q 9) AllTaken last) in
         test (ltb maxWaiting (w + n))
-        (λ x. inl (x, ap said (full w t n (ltb-true _ _ x))))
+        (λ x. inl (x, ap (λ (q : ℕ). numberOf (said q)) (full w k n (ltb-true _ _ x))))
         (λ x. inr (
           x,
-          test (ltb maxTaken (t + n))
-              (λ y. inl (y, ap said (over w t n (ltb-false _ _ x) (ltb-true _ _ y))))
-              (λ y. inr (y, ap said (room w t n (ltb-false _ _ x) (ltb-false _ _ y)))),
+          test (ltb maxTaken (k + n))
+              (λ y. inl (y, ap (λ (q : ℕ). numberOf (said q)) (over w k n (ltb-false _ _ x) (ltb-true _ _ y))))
+              (λ y. inr (y, subst (First ((12, ltb 0 n && ltb maxMessages (t .messages .n + 1)) ∷ [])) (sym (ap (λ (q : ℕ). numberOf (said q)) (room w k n (ltb-false _ _ x) (ltb-false _ _ y)))) last-first)),
         ))
 
-    pub queue-first : First (queueReasons p s a n) (numberOf (queueVerdict p s a n))
-    unfolding queueVerdict
-    queue-first =
-        let rs : List Reason = (8, ltb maxWaiting (s .counts .waiting + n)) ∷ (9, ltb maxTaken (s .counts .«next_offset» + s .counts .waiting + n)) ∷ [] in
-        behind (standingReasons p s a false) rs (standing p s a false) (roomVerdict (s .counts) n) (standing-refusals false) (standing-first false) room-first
+    room-first : (class : ℕ) → First (roomReasons class) (numberOf (roomVerdict counts (t .messages .n) class n))
+    unfolding roomVerdict
+    room-first class =
+        tested 11 (ltb maxClass class) BadClass (fullOr last)
+        ((8, ltb maxWaiting (counts .waiting + n)) ∷ (9, ltb maxTaken (counts .«next_offset» + counts .waiting + n))
+        ∷ (12, ltb 0 n && ltb maxMessages (t .messages .n + 1)) ∷ []) refl full-first
 
-    pub burst-first : First (burstReasons p s a n) (numberOf (burstVerdict p s a n))
+    pub queue-first : (class : ℕ) → First (queueReasons p t a class n) (numberOf (queueVerdict p t a class n))
+    unfolding queueVerdict
+    queue-first class =
+        behind (standingReasons p t a false) (roomReasons class) (standing p t a false) (roomVerdict counts (t .messages .n) class n) (standing-refusals false) (standing-first false)
+        (room-first class)
+
+    pub burst-first : First (burstReasons p t a n) (numberOf (burstVerdict p t a n))
     unfolding burstVerdict outputVerdict
     burst-first =
         let b = ltb n (maxSlots * p .«long_bytes») in
-        behind (standingReasons p s a false) ((10, b) ∷ []) (standing p s a false) (outputVerdict (p .«long_bytes») n) (standing-refusals false) (standing-first false)
+        behind (standingReasons p t a false) ((10, b) ∷ []) (standing p t a false) (outputVerdict (p .«long_bytes») n) (standing-refusals false) (standing-first false)
         (tested 10 b ShortOutput Accepted [] refl refl)
 
-    pub reply-first : (h : Heard) (r : Reply) → First (replyReasons p s a h r n) (numberOf (receiveVerdict p s a h r n))
+    pub reply-first : (h : Heard) (r : Reply) → First (replyReasons p t a h r n) (numberOf (receiveVerdict p t a h r n))
     unfolding receiveVerdict replyVerdict
     reply-first h r =
         let k = eqb (kindOf r) 0 in
-        let b₅ = not (timeOk (s .link .«last_time») (h .time)) in
+        let b₅ = not (timeOk (t .sender .link .«last_time») (h .time)) in
         let b₆ = not (heardOk h && replyOk r) in
         let b₇ = eqb (kindOf r) 2 && ltb n 13 in
         let v₇ : Verdict = cond b₇ ShortPayload Accepted in
-        behind (standingReasons p s a k) ((5, b₅) ∷ (6, b₆) ∷ (7, b₇) ∷ []) (standing p s a k) (replyVerdict (s .link .«last_time») h r n) (standing-refusals k) (standing-first k)
+        behind (standingReasons p t a k) ((5, b₅) ∷ (6, b₆) ∷ (7, b₇) ∷ []) (standing p t a k) (replyVerdict (t .sender .link .«last_time») h r n) (standing-refusals k) (standing-first k)
         (tested 5 b₅ BadTime (cond b₆ BadValue v₇) ((6, b₆) ∷ (7, b₇) ∷ []) refl
         (tested 6 b₆ BadValue v₇ ((7, b₇) ∷ []) refl
         (tested 7 b₇ ShortPayload Accepted [] refl refl)))

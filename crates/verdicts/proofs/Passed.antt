@@ -3,11 +3,11 @@
 use mathlib.Core.Path.{_≡_, refl, sym, ap, _∙_}
 use mathlib.Core.List.{List}
 use mathlib.Core.Bool.{Bool, true, false, cond, not, _&&_, _||_, false≢true}
-use Prim.Native.Nat.{ℕ, _+_, _*_, _≤_}
+use Prim.Native.Nat.{ℕ, _+_, _*_, _≤_, _<_}
 use native.Mathlib.Omega.{arith}
-use lib.Dec.{ltb, eqb}
+use lib.Dec.{leb, ltb, eqb}
 use lib.ListN.{length}
-use borrow.Author.Tests.{not-false, eq-eqb, ne-eqb, leb-true, ltb-true, ltb-false}
+use borrow.Author.Tests.{not-false, eq-eqb, ne-eqb, leb-true, le-leb, leb-false, ltb-true, ltb-false}
 use Rattle.laws.proofs.Picks.{test, cond-no, and-first, and-second}
 use Rattle.laws.proofs.Tests.{all-at}
 use Rattle.config.specs.declared.Profile.{Profile}
@@ -20,13 +20,15 @@ use Rattle.area.proofs.room.Laws.{full, over, room, not-refused, queue-fits}
 use Rattle.record.specs.declared.Sender.{Sender}
 use Rattle.soundness.specs.Soundness.{countsOk, soundOk}
 use Rattle.soundness.proofs.fields.Counts.{flying-few, pieces-few, taken-few}
+use Rattle.messages.specs.Messages.{messagesOk}
+use Rattle.queuing.specs.declared.Station.{Station}
 use Rattle.replies.specs.declared.Heard.{Heard}
 use Rattle.refusals.specs.declared.Verdict.{Verdict}
-use Rattle.refusals.specs.declared.Verdict.the-variants.{Accepted, AllTaken, BadTime, BadValue, OutOfTurn, ProfileOutOfRange, QueueFull, ShortOutput, ShortOverLong, ShortPayload, Unsound}
+use Rattle.refusals.specs.declared.Verdict.the-variants.{Accepted, AllTaken, BadClass, BadTime, BadValue, OutOfTurn, ProfileOutOfRange, QueueFull, ShortOutput, ShortOverLong, ShortPayload, TooManyMessages, Unsound}
 use Rattle.refusals.specs.declared.Reply.{Reply}
 use Rattle.refusals.specs.Refusals.{numberOf, kindOf, timeOk, heardOk, replyOk}
-use Rattle.verdicts.specs.Verdicts.{passed, firstOf, standing, roomVerdict, replyVerdict, outputVerdict, queueVerdict, receiveVerdict, burstVerdict}
-use Rattle.limits.specs.Limits.{maxSlots, maxWaiting, maxTaken, maxPieces}
+use Rattle.verdicts.specs.Verdicts.{stationOk, passed, firstOf, standing, roomVerdict, replyVerdict, outputVerdict, queueVerdict, receiveVerdict, burstVerdict}
+use Rattle.limits.specs.Limits.{maxSlots, maxWaiting, maxTaken, maxPieces, maxClass, maxMessages}
 
 -- the number that a call reads says whether it is refused
 pub not-passed : (v u : Verdict) (n : ℕ) → v ≡ u → n ≡ numberOf v → (n ≡ 0 → ⊥) → passed u ≡ false
@@ -55,11 +57,6 @@ turn false true e = refl
 turn false false e = absurd (false≢true e)
 
 module _ (p : Profile) (s : Sender) (a : List ℕ) where
-  -- nothing but 1 to 4 turns a call down here
-  pub stands : (connect : Bool) → inRange p ≡ true → inOrder p ≡ true → soundOk p s a ≡ true → s .link .connected ≡ not connect → standing p s a connect ≡ Accepted
-  unfolding standing
-  stands connect e₁ e₂ e₃ e₄ = sym (cond-no _ _ _ _ (ap not e₁) (cond-no _ _ _ _ (ap not e₂) (cond-no _ _ _ _ (ap not e₃) (cond-no _ _ _ _ (turn (s .link .connected) connect e₄) refl))))
-
   counts-pass : soundOk p s a ≡ true → countsOk s ≡ true
   unfolding soundOk
   counts-pass e = all-at _ 1 e
@@ -76,73 +73,99 @@ module _ (p : Profile) (s : Sender) (a : List ℕ) where
       let t : total (rowsFrom a 0 (s .counts .pieces)) ≡ s .counts .flying = table-total _ _ _ _ _ (all-at _ 2 e) in
       (pieces-few s c, leb-true areaBytes (length a) (all-at _ 0 e), omega (arith, t, flying-few s c))
 
-  -- 1 and 3 do not turn it down
-  pub standing-passed : (connect : Bool) → passed (standing p s a connect) ≡ true → (inRange p ≡ true) × (soundOk p s a ≡ true)
+module _ (p : Profile) (t : Station) (a : List ℕ) where
+  abbrev s : Sender
+  s = t .sender
+
+  -- document 02's clauses about messages hold
+  abbrev pub Listed : Type 0
+  Listed = messagesOk (s .counts .waiting) (t .messages) ≡ true
+
+  -- nothing but 1 to 4 turns a call down here
+  pub stands : (connect : Bool) → inRange p ≡ true → inOrder p ≡ true → stationOk p t a ≡ true → s .link .connected ≡ not connect → standing p t a connect ≡ Accepted
   unfolding standing
-  standing-passed connect h =
-      let h₁ = over-first (not (inRange p)) ProfileOutOfRange _ refl h in
-      let h₂ = over-first (not (inOrder p)) ShortOverLong _ refl (h₁ .1) in
-      let h₃ = over-first (not (soundOk p s a)) Unsound _ refl (h₂ .1) in
-      (not-false _ (h₁ .0), not-false _ (h₃ .0))
-
-  -- nor do 8 and 9
-  room-passed : (n : ℕ) → passed (roomVerdict (s .counts) n) ≡ true → queueRefusal (s .counts .waiting) (s .counts .«next_offset» + s .counts .waiting) n ≡ 0
-  unfolding roomVerdict
-  room-passed n h =
-      let w = s .counts .waiting in
-      let t = s .counts .«next_offset» + s .counts .waiting in
-      let h₁ = over-first (eqb (queueRefusal w t n) 8) QueueFull _ refl h in
-      let h₂ = over-first (eqb (queueRefusal w t n) 9) AllTaken _ refl (h₁ .1) in
-      test (ltb maxWaiting (w + n))
-      (λ x. absurd (false≢true (sym (h₁ .0) ∙ eq-eqb _ _ (full w t n (ltb-true _ _ x)))))
-      (λ x. test (ltb maxTaken (t + n))
-      (λ y. absurd (false≢true (sym (h₂ .0) ∙ eq-eqb _ _ (over w t n (ltb-false _ _ x) (ltb-true _ _ y)))))
-      (λ y. room w t n (ltb-false _ _ x) (ltb-false _ _ y)))
-
-  pub queue-passed : (n : ℕ) → passed (queueVerdict p s a n) ≡ true → (inRange p ≡ true) × (soundOk p s a ≡ true) × (queueRefusal (s .counts .waiting) (s .counts .«next_offset» + s .counts .waiting) n ≡ 0)
-  unfolding queueVerdict
-  queue-passed n h =
-      let q = first-passed (standing p s a false) (roomVerdict (s .counts) n) h in
-      let g = standing-passed false (q .0) in
-      (g .0, g .1, room-passed n (q .1))
-
-  -- where the bytes go there is room for them
-  pub queue-room : (n : ℕ) → passed (queueVerdict p s a n) ≡ true → (s .counts .flying + s .counts .waiting + n ≤ streamBytes) × (areaBytes ≤ length a) × (s .counts .waiting + n ≤ maxWaiting)
-  queue-room n h =
-      let q = queue-passed n h in
-      let t = s .counts .«next_offset» + s .counts .waiting in
-      (queue-fits (s .counts .waiting) t n (s .counts .flying) (flying-few s (counts-pass (q .1))) (q .2), sound-rows (q .1) .1, not-refused (s .counts .waiting) t n (q .2) .0)
+  stands connect e₁ e₂ e₃ e₄ =
+      sym (cond-no _ _ _ _ (ap not e₁) (cond-no _ _ _ _ (ap not e₂) (cond-no _ _ _ _ (ap not e₃) (cond-no _ _ _ _ (turn (s .link .connected) connect e₄) refl))))
 
   -- 1, 2 and 3 do not turn it down
-  pub standing-three : (connect : Bool) → passed (standing p s a connect) ≡ true → (inRange p ≡ true) × (inOrder p ≡ true) × (soundOk p s a ≡ true)
+  pub standing-three : (connect : Bool) → passed (standing p t a connect) ≡ true → (inRange p ≡ true) × (inOrder p ≡ true) × (soundOk p s a ≡ true) × Listed
   unfolding standing
   standing-three connect h =
       let h₁ = over-first (not (inRange p)) ProfileOutOfRange _ refl h in
       let h₂ = over-first (not (inOrder p)) ShortOverLong _ refl (h₁ .1) in
-      let h₃ = over-first (not (soundOk p s a)) Unsound _ refl (h₂ .1) in
-      (not-false _ (h₁ .0), not-false _ (h₂ .0), not-false _ (h₃ .0))
+      let h₃ = over-first (not (stationOk p t a)) Unsound _ refl (h₂ .1) in
+      let k = not-false _ (h₃ .0) in (
+        not-false _ (h₁ .0),
+        not-false _ (h₂ .0),
+        and-second (messagesOk (s .counts .waiting) (t .messages)) (soundOk p s a) k,
+        and-first (messagesOk (s .counts .waiting) (t .messages)) (soundOk p s a) k,
+      )
 
-  pub receive-three : (h : Heard) (r : Reply) (n : ℕ) → passed (receiveVerdict p s a h r n) ≡ true → (inRange p ≡ true) × (inOrder p ≡ true) × (soundOk p s a ≡ true)
+  -- nor do 11, 8, 9 and 12
+  room-passed : (class n : ℕ) → passed (roomVerdict (s .counts) (t .messages .n) class n) ≡ true
+      → (class ≤ maxClass) × (queueRefusal (s .counts .waiting) (s .counts .«next_offset» + s .counts .waiting) n ≡ 0) × (1 ≤ n → t .messages .n < maxMessages)
+  unfolding roomVerdict
+  room-passed class n h =
+      let w = s .counts .waiting in
+      let k = s .counts .«next_offset» + s .counts .waiting in
+      let h₀ = over-first (ltb maxClass class) BadClass _ refl h in
+      let h₁ = over-first (eqb (queueRefusal w k n) 8) QueueFull _ refl (h₀ .1) in
+      let h₂ = over-first (eqb (queueRefusal w k n) 9) AllTaken _ refl (h₁ .1) in
+      let h₃ = over-first (ltb 0 n && leb maxMessages (t .messages .n)) TooManyMessages Accepted refl (h₂ .1) in (
+        ltb-false maxClass class (h₀ .0),
+        test (ltb maxWaiting (w + n))
+            (λ x. absurd (false≢true (sym (h₁ .0) ∙ eq-eqb _ _ (full w k n (ltb-true _ _ x)))))
+            (λ x. test (ltb maxTaken (k + n))
+            (λ y. absurd (false≢true (sym (h₂ .0) ∙ eq-eqb _ _ (over w k n (ltb-false _ _ x) (ltb-true _ _ y)))))
+            (λ y. room w k n (ltb-false _ _ x) (ltb-false _ _ y))),
+        λ o. leb-false maxMessages (t .messages .n) (sym (ap (λ (b : Bool). b && leb maxMessages (t .messages .n)) (le-leb 1 n o)) ∙ h₃ .0),
+      )
+
+  pub record Queues (k n : ℕ) : Type 0 where
+    pub one : inRange p ≡ true
+    pub two : inOrder p ≡ true
+    pub sound : soundOk p s a ≡ true
+    pub listed : Listed
+    pub class : k ≤ maxClass
+    pub room : queueRefusal (s .counts .waiting) (s .counts .«next_offset» + s .counts .waiting) n ≡ 0
+    pub row : 1 ≤ n → t .messages .n < maxMessages
+
+  pub queue-passed : (class n : ℕ) → passed (queueVerdict p t a class n) ≡ true → Queues class n
+  unfolding queueVerdict
+  queue-passed class n h =
+      let q = first-passed (standing p t a false) (roomVerdict (s .counts) (t .messages .n) class n) h in
+      let g = standing-three false (q .0) in
+      let r = room-passed class n (q .1) in
+      record { one = g .0; two = g .1; sound = g .2; listed = g .3; class = r .0; room = r .1; row = r .2 }
+
+  -- where the bytes go there is room for them
+  pub queue-room : (class n : ℕ) → passed (queueVerdict p t a class n) ≡ true → (s .counts .flying + s .counts .waiting + n ≤ streamBytes) × (areaBytes ≤ length a) × (s .counts .waiting + n ≤ maxWaiting)
+  queue-room class n h =
+      let q = queue-passed class n h in
+      let k = s .counts .«next_offset» + s .counts .waiting in (
+        queue-fits (s .counts .waiting) k n (s .counts .flying) (flying-few s (counts-pass p s a (q .sound))) (q .room),
+        sound-rows p s a (q .sound) .1,
+        not-refused (s .counts .waiting) k n (q .room) .0,
+      )
+
+  pub receive-three : (h : Heard) (r : Reply) (n : ℕ) → passed (receiveVerdict p t a h r n) ≡ true → (inRange p ≡ true) × (inOrder p ≡ true) × (soundOk p s a ≡ true) × Listed
   unfolding receiveVerdict
-  receive-three h r n e = standing-three (eqb (kindOf r) 0) (first-passed (standing p s a (eqb (kindOf r) 0)) (replyVerdict (s .link .«last_time») h r n) e .0)
-
-  pub receive-passed : (h : Heard) (r : Reply) (n : ℕ) → passed (receiveVerdict p s a h r n) ≡ true → (inRange p ≡ true) × (soundOk p s a ≡ true)
-  receive-passed h r n e = let t = receive-three h r n e in (t .0, t .2)
+  receive-three h r n e = standing-three (eqb (kindOf r) 0) (first-passed (standing p t a (eqb (kindOf r) 0)) (replyVerdict (s .link .«last_time») h r n) e .0)
 
   -- nor does 10
-  pub burst-passed : (n : ℕ) → passed (burstVerdict p s a n) ≡ true → (inRange p ≡ true) × (inOrder p ≡ true) × (soundOk p s a ≡ true) × (maxSlots * p .«long_bytes» ≤ n)
+  pub burst-passed : (n : ℕ) → passed (burstVerdict p t a n) ≡ true → (inRange p ≡ true) × (inOrder p ≡ true) × (soundOk p s a ≡ true) × (maxSlots * p .«long_bytes» ≤ n) × Listed
   unfolding burstVerdict outputVerdict
   burst-passed n h =
-      let q = first-passed (standing p s a false) (outputVerdict (p .«long_bytes») n) h in
+      let q = first-passed (standing p t a false) (outputVerdict (p .«long_bytes») n) h in
       let g = standing-three false (q .0) in
       let o = over-first (ltb n (maxSlots * p .«long_bytes»)) ShortOutput Accepted refl (q .1) in
-      (g .0, g .1, g .2, ltb-false n (maxSlots * p .«long_bytes») (o .0))
+      (g .0, g .1, g .2, ltb-false n (maxSlots * p .«long_bytes») (o .0), g .3)
 
   -- nor do 5, 6 and 7
-  pub reply-passed : (h : Heard) (r : Reply) (n : ℕ) → passed (receiveVerdict p s a h r n) ≡ true → (timeOk (s .link .«last_time») (h .time) ≡ true) × (heardOk h ≡ true) × (replyOk r ≡ true)
+  pub reply-passed : (h : Heard) (r : Reply) (n : ℕ) → passed (receiveVerdict p t a h r n) ≡ true → (timeOk (s .link .«last_time») (h .time) ≡ true) × (heardOk h ≡ true) × (replyOk r ≡ true)
   unfolding receiveVerdict replyVerdict
   reply-passed h r n e =
-      let q = first-passed (standing p s a (eqb (kindOf r) 0)) (replyVerdict (s .link .«last_time») h r n) e in
+      let q = first-passed (standing p t a (eqb (kindOf r) 0)) (replyVerdict (s .link .«last_time») h r n) e in
       let h₁ = over-first (not (timeOk (s .link .«last_time») (h .time))) BadTime _ refl (q .1) in
       let h₂ = over-first (not (heardOk h && replyOk r)) BadValue _ refl (h₁ .1) in
       let b = not-false _ (h₂ .0) in

@@ -3,9 +3,12 @@ use area::room::queue_refusal;
 use config::Profile;
 use config::ranges::in_order;
 use config::ranges::in_range;
+use limits::MAX_CLASS;
+use limits::MAX_MESSAGES;
 use limits::MAX_SLOTS;
+use messages::messages_ok;
+use queuing::Station;
 use record::Counts;
-use record::Sender;
 use refusals::Reply;
 use refusals::Verdict;
 use refusals::heard_ok;
@@ -22,17 +25,17 @@ ghost use Rattle.verdicts.specs.Verdicts.{passed, firstOf, standing as s
 ghost use Rattle.limits.specs.Limits.{maxTaken};
 
 // Refusals 1 to 4. `connect`: the call is a connect.
-pub fn standing(p: Profile, s: Sender, a: &[u8], connect: bool) -> Verdict
-    ensures { λ r. ⌜ r ≡ standingOf p s (now (a .entry)) connect ⌝ }
+pub fn standing(p: Profile, t: Station, a: &[u8], connect: bool) -> Verdict
+    ensures { λ r. ⌜ r ≡ standingOf p t (now (a .entry)) connect ⌝ }
 {
-    let k = s.link;
+    let k = t.sender.link;
     if !in_range(p) {
         return Verdict::ProfileOutOfRange;
     }
     if !in_order(p.short_bytes, p.long_bytes) {
         return Verdict::ShortOverLong;
     }
-    if !is_sound(p, s, a) {
+    if !(messages_ok(t.messages, t.sender.counts.waiting) & is_sound(p, t.sender, a)) {
         return Verdict::Unsound;
     }
     if (k.connected & connect) | (!k.connected & !connect) {
@@ -41,13 +44,16 @@ pub fn standing(p: Profile, s: Sender, a: &[u8], connect: bool) -> Verdict
     Verdict::Accepted
 }
 
-// 8 and 9, of n bytes more, where 1 to 4 gave v.
-pub fn queue_verdict(v: Verdict, c: Counts, n: usize) -> Verdict
+// 11, 8, 9 and 12, of n bytes more as one message of this class, where m messages wait and 1 to 4 gave v.
+pub fn queue_verdict(v: Verdict, c: Counts, m: usize, class: u8, n: usize) -> Verdict
     requires { ⌜ (passed v ≡ true → c .«next_offset» + c .waiting ≤ maxTaken) ⌝ }
-    ensures { λ r. ⌜ r ≡ firstOf v (roomVerdict c n) ⌝ }
+    ensures { λ r. ⌜ r ≡ firstOf v (roomVerdict c m class n) ⌝ }
 {
     if number(v) != 0 {
         return v;
+    }
+    if MAX_CLASS < class {
+        return Verdict::BadClass;
     }
     let q = queue_refusal(c.waiting, c.next_offset + c.waiting, n);
     if q == 8 {
@@ -55,6 +61,9 @@ pub fn queue_verdict(v: Verdict, c: Counts, n: usize) -> Verdict
     }
     if q == 9 {
         return Verdict::AllTaken;
+    }
+    if (0 < n) & (MAX_MESSAGES <= m) {
+        return Verdict::TooManyMessages;
     }
     Verdict::Accepted
 }

@@ -8,6 +8,8 @@
 //! What is measured of the port is the call through the C interface, with its refusals and its airtime, and the binding's
 //! copy of a burst's answer (1 KB).
 
+use vanitycrow::Message;
+
 use super::meter::{Kind, Meter};
 use super::port;
 use crate::active::{self, Numbers};
@@ -126,8 +128,21 @@ impl<M: Meter> Pair<M> {
 
     pub fn queue(&mut self, bytes: &[u8]) {
         let (s, p) = (&mut self.original, &mut self.port);
-        let ((), answer) = self.meter.both(Kind::Queue, || s.out.extend(bytes), || p.queue(bytes));
+        let ((), answer) = self
+            .meter
+            .both(Kind::Queue, || s.out.extend(bytes), || p.queue(Message::ROUTINE, bytes));
         answer.expect("the port refuses bytes");
+        self.compare();
+    }
+
+    /// A flash message, before all that wait, none of which has begun. The original knows no classes: its bytes are moved there afterwards.
+    pub fn queue_first(&mut self, bytes: &[u8]) {
+        let (s, p) = (&mut self.original, &mut self.port);
+        let ((), answer) = self
+            .meter
+            .both(Kind::Queue, || s.out.extend(bytes), || p.queue(Message::FLASH, bytes));
+        answer.expect("the port refuses bytes");
+        s.out.rotate_right(bytes.len());
         self.compare();
     }
 

@@ -2,8 +2,12 @@
 //! each. Their records are compared, every field. Connect answers come to records that are not connected, whatever else is in them.
 //!
 //! What is not there is not a number or another value out of range on the port's side: the share of a level not tried, reports past their
-//! count, dB and numbers beside flags that are off. Left out is what has no counterpart in the original: a wave above 5, a success time past
-//! the reply's (its worth is a NaN: docs/DIFFERENCES.md).
+//! count, dB and numbers beside flags that are off, messages past theirs. Left out is what has no counterpart in the original: a wave above 5,
+//! a success time past the reply's (its worth is a NaN: docs/DIFFERENCES.md).
+//!
+//! Messages are any that document 02 calls sound: classes in any order, `begun` with a message and without. The original has none. `Mail` is
+//! the second model: the order of those that are there is the one in which they are kept, and a new one goes when it is its turn by the
+//! sentence; with a single class the original's own queue says so.
 
 use vanitycrow::raw;
 
@@ -19,11 +23,64 @@ use crate::rng::Rng;
 const AREA: usize = 49152;
 const TABLE: usize = 32768;
 
+/// A message: its class and the bytes of it that wait.
+type Message = (u8, Vec<u8>);
+
+/// The messages in the order of going, and whether the first has begun.
+#[derive(Default)]
+struct Mail {
+    messages: Vec<Message>,
+    begun: bool,
+}
+
+impl Mail {
+    /// What goes next is chosen between the new message and the next of those that are there: the begun one, then the one of the lower class,
+    /// of two alike the one that is there.
+    fn queue(&mut self, class: u8, bytes: &[u8]) {
+        if bytes.is_empty() {
+            return;
+        }
+        let mut new = Some((class, bytes.to_vec()));
+        let mut begun = self.begun;
+        for next in std::mem::take(&mut self.messages) {
+            if !begun && new.as_ref().is_some_and(|m| m.0 < next.0) {
+                self.messages.extend(new.take());
+            }
+            begun = false;
+            self.messages.push(next);
+        }
+        self.messages.extend(new);
+    }
+
+    fn fly(&mut self, mut n: usize) {
+        while n > 0 {
+            let first = &mut self.messages[0].1;
+            let k = n.min(first.len());
+            first.drain(..k);
+            n -= k;
+            self.begun = !first.is_empty();
+            if !self.begun {
+                self.messages.remove(0);
+            }
+        }
+    }
+
+    fn bytes(&self) -> Vec<u8> {
+        self.messages.iter().flat_map(|m| m.1.iter().copied()).collect()
+    }
+
+    /// Whether a message of `class` makes no second class.
+    fn single(&self, class: u8) -> bool {
+        self.messages.iter().all(|m| m.0 == class)
+    }
+}
+
 struct Both {
     numbers: Numbers,
     original: Station,
+    mail: Mail,
     profile: raw::Profile,
-    sender: raw::Sender,
+    station: raw::Station,
     area: Vec<u8>,
     out: Vec<u8>,
     now: f64,
@@ -69,17 +126,18 @@ fn profile(r: &mut Rng) -> Profile {
 impl Both {
     fn new(r: &mut Rng) -> Self {
         let p = profile(r);
-        let mut fresh = std::mem::MaybeUninit::<raw::Sender>::zeroed();
-        // SAFETY: all zeros is a value of Sender.
-        let sender = unsafe {
+        let mut fresh = std::mem::MaybeUninit::<raw::Station>::zeroed();
+        // SAFETY: all zeros is a value of Station.
+        let station = unsafe {
             raw::vanitycrow_fresh(fresh.as_mut_ptr());
             fresh.assume_init()
         };
         let mut both = Both {
             numbers: p.numbers(),
             original: Station::new(p.config(), p.air()),
+            mail: Mail::default(),
             profile: port::profile(&p),
-            sender,
+            station,
             area: vec![0; AREA],
             out: vec![0; 64 * 512],
             now: r.pick(&[0.0, 1e-9, 5.0, 1e9, 700.25, 123456.789]),
@@ -92,7 +150,7 @@ impl Both {
     }
 
     fn gear(&mut self, r: &mut Rng) {
-        let (s, g) = (&mut self.original, &mut self.sender.gear);
+        let (s, g) = (&mut self.original, &mut self.station.sender.gear);
         s.level = r.below(17) as usize;
         s.target = r.below(17) as usize;
         (g.level, g.target) = (s.level, s.target);
@@ -117,7 +175,7 @@ impl Both {
     }
 
     fn levels(&mut self, r: &mut Rng) {
-        let (s, g) = (&mut self.original, &mut self.sender.gear);
+        let (s, g) = (&mut self.original, &mut self.station.sender.gear);
         for l in 0..17 {
             let tried = r.flag();
             let share = r.pick(&[0.0, 1.0, 0.5, 0.7, 0.0625]) as f32;
@@ -136,7 +194,7 @@ impl Both {
     }
 
     fn link(&mut self, r: &mut Rng) {
-        let (s, k) = (&mut self.original, &mut self.sender.link);
+        let (s, k) = (&mut self.original, &mut self.station.sender.link);
         k.connected = !r.once_in(3);
         k.awaiting = r.flag();
         s.state = if k.connected { State::Connected } else { State::Connecting };
@@ -163,7 +221,7 @@ impl Both {
 
     /// Pieces with gaps, waiting bytes, the held list, its unsent rest, and the outstanding burst.
     fn bytes(&mut self, r: &mut Rng, long: usize, short: usize) {
-        let (s, c) = (&mut self.original, &mut self.sender.counts);
+        let (s, c) = (&mut self.original, &mut self.station.sender.counts);
         let mut next = r.pick(&[0, 1, 1 << 24, 1 << 31, u32::MAX - 40_000]);
         let (mut flying, mut shorts, mut offsets) = (0, 0, Vec::new());
         for _ in 0..r.below(70) {
@@ -199,10 +257,38 @@ impl Both {
             airtime_ms: 0,
         };
         self.lists(r, &mut offsets);
+        self.messages(r, &waiting);
+    }
+
+    /// The waiting bytes as messages.
+    fn messages(&mut self, r: &mut Rng, waiting: &[u8]) {
+        let m = &mut self.station.messages;
+        let most = r.pick(&[1, 2, 3, 9, 255, 256]).min(waiting.len());
+        let (order, mut rest) = (r.below(3), waiting);
+        let mut classes: Vec<u8> = (0..most).map(|_| r.below(4) as u8).collect();
+        if order == 0 {
+            classes.sort();
+        } else if order == 1 {
+            classes.fill(r.below(4) as u8);
+        }
+        for (i, &class) in classes.iter().enumerate() {
+            let spare = rest.len() - (most - i);
+            let more = r.pick(&[0, 0, 1, spare / 2, spare]).min(spare);
+            let n = if i + 1 == most { rest.len() } else { 1 + more };
+            (m.left[i], m.class[i]) = (n as u16, class);
+            self.mail.messages.push((class, rest[..n].to_vec()));
+            rest = &rest[n..];
+        }
+        for i in most..256 {
+            (m.left[i], m.class[i]) = (r.next() as u16, r.next() as u8);
+        }
+        m.n = most;
+        m.begun = r.flag();
+        self.mail.begun = m.begun && most > 0;
     }
 
     fn lists(&mut self, r: &mut Rng, offsets: &mut [u32]) {
-        let (s, h, b) = (&mut self.original, &mut self.sender.at_peer, &mut self.sender.last_burst);
+        let (s, h, b) = (&mut self.original, &mut self.station.sender.at_peer, &mut self.station.sender.last_burst);
         for i in (1..offsets.len()).rev() {
             offsets.swap(i, r.below(i as u64 + 1) as usize);
         }
@@ -229,7 +315,7 @@ impl Both {
     fn call(&mut self, r: &mut Rng) -> &'static str {
         active::set(&self.numbers, self.original.level);
         let heard = raw::Heard { time: self.now, wave: r.below(6) as u8, snr_db: db(r, 300.0) };
-        if !self.sender.link.connected {
+        if !self.station.sender.link.connected {
             self.connect(r, heard);
             return "connect";
         }
@@ -252,20 +338,29 @@ impl Both {
         self.original.hear_tiny(heard.wave as usize, heard.snr_db, theirs, heard.time);
         // SAFETY, here and below: pointers and lengths are those of live buffers that don't overlap.
         let refusal =
-            unsafe { raw::vanitycrow_connect(&self.profile, &mut self.sender, self.area.as_mut_ptr(), AREA, heard, ours) };
+            unsafe { raw::vanitycrow_connect(&self.profile, &mut self.station, self.area.as_mut_ptr(), AREA, heard, ours) };
         assert_eq!(refusal, 0, "connect");
     }
 
     fn queue(&mut self, r: &mut Rng) -> &'static str {
-        let c = &self.sender.counts;
+        let c = &self.station.sender.counts;
         let room = (16384 - c.waiting).min(u32::MAX - c.next_offset - c.waiting);
         let most = r.pick(&[0, 1, 700, 16384]);
         let bytes = r.bytes(most.min(room as usize));
-        self.original.out.extend(&bytes);
+        let class = r.below(4) as u8;
+        let full = self.mail.messages.len() == 256 && !bytes.is_empty();
+        if !full && self.mail.single(class) {
+            self.mail.queue(class, &bytes);
+            self.original.out.extend(&bytes);
+        } else if !full {
+            self.mail.queue(class, &bytes);
+            self.original.out = self.mail.bytes().into();
+        }
         let (area, n) = (self.area.as_mut_ptr(), bytes.len());
-        let refusal = unsafe { raw::vanitycrow_queue(&self.profile, &mut self.sender, area, AREA, bytes.as_ptr(), n) };
-        assert_eq!(refusal, 0, "queue");
-        "queue"
+        let message = raw::Message { class };
+        let refusal = unsafe { raw::vanitycrow_queue(&self.profile, &mut self.station, area, AREA, message, bytes.as_ptr(), n) };
+        assert_eq!(refusal, if full { 12 } else { 0 }, "queue");
+        if full { "full queue" } else { "queue" }
     }
 
     fn number(&self, r: &mut Rng) -> u8 {
@@ -282,7 +377,7 @@ impl Both {
         let ours = raw::Ack { burst, bitmap, snr_db: db, want_turn, want_disc, stored, class, slot };
         self.original.hear_tiny(heard.wave as usize, heard.snr_db, theirs, heard.time);
         let area = self.area.as_mut_ptr();
-        let refusal = unsafe { raw::vanitycrow_short_ack(&self.profile, &mut self.sender, area, AREA, heard, ours) };
+        let refusal = unsafe { raw::vanitycrow_short_ack(&self.profile, &mut self.station, area, AREA, heard, ours) };
         assert_eq!(refusal, 0, "short");
         "short"
     }
@@ -304,7 +399,7 @@ impl Both {
         let ours = raw::LongAck { want_turn, want_disc, stored };
         self.original.hear_frame(heard.wave as usize, heard.snr_db, frame, heard.time);
         let (area, p, n) = (self.area.as_mut_ptr(), payload.as_ptr(), payload.len());
-        let refusal = unsafe { raw::vanitycrow_long_ack(&self.profile, &mut self.sender, area, AREA, heard, ours, p, n) };
+        let refusal = unsafe { raw::vanitycrow_long_ack(&self.profile, &mut self.station, area, AREA, heard, ours, p, n) };
         assert_eq!(refusal, 0, "long");
         "long"
     }
@@ -314,15 +409,17 @@ impl Both {
         let ours = raw::Turn { report: raw::MaybeDb { set: report.is_some(), db: report.unwrap_or(f32::NAN) } };
         self.original.hear_tiny(heard.wave as usize, heard.snr_db, Tiny::Turn { snr_db: report }, heard.time);
         let area = self.area.as_mut_ptr();
-        let refusal = unsafe { raw::vanitycrow_turn(&self.profile, &mut self.sender, area, AREA, heard, ours) };
+        let refusal = unsafe { raw::vanitycrow_turn(&self.profile, &mut self.station, area, AREA, heard, ours) };
         assert_eq!(refusal, 0, "turn");
         "turn"
     }
 
     fn burst(&mut self) -> &'static str {
+        let waiting = self.original.out.len();
         let theirs = self.original.send();
+        self.mail.fly(waiting - self.original.out.len());
         let (area, out, n) = (self.area.as_mut_ptr(), self.out.as_mut_ptr(), self.out.len());
-        let ours = unsafe { raw::vanitycrow_data_burst(&self.profile, &mut self.sender, area, AREA, out, n) };
+        let ours = unsafe { raw::vanitycrow_data_burst(&self.profile, &mut self.station, area, AREA, out, n) };
         assert_eq!(ours.refusal, 0, "burst");
         let o = &ours.outgoing;
         assert_eq!(
@@ -342,10 +439,11 @@ impl Both {
         self.compare_gear();
         self.compare_link();
         self.compare_bytes();
+        self.compare_messages();
     }
 
     fn compare_gear(&self) {
-        let (s, g) = (&self.original, &self.sender.gear);
+        let (s, g) = (&self.original, &self.station.sender.gear);
         let burst_s = if g.burst_s == 0.0 { s.cfg.max_burst_s } else { g.burst_s };
         assert_eq!((s.level, s.target, s.burst_s), (g.level, g.target, burst_s));
         let read = |m: &raw::MaybeDb| m.set.then_some(m.db);
@@ -363,7 +461,7 @@ impl Both {
     }
 
     fn compare_link(&self) {
-        let (s, k) = (&self.original, &self.sender.link);
+        let (s, k) = (&self.original, &self.station.sender.link);
         assert_eq!((s.connected(), s.awaiting == Awaiting::Ack), (k.connected, k.awaiting));
         assert_eq!((s.session, s.burst_id, s.peer_slot), (k.session, k.burst_id, k.peer_slot));
         assert_eq!(s.peer_heard, k.heard.then_some(k.peer_heard));
@@ -373,7 +471,7 @@ impl Both {
     }
 
     fn compare_bytes(&self) {
-        let (s, c, h, b) = (&self.original, &self.sender.counts, &self.sender.at_peer, &self.sender.last_burst);
+        let (s, c, h, b) = (&self.original, &self.station.sender.counts, &self.station.sender.at_peer, &self.station.sender.last_burst);
         let mut at = 0;
         for (i, (off, bytes)) in s.inflight.iter().enumerate() {
             let row = &self.area[TABLE + 8 * i..TABLE + 8 * i + 8];
@@ -388,6 +486,14 @@ impl Both {
         assert_eq!((&s.at_peer[..], &s.at_peer_rest[..]), (&held[..], &held[h.n - h.rest..]));
         let sent: Vec<(u32, usize, usize)> = (0..b.n).map(|i| (b.off[i], b.bits[i] as usize, b.held[i] as usize)).collect();
         assert!(s.last_burst.iter().map(|f| (f.off, f.bits, f.held)).eq(sent));
+    }
+
+    fn compare_messages(&self) {
+        let (m, model) = (&self.station.messages, &self.mail);
+        let there = (0..m.n).map(|i| (m.class[i], m.left[i] as usize));
+        assert!(model.messages.iter().map(|x| (x.0, x.1.len())).eq(there), "messages");
+        assert!(m.n == 0 || m.begun == model.begun, "begun");
+        assert!(self.original.out.iter().copied().eq(model.bytes()), "the waiting bytes of the messages");
     }
 }
 

@@ -10,15 +10,20 @@ use crate::rng::Rng;
 const REPORT_DB: f32 = 30.0;
 /// Rounds before those that are timed: the gear climbs, and buffers grow.
 const WARM_ROUNDS: usize = 200;
-/// With the warm ones, 4 bytes of each fit the queue.
 const ROUNDS: usize = 2000;
+/// Rounds with pieces held before they begin anew: at most 8 messages wait.
+const HELD_ROUNDS: usize = 7;
+/// Bytes that wait, in messages of equal length: 1, 8 or 255 of them.
+const MESSAGE_BYTES: usize = 4080;
 /// Bytes of a plain queuing: a frame's payload.
 const PLAIN_BYTES: usize = 170;
 
-/// A link: each round fills the queue, sends a burst and answers it.
+/// A link: each round fills the queue, by one message, sends a burst and answers it.
 pub struct Link {
     pub name: &'static str,
     profile: Profile,
+    /// Bytes that wait then: all that may, or what goes in eight bursts, so that few messages wait.
+    fill: usize,
     /// Of a burst's frames, those that arrive.
     arrive: fn(usize) -> u64,
 }
@@ -68,14 +73,19 @@ fn short_pieces(merge: bool) -> Profile {
 }
 
 pub fn links() -> Vec<Link> {
-    let link = |name, profile, arrive| Link { name, profile, arrive };
+    let link = |name, profile, fill, arrive| Link {
+        name,
+        profile,
+        fill,
+        arrive,
+    };
     vec![
-        link("free gear", Profile::usual(), all as fn(usize) -> u64),
-        link("pinned 10", pinned(10), all),
-        link("pinned 0", pinned(0), all),
-        link("Ladder", ladder(), all),
-        link("one third lost and held", Profile::usual(), two_thirds),
-        link("64 frames of 512 bytes", largest(), all),
+        link("free gear", Profile::usual(), WAITING_MOST, all as fn(usize) -> u64),
+        link("pinned 10", pinned(10), 8 * 1700, all),
+        link("pinned 0", pinned(0), 8 * 22, all),
+        link("Ladder", ladder(), WAITING_MOST, all),
+        link("one third lost and held", Profile::usual(), WAITING_MOST, two_thirds),
+        link("64 frames of 512 bytes", largest(), WAITING_MOST, all),
     ]
 }
 
@@ -108,7 +118,7 @@ impl Link {
         let bytes = bytes();
         let mut last = None;
         for round in from..to {
-            pair.queue(&bytes[pair.original.out.len()..]);
+            pair.queue(&bytes[pair.original.out.len()..self.fill]);
             let sent = pair.burst();
             ack(pair, round, sent, (self.arrive)(sent.frames));
             last = Some(sent);
@@ -150,11 +160,13 @@ pub fn after_split<M: Meter>(meter: M, merge: bool) -> Pair<M> {
     pair
 }
 
-/// Rounds with 2,048 pieces of which 64 are held and sent again, and 4 bytes queued.
-fn held_rounds<M: Meter>(pair: &mut Pair<M>, count: usize) -> Sent {
+/// Rounds with 2,048 pieces of which 64 are held and sent again, and 4 bytes queued where `queued` says so.
+fn held_rounds<M: Meter>(pair: &mut Pair<M>, count: usize, queued: bool) -> Sent {
     let mut last = None;
     for round in 0..count {
-        pair.queue(&[round as u8; 4]);
+        if queued {
+            pair.queue(&[round as u8; 4]);
+        }
         let sent = pair.burst();
         assert_eq!((sent.frames, pair.original.inflight.len()), (64, 2048));
         ack(pair, round, sent, 0);
@@ -166,14 +178,53 @@ fn held_rounds<M: Meter>(pair: &mut Pair<M>, count: usize) -> Sent {
 
 pub fn held<M: Meter>(meter: M) -> Pair<M> {
     let mut pair = after_split(meter, false);
-    held_rounds(&mut pair, WARM_ROUNDS);
+    held_rounds(&mut pair, WARM_ROUNDS, false);
+    held_rounds(&mut pair, 1, true);
     pair
 }
 
 pub fn held_times() -> (Clock, Sent) {
-    let mut pair = held(Clock::default()).with(Clock::default());
-    let sent = held_rounds(&mut pair, ROUNDS);
-    (pair.meter, sent)
+    let state = held(Clock::default());
+    let mut clock = Clock::default();
+    let mut last = None;
+    for _ in 0..ROUNDS / HELD_ROUNDS {
+        let mut pair = state.with(clock);
+        last = Some(held_rounds(&mut pair, HELD_ROUNDS - 1, true));
+        clock = pair.meter;
+    }
+    (clock, last.expect("there are rounds"))
+}
+
+/// A queuing at the end, a burst and its ack, over and over where `count` messages wait.
+pub fn message_times(count: usize) -> Clock {
+    let bytes = bytes();
+    let mut state = Pair::new(Clock::default(), &pinned(10), REPORT_DB);
+    for part in bytes[..MESSAGE_BYTES].chunks_exact(MESSAGE_BYTES / count) {
+        state.queue(part);
+    }
+    let mut clock = Clock::default();
+    for _ in 0..ROUNDS / 4 {
+        let mut pair = state.with(clock);
+        pair.queue(&bytes[..16]);
+        let sent = pair.burst();
+        pair.long(reply(sent, all(sent.frames)));
+        clock = pair.meter;
+    }
+    clock
+}
+
+/// A queuing of a flash message where 16,383 bytes of a routine one wait.
+pub fn first_times() -> Clock {
+    let bytes = bytes();
+    let mut state = Pair::new(Clock::default(), &pinned(10), REPORT_DB);
+    state.queue(&bytes[1..]);
+    let mut clock = Clock::default();
+    for _ in 0..ROUNDS / 4 {
+        let mut pair = state.with(clock);
+        pair.queue_first(&bytes[..1]);
+        clock = pair.meter;
+    }
+    clock
 }
 
 /// A burst over and over from one state.

@@ -86,9 +86,16 @@ impl CallList {
         self.answer("connect", answer);
     }
 
-    pub fn queue(&mut self, bytes: &[u8], answer: Result<(), Refusal>) {
-        self.call(format_args!("queue {}", hex(bytes)));
+    pub fn queue(&mut self, message: Message, bytes: &[u8], answer: Result<(), Refusal>) {
+        self.call(format_args!("queue {} {}", hex(bytes), message.class));
         self.answer("queue", answer);
+    }
+
+    /// The line of `messages`; labels and withdrawn bytes are 0.
+    pub fn messages(&mut self, m: &Messages) {
+        let entries: String = m.entries().map(|(class, left)| format!(" {class}:0:{left}")).collect();
+        self.call(format_args!("messages"));
+        let _ = writeln!(self.transcript, "messages {} {} 0{entries}", m.n, (m.n > 0 && m.begun) as u8);
     }
 
     pub fn short_ack(&mut self, h: Heard, r: Ack, answer: Result<(), Refusal>) {

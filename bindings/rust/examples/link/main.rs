@@ -1,7 +1,8 @@
-//! A mail over a simulated lossy link, through the safe wrapper: link CALLS TRANSCRIPT, as examples/link.c does in C.
+//! A mail of two messages over a simulated lossy link, through the safe wrapper: link CALLS TRANSCRIPT, as examples/link.c does in C.
 //!
-//! A far station loses every third frame or so and answers with short and long acks until the whole mail is there. What was called
-//! goes to CALLS and what was answered to TRANSCRIPT, for a comparison with `replay` (docs/CALLS.md); a station leaves the `list` lines out.
+//! The flash message is queued last and goes first. A far station loses every third frame or so and answers with short and long acks until
+//! the whole mail is there. What was called goes to CALLS and what was answered to TRANSCRIPT, for a comparison with `replay`
+//! (docs/CALLS.md); a station leaves the `list` lines out.
 
 mod call_list;
 mod usual;
@@ -9,7 +10,8 @@ mod usual;
 use call_list::CallList;
 use vanitycrow::*;
 
-const MAIL_BYTES: usize = 9000;
+const MAIL_BYTES: usize = 9000; // in the order in which they go
+const FLASH_BYTES: usize = 200; // of these
 const OUT_BYTES: usize = MAX_SLOTS * 180; // 64 long frames
 
 /// Numbers of a fixed sequence.
@@ -46,7 +48,14 @@ impl Far {
     }
 }
 
-/// The called station answers, and the mail is queued.
+fn queue(station: &mut Station, message: Message, bytes: &[u8], list: &mut CallList) -> Result<(), Refusal> {
+    let answer = station.queue(message, bytes);
+    list.queue(message, bytes, answer);
+    list.messages(station.messages());
+    answer
+}
+
+/// The called station answers, and the mail is queued: a routine message, then a flash message.
 fn begin(station: &mut Station, mail: &[u8], list: &mut CallList) -> Result<(), Refusal> {
     let heard = Heard { time: 1.0, wave: 1, snr_db: 2.0 };
     let class = ChanClass { echo: false, doppler: false };
@@ -54,9 +63,9 @@ fn begin(station: &mut Station, mail: &[u8], list: &mut CallList) -> Result<(), 
     let answer = station.connect(heard, reply);
     list.connect(heard, reply, answer);
     answer?;
-    let answer = station.queue(mail);
-    list.queue(mail, answer);
-    answer
+    let (flash, routine) = mail.split_at(FLASH_BYTES);
+    queue(station, Message::ROUTINE, routine, list)?;
+    queue(station, Message::FLASH, flash, list)
 }
 
 /// A burst and its ack: a short one up to six frames, else a long one.
@@ -67,6 +76,7 @@ fn exchange(station: &mut Station, far: &mut Far, time: f64, list: &mut CallList
     let mut out = [0; OUT_BYTES];
     let o = station.data_burst(&mut out)?;
     list.burst(&o, &out, size);
+    list.messages(station.messages());
     let bitmap = far.arrive(&o, &out, size);
     let (want_turn, want_disc, stored) = (false, false, true);
     if o.frames.n <= 6 {

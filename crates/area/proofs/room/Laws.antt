@@ -43,9 +43,9 @@ module _ (w t n : ℕ) where
   pub queue-fits : (f : ℕ) → f ≤ maxFlying → queueRefusal w t n ≡ 0 → f + w + n ≤ streamBytes
   queue-fits f h e = omega (arith, not-refused e)
 
-module _ (z : Sizes) (s : Sender) (bs : List ℕ) where
-  pub queue-allowed : queueRefusal (length (s .waiting)) (takenOf s) (length bs) ≡ 0 → Allowed z (queues bs) s
+module _ (z : Sizes) (s : Sender) (c : ℕ) (bs : List ℕ) where
+  pub queue-allowed : queueRefusal (length (s .waiting)) (takenOf s) (length bs) ≡ 0 → Allowed z (queues c bs) s
   queue-allowed e = not-refused _ _ _ e
 
-  pub allowed-queue : Allowed z (queues bs) s → queueRefusal (length (s .waiting)) (takenOf s) (length bs) ≡ 0
+  pub allowed-queue : Allowed z (queues c bs) s → queueRefusal (length (s .waiting)) (takenOf s) (length bs) ≡ 0
   allowed-queue a = room _ _ _ (a .0) (a .1)

@@ -1,31 +1,25 @@
 -- `queue`: by whether its line is right; its bytes are what the line has. Assumes nothing.
 use borrow.Author.Needs.{needs}
 use borrow.Author.Tests.{not-true, not-false}
-use Rattle.laws.proofs.Picks.{told-yes, told-no}
 use Rattle.list_calls.specs.Asked.{queueAsked}
 use Rattle.list_calls.proofs.Laws.{made}
 use Rattle.list_calls.proofs.queue.Statement.{statement}
 use Rattle.list_calls.proofs.queue.Tie as tie
 
-slice-aggregate-hex : tie.Need-slice-aggregate-hex
-slice-aggregate-hex c = search needs
+slice-aggregate-queue-words : tie.Need-slice-aggregate-queue-words
+slice-aggregate-queue-words c = search needs
 
-hex-requires : tie.Need-hex-requires
-hex-requires c κs = search needs
-
-done-requires : tie.Need-done-requires
-done-requires c κs = search needs
+queue-words-requires : tie.Need-queue-words-requires
+queue-words-requires c κs = search needs
 
 broken-requires : tie.Need-broken-requires
 broken-requires c κs = search needs
 
 returns : tie.Need-returns
 unfolding queueAsked
-returns c = rw (
-  ← c .before .before .before .before .hex .ensures .0,
-  told-no _ _ (c .before .before .done .ensures) (not-true _ (c .before .if1 .taken)),
-  c .broken .ensures,
-)
+returns c =
+    let w = c .before .before .before .before .queue-words in
+    rw (← w .ensures .0, not-true (w .result .ok) (c .before .if1 .taken), c .broken .ensures)
 
 slice-aggregate-least : tie.Need-slice-aggregate-least
 slice-aggregate-least c = search needs
@@ -48,22 +42,20 @@ same-length c = search needs
 returns-2 : tie.Need-returns-2
 unfolding queueAsked
 returns-2 c =
-    let w = c .before .before .before .before .before .before .before .before .before .before .hex .ensures in
+    let w = c .before .before .before .before .before .before .before .before .before .before .queue-words in
     rw (
-      ← w .0,
-      ← w .1,
+      ← w .ensures .0,
+      ← w .ensures .1,
       ← c .before .before .before .before .before .least .ensures .1 .1,
-      told-yes _ _ (c .before .before .before .before .before .before .before .before .done .ensures)
-          (not-false _ (c .before .before .before .before .before .before .before .if1 .left)),
+      not-false (w .result .ok) (c .before .before .before .before .before .before .before .if1 .left),
     ) (made (c .before .before .queue .ensures))
 
 pub queue-spec : {M : Type 1} → statement M
 queue-spec =
     tie.close
     (tie.spec
-    slice-aggregate-hex
-    hex-requires
-    done-requires
+    slice-aggregate-queue-words
+    queue-words-requires
     broken-requires
     returns
     slice-aggregate-least

@@ -7,12 +7,12 @@ use Rattle.area.specs.declared.lookup.Found.{Found}
 use Rattle.refusals.specs.declared.Verdict.{Verdict}
 use Rattle.verdicts.specs.Verdicts.{passed, standing}
 use Rattle.sender.specs.Calls.{nowhere, findOf}
-use Rattle.verdicts.proofs.Passed.{is-passed, not-passed, standing-passed, sound-rows}
+use Rattle.verdicts.proofs.Passed.{is-passed, not-passed, standing-three, sound-rows}
 use borrow.Author.Needs.{needs}
 use Rattle.sender.proofs.find.Statement.{statement}
 use Rattle.sender.proofs.find.Tie as tie
 
-stands : (c : tie.Else1) → let s = c .before .before .before .before in passed (standing (s .args .p) (s .args .s) (now (s .args .a)) false) ≡ true
+stands : (c : tie.Else1) → let s = c .before .before .before .before in passed (standing (s .args .p) (s .args .t) (now (s .args .a)) false) ≡ true
 stands c = is-passed _ _ _ (c .before .before .standing .ensures) (c .before .number .ensures) (c .if1 .left)
 
 standing-requires : tie.Need-standing-requires
@@ -26,7 +26,7 @@ unfolding findOf
 returns c = cond-no _ _ _ _ (not-passed _ _ _ (c .before .before .standing .ensures) (c .before .number .ensures) (c .if1 .taken)) (ap (λ (v : Verdict). record { verdict = v; found = nowhere }) (c .before .before .standing .ensures))
 
 find-requires : tie.Need-find-requires
-find-requires c κs = let s = c .before .before .before .before in let r = sound-rows (s .args .p) (s .args .s) (now (s .args .a)) (standing-passed (s .args .p) (s .args .s) (now (s .args .a)) false (stands c) .1) in (r .0, r .1)
+find-requires c κs = let s = c .before .before .before .before in let r = sound-rows (s .args .p) (s .args .t .sender) (now (s .args .a)) (standing-three (s .args .p) (s .args .t) (now (s .args .a)) false (stands c) .2) in (r .0, r .1)
 
 returns-2 : tie.Need-returns-2
 unfolding findOf

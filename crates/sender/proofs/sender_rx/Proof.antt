@@ -5,36 +5,47 @@ use mathlib.Core.Path.{_≡_, ap, _∙_}
 use Prim.Native.Nat.{ℕ}
 use lib.Dec.{eqb}
 use lib.ListN.{length}
-use borrow.Author.Needs.{length-unmapped}
+use borrow.Author.Needs.{needs, length-unmapped}
 use Rattle.record.proofs.View.{Arrays}
 use Rattle.refusals.specs.declared.Verdict.{Verdict}
 use Rattle.verdicts.specs.Verdicts.{passed, firstOf, standing, replyVerdict, receiveVerdict}
 use Rattle.verdicts.proofs.Passed.{is-passed, not-passed}
 use Rattle.sender.proofs.Answered.{receive-refused, answer-ranged, answerable, receive-accepted}
-use borrow.Author.Needs.{needs}
 use Rattle.sender.proofs.sender_rx.Statement.{statement}
 use Rattle.sender.proofs.sender_rx.Tie as tie
 use Rattle.limits.specs.Limits.{maxSlots}
 
-arrays : (s : tie.Start) → Arrays (s .args .s)
+arrays : (s : tie.Start) → Arrays (s .args .t .sender)
 arrays s =
+    let h = s .args .t .sender .«at_peer» in
+    let b = s .args .t .sender .«last_burst» in
     record {
-      heldOff = length-unmapped ℕ (s .args .s .«at_peer» .off) maxSlots (s .good .1 .0 .1 .1 .1 .1 .1 .0 .1 .1 .0 .1 .0 .1);
-      heldBits = length-unmapped ℕ (s .args .s .«at_peer» .bits) maxSlots (s .good .1 .0 .1 .1 .1 .1 .1 .0 .1 .1 .1 .0 .1 .0 .1);
-      sentOff = length-unmapped ℕ (s .args .s .«last_burst» .off) maxSlots (s .good .1 .0 .1 .1 .1 .1 .1 .1 .0 .1 .1 .0 .1 .0 .1);
-      sentBits = length-unmapped ℕ (s .args .s .«last_burst» .bits) maxSlots (s .good .1 .0 .1 .1 .1 .1 .1 .1 .0 .1 .1 .1 .0 .1 .0 .1);
-      sentHeld = length-unmapped ℕ (s .args .s .«last_burst» .held) maxSlots (s .good .1 .0 .1 .1 .1 .1 .1 .1 .0 .1 .1 .1 .1 .0 .1 .0 .1);
+      heldOff = length-unmapped ℕ (h .off) maxSlots (s .good .1 .0 .1 .1 .0 .1 .1 .1 .1 .1 .0 .1 .1 .0 .1 .0 .1);
+      heldBits = length-unmapped ℕ (h .bits) maxSlots (s .good .1 .0 .1 .1 .0 .1 .1 .1 .1 .1 .0 .1 .1 .1 .0 .1 .0 .1);
+      sentOff = length-unmapped ℕ (b .off) maxSlots (s .good .1 .0 .1 .1 .0 .1 .1 .1 .1 .1 .1 .0 .1 .1 .0 .1 .0 .1);
+      sentBits = length-unmapped ℕ (b .bits) maxSlots (s .good .1 .0 .1 .1 .0 .1 .1 .1 .1 .1 .1 .0 .1 .1 .1 .0 .1 .0 .1);
+      sentHeld = length-unmapped ℕ (b .held) maxSlots (s .good .1 .0 .1 .1 .0 .1 .1 .1 .1 .1 .1 .0 .1 .1 .1 .1 .0 .1 .0 .1);
     }
 
-asked : (c : tie.After-receive-verdict) → let s = c .before .before .before .before .before .before in c .receive-verdict .result ≡ receiveVerdict (s .args .p) (s .args .s) (now (s .args .a)) (s .args .h) (s .args .r) (length (now (s .args .payload)))
-unfolding receiveVerdict
-asked c =
-    let s = c .before .before .before .before .before .before in
-    c .receive-verdict .ensures
-    ∙ ap (λ (u : Verdict). firstOf u (replyVerdict (s .args .s .link .«last_time») (s .args .h) (s .args .r) (length (now (s .args .payload)))))
-    (c .before .standing .ensures ∙ ap (λ (k : ℕ). standing (s .args .p) (s .args .s) (now (s .args .a)) (eqb k 0)) (c .before .before .kind .ensures))
+-- where the verdict is there
+abbrev Judged : Type 0
+Judged = tie.After-receive-verdict
 
-accepted : (c : tie.Else1) → let s = c .before .before .before .before .before .before .before .before in passed (receiveVerdict (s .args .p) (s .args .s) (now (s .args .a)) (s .args .h) (s .args .r) (length (now (s .args .payload)))) ≡ true
+abbrev S : Judged → tie.Start
+S v = v .before .before .before .before .before .before
+
+abbrev verdict : tie.Start → Verdict
+verdict s = receiveVerdict (s .args .p) (s .args .t) (now (s .args .a)) (s .args .h) (s .args .r) (length (now (s .args .payload)))
+
+asked : (v : Judged) → v .receive-verdict .result ≡ verdict (S v)
+unfolding receiveVerdict
+asked v =
+    let s = S v in
+    v .receive-verdict .ensures
+    ∙ ap (λ (u : Verdict). firstOf u (replyVerdict (s .args .t .sender .link .«last_time») (s .args .h) (s .args .r) (length (now (s .args .payload)))))
+    (v .before .standing .ensures ∙ ap (λ (k : ℕ). standing (s .args .p) (s .args .t) (now (s .args .a)) (eqb k 0)) (v .before .before .kind .ensures))
+
+accepted : (c : tie.Else1) → passed (verdict (S (c .before .before))) ≡ true
 accepted c = is-passed _ _ _ (asked (c .before .before)) (c .before .number .ensures) (c .if1 .left)
 
 kind-requires : tie.Need-kind-requires
@@ -54,21 +65,28 @@ same-length c = search needs
 
 returns : tie.Need-returns
 returns c =
-    let s = c .before .before .before .before .before .before .before .before in
-    receive-refused (s .args .p) (s .args .s) (now (s .args .a)) (s .args .h) (s .args .r) (now (s .args .payload)) _ (asked (c .before .before))
-    (not-passed _ _ _ (asked (c .before .before)) (c .before .number .ensures) (c .if1 .taken))
+    let v = c .before .before in
+    let s = S v in
+    receive-refused (s .args .p) (s .args .t) (now (s .args .a)) (s .args .h) (s .args .r) (now (s .args .payload)) _ (asked v)
+    (not-passed _ _ _ (asked v) (c .before .number .ensures) (c .if1 .taken))
 
 answer-requires : tie.Need-answer-requires
-answer-requires c κs = let s = c .before .before .before .before .before .before .before .before .before in let ok = accepted (c .before) in (answer-ranged (s .args .p) (s .args .s) (now (s .args .a)) (s .args .h) (s .args .r) (now (s .args .payload)) ok, answerable (s .args .p) (s .args .s) (now (s .args .a)) (s .args .h) (s .args .r) (now (s .args .payload)) ok (arrays s))
+answer-requires c κs =
+    let s = S (c .before .before .before) in
+    let ok = accepted (c .before) in (
+      answer-ranged (s .args .p) (s .args .t) (now (s .args .a)) (s .args .h) (s .args .r) (now (s .args .payload)) ok,
+      answerable (s .args .p) (s .args .t) (now (s .args .a)) (s .args .h) (s .args .r) (now (s .args .payload)) ok (arrays s),
+    )
 
 same-length-2 : tie.Need-same-length-2
 same-length-2 c = search needs
 
 returns-2 : tie.Need-returns-2
 returns-2 c =
-    let e = c .before .before .before .before in
-    let s = e .before .before .before .before .before .before .before .before in
-    receive-accepted (s .args .p) (s .args .s) (now (s .args .a)) (s .args .h) (s .args .r) (now (s .args .payload)) (accepted e) _ _ _ (asked (e .before .before)) (c .before .before .answer .ensures)
+    let e = c .before .before .before .before .before in
+    let s = S (e .before .before) in
+    receive-accepted (s .args .p) (s .args .t) (now (s .args .a)) (s .args .h) (s .args .r) (now (s .args .payload)) (accepted e) _ _ (asked (e .before .before))
+    (c .before .before .before .answer .ensures)
 
 pub sender-rx-spec : {M : Type 1} → statement M
 sender-rx-spec =

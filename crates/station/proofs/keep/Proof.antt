@@ -7,9 +7,9 @@ use denote.Struct.Laws as LL
 use Rattle.ref_laws.proofs.Left.{goes-left, stay-left}
 use Rattle.ref_laws.proofs.Loop.{tyAt}
 use Rattle.station.proofs.Stored.{keeping1, keeping2}
-use Rattle.record.specs.declared.Sender.{Sender}
-use Rattle.record.proofs.Sender as T0
-use Rattle.record.proofs.Sender.Laws as T0′
+use Rattle.queuing.specs.declared.Station.{Station}
+use Rattle.queuing.proofs.Station as T0
+use Rattle.queuing.proofs.Station.Laws as T0′
 use Rattle.station.proofs.keep.Key.{name as #f}
 use Rattle.station.proofs.keep as f
 use Rattle.station.proofs.keep.Statement as stated
@@ -19,7 +19,7 @@ use Rattle.station.proofs.keep.Code.Mir as pieces
 abbrev stayed : Stays (f.ended .signature .params) (f.ended .kept)
 stayed = (stay-ref (0 ∷ []) tt (plain (λ _. T0.the-row)), (stay-left (plain (λ _. u8)) (f.ended .kept .1 .0), (stay-left (plain (λ _. T0.the-row)) (f.ended .kept .1 .1 .0), tt)))
 
-module _ {M : Type 1} (𝓤 : URA M) (H : Heap 𝓤) (A : Atoms 𝓤) (W : Given 𝓤 H A) (at-mem : Memory → SProp 𝓤) (run : Routine → Fun 𝓤) (𝓣 : Tables 𝓤 H) (κ0 : Lft) (q0 : Share) (b1 o1 : ℕ) (γ1 : GName) (h1 : Sender) (x2 : ℕ) (x3 : Sender) (is2 : Is (u8) x2 ((uint-vals w8) x2)) (is3 : Is (T0.the-row) x3 ((LL.vals T0.the-type T0′.the-laws) x3)) where
+module _ {M : Type 1} (𝓤 : URA M) (H : Heap 𝓤) (A : Atoms 𝓤) (W : Given 𝓤 H A) (at-mem : Memory → SProp 𝓤) (run : Routine → Fun 𝓤) (𝓣 : Tables 𝓤 H) (κ0 : Lft) (q0 : Share) (b1 o1 : ℕ) (γ1 : GName) (h1 : Station) (x2 : ℕ) (x3 : Station) (is2 : Is (u8) x2 ((uint-vals w8) x2)) (is3 : Is (T0.the-row) x3 ((LL.vals T0.the-type T0′.the-laws) x3)) where
   abbrev C : Calls 𝓤 H
   C = 𝓣 .C
 
@@ -48,7 +48,7 @@ module _ {M : Type 1} (𝓤 : URA M) (H : Heap 𝓤) (A : Atoms 𝓤) (W : Given
       assigns ! (bin ! (load ! (from ! (stop !)) (look ! 4 refl)) (lit ! tt) tt) (from ! (stop !)) (init ! 0 refl (bool-lawful 𝓤 H A W .typed (eqb x2 0) _ refl .0)) $
       first ! $ branches ! (load ! (from ! (stop !)) (look ! 0 refl))
       (λ yes1. move ! (10 ∷ []) $ fsplit3 ! $ drop ! $ move ! (0 ∷ 1 ∷ 12 ∷ []) $ opens ! tt T0.the-row {h = h1} b1 o1 (λ vs1. spelt ! T0.the-row (Is T0.the-row) (shows 𝓤 H A T0.the-row) (LL.vals T0.the-type T0′.the-laws) (LL.tells T0.the-type T0′.the-laws) fullShare h1 vs1 b1 o1 $ move ! (1 ∷ []) $ peeks ! T0.the-row (Is T0.the-row) (shows 𝓤 H A T0.the-row) h1 ((LL.vals T0.the-type T0′.the-laws) h1) (λ was1. drop ! $
-      -- the cell behind `s` is at hand
+      -- the cell behind `t` is at hand
       assigns-last ! (of-opd ! (load ! (from ! (stop !)) (look ! 6 {τ = T0′.mir} {v = only ((LL.vals T0.the-type T0′.the-laws) x3)} refl))) (from ! (hop ! (look ! 10 refl) (stop !))) (store-raw ! 0 {τ = T0′.mir} {v = only ((LL.vals T0.the-type T0′.the-laws) x3)} refl (LL.lawful T0.the-type T0′.the-laws 𝓤 H A W .typed x3 ((LL.vals T0.the-type T0′.the-laws) x3) is3 .0)) $
       exec ! C Λ (En l0 l1 l2 l3 l4) pieces.t-3 (atRet (En l0 l1 l2 l3 l4) Post) $
       assigns ! (of-opd ! (unit-lit !)) (from ! (stop !)) (init ! 12 refl (nothing-lawful 𝓤 H A W .typed tt _ refl .0)) $

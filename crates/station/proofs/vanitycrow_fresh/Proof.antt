@@ -5,13 +5,13 @@ use Rattle.ref_laws.proofs.Kit.{init, join, keep, land, lasts, later, load, loo
 use Rattle.ref_laws.proofs.Kit.{qed, raw, refl, returns, rewrite, shows, some, spelt, split, stay-ref, stop, store-raw, subst, suffices, tables, tablesOf, tripleOf, unit, unit-lit, use1, via, vptr, walk-meets, walkOf, walked, ℕ, !, [], _$_, _∵_, _∷_, _⊛_, ‵}
 use denote.Struct.Laws as LL
 use Rattle.ref_laws.proofs.Left.{asks}
-use Rattle.record.specs.declared.Sender.{Sender}
-use Rattle.record.proofs.Sender as T0
-use Rattle.record.proofs.Sender.Laws as T0′
-use Rattle.record.proofs.fresh as g0
-use Rattle.record.proofs.fresh.Symbol as g0-def
-use Rattle.record.proofs.fresh.Symbol.{name as #g0}
-use Rattle.record.proofs.fresh.Met as g0-thm
+use Rattle.queuing.specs.declared.Station.{Station}
+use Rattle.queuing.proofs.Station as T0
+use Rattle.queuing.proofs.Station.Laws as T0′
+use Rattle.sender.proofs.fresh as g0
+use Rattle.sender.proofs.fresh.Symbol as g0-def
+use Rattle.sender.proofs.fresh.Symbol.{name as #g0}
+use Rattle.sender.proofs.fresh.Met as g0-thm
 use Rattle.station.proofs.vanitycrow_fresh.Key.{name as #f}
 use Rattle.station.proofs.vanitycrow_fresh as f
 use Rattle.station.proofs.vanitycrow_fresh.Statement as stated
@@ -24,7 +24,7 @@ module _ {M : Type 1} (𝓤 : URA M) (H : Heap 𝓤) (A : Atoms 𝓤) (at-mem : 
   abbrev Callee-g0 : Contract 𝓤
   Callee-g0 = tripleOf 𝓤 H A g0.signature (g0.spec 𝓤 H A at-mem run)
 
-module _ {M : Type 1} (𝓤 : URA M) (H : Heap 𝓤) (A : Atoms 𝓤) (W : Given 𝓤 H A) (at-mem : Memory → SProp 𝓤) (run : Routine → Fun 𝓤) (𝓣 : Tables 𝓤 H) (known-g0 : Triple 𝓤 (𝓣 .C #g0) (Callee-g0 𝓤 H A at-mem run)) (κ0 : Lft) (q0 : Share) (b1 o1 : ℕ) (γ1 : GName) (h1 : Sender) where
+module _ {M : Type 1} (𝓤 : URA M) (H : Heap 𝓤) (A : Atoms 𝓤) (W : Given 𝓤 H A) (at-mem : Memory → SProp 𝓤) (run : Routine → Fun 𝓤) (𝓣 : Tables 𝓤 H) (known-g0 : Triple 𝓤 (𝓣 .C #g0) (Callee-g0 𝓤 H A at-mem run)) (κ0 : Lft) (q0 : Share) (b1 o1 : ℕ) (γ1 : GName) (h1 : Station) where
   abbrev C : Calls 𝓤 H
   C = 𝓣 .C
 
@@ -46,15 +46,15 @@ module _ {M : Type 1} (𝓤 : URA M) (H : Heap 𝓤) (A : Atoms 𝓤) (W : Given
       split ! $ move ! (1 ∷ []) $ drop ! $ move ! (1 ∷ []) $ fsplit ! $ move ! (1 ∷ []) $ drop ! $
       enter ! C Λ code.function (vptr b1 o1 ∷ []) Post $
       alloc1 ! (λ l0. alloc1 ! (λ l1. alloc1 ! (λ l2. alloc0 ! $ params1 ! $ pass1 ! (init ! 2 refl (tt, tt)) $ pass0 ! $
-      -- `record::fresh`
+      -- `sender::fresh`
       nothing ! $ nothing ! $ join ! $
       use1 W (raw (Callee-g0 𝓤 H A at-mem run .pre ((tt, tt, tt, tt, tt), tt))) (asks 𝓤 _) $
       calls-at ! fm (Callee-g0 𝓤 H A at-mem run) known-g0 ((tt, tt, tt, tt, tt), tt) (no-more !) (λ v1.
-      use1 W (later (some (λ (r : Sender). (‵ ftrue ⊛ ‵ (T0.the-row .own r (v1 ∷ []))) ⊛ raw (ensured 𝓤 H A g0.ended (g0.clauses 𝓤 H A at-mem run) tt tt tt r)))) (id⊢ 𝓤 _) $ await ! tt $ pick ! (λ r1. split ! $ move ! (1 ∷ []) $
+      use1 W (later (some (λ (r : Station). (‵ ftrue ⊛ ‵ (T0.the-row .own r (v1 ∷ []))) ⊛ raw (ensured 𝓤 H A g0.ended (g0.clauses 𝓤 H A at-mem run) tt tt tt r)))) (id⊢ 𝓤 _) $ await ! tt $ pick ! (λ r1. split ! $ move ! (1 ∷ []) $
       use1 W (some (λ (ws : Lasts g0.ended tt tt). ‵ (lasts g0.ended tt tt ws) ⊛ raw (g0.clauses 𝓤 H A at-mem run tt tt .ensures tt r1 (atExit g0.ended tt tt ws)))) (id⊢ 𝓤 _) $ pick ! (λ ws1. split ! $ drop ! $ move ! (1 ∷ []) $ split ! $ drop ! $ peeks ! T0.the-row (Is T0.the-row) (shows 𝓤 H A T0.the-row) r1 (v1 ∷ []) (λ isv1. drop ! $
       land ! (from ! (stop !)) (init ! 1 {τ = T0′.mir} {v = v1} refl (LL.lawful T0.the-type T0′.the-laws 𝓤 H A W .typed r1 (v1 ∷ []) isv1 .0)) $ rewrite ! 1 (λ (u : Val). ‵ (fat fullShare T0′.mir l2 0 u)) (ap only ((LL.tells T0.the-type T0′.the-laws) r1 _ isv1)) refl $
       move ! (7 ∷ []) $ fsplit3 ! $ drop ! $ move ! (0 ∷ 1 ∷ 9 ∷ []) $ opens ! tt T0.the-row {h = h1} b1 o1 (λ vs1. spelt ! T0.the-row (Is T0.the-row) (shows 𝓤 H A T0.the-row) (LL.vals T0.the-type T0′.the-laws) (LL.tells T0.the-type T0′.the-laws) fullShare h1 vs1 b1 o1 $ move ! (1 ∷ []) $ peeks ! T0.the-row (Is T0.the-row) (shows 𝓤 H A T0.the-row) h1 ((LL.vals T0.the-type T0′.the-laws) h1) (λ was1. drop ! $
-      -- the cell behind `s` is at hand
+      -- the cell behind `t` is at hand
       assigns ! (of-opd ! (load ! (from ! (stop !)) (look ! 5 {τ = T0′.mir} {v = only ((LL.vals T0.the-type T0′.the-laws) r1)} refl))) (from ! (hop ! (look ! 7 refl) (stop !))) (store-raw ! 0 {τ = T0′.mir} {v = only ((LL.vals T0.the-type T0′.the-laws) r1)} refl (LL.lawful T0.the-type T0′.the-laws 𝓤 H A W .typed r1 ((LL.vals T0.the-type T0′.the-laws) r1) (subst (Is T0.the-row r1) ((LL.tells T0.the-type T0′.the-laws) r1 _ isv1) isv1) .0)) $
       assigns ! (of-opd ! (unit-lit !)) (from ! (stop !)) (init ! 9 refl (nothing-lawful 𝓤 H A W .typed tt _ refl .0)) $
       owned ! T0.the-row (Is T0.the-row) (LL.makes T0.the-type T0′.the-plain 𝓤 H A) r1 ((LL.vals T0.the-type T0′.the-laws) r1) (subst (Is T0.the-row r1) ((LL.tells T0.the-type T0′.the-laws) r1 _ isv1) isv1) $ move ! (1 ∷ 0 ∷ 2 ∷ 3 ∷ 4 ∷ []) $ closes ! tt T0.the-row r1 ((LL.vals T0.the-type T0′.the-laws) r1) b1 o1 $ feqI ! (List Val) (vptr b1 o1 ∷ []) (vptr b1 o1 ∷ []) refl $ fjoin3 ! $
@@ -81,4 +81,4 @@ vanitycrow-fresh-spec 𝓤 H 𝓜 𝓖 𝓡 =
     entered 𝓤 H (tripleOf 𝓤 H (𝓖 .A) f.signature (f.spec 𝓤 H (𝓖 .A) (𝓜 .mem) (𝓡 .run)))
     (tables 𝓤 H 𝓜 𝓡 code.env .C) (tables 𝓤 H 𝓜 𝓡 code.env .Λ) #f code.function (code.unfolded 𝓤 H 𝓜 𝓡)
     (f-meets 𝓤 H (𝓖 .A) (givenOf 𝓤 H 𝓜 𝓖) (𝓜 .mem) (𝓡 .run) (tablesOf 𝓤 H 𝓜 (tables 𝓤 H 𝓜 𝓡 code.env))
-    (cited 𝓤 H (Callee-g0 𝓤 H (𝓖 .A) (𝓜 .mem) (𝓡 .run)) 𝓜 𝓡 code.env #g0 g0-def.routine code.calls-record·fresh (g0-thm.met 𝓤 H 𝓜 𝓖 𝓡)))
+    (cited 𝓤 H (Callee-g0 𝓤 H (𝓖 .A) (𝓜 .mem) (𝓡 .run)) 𝓜 𝓡 code.env #g0 g0-def.routine code.calls-sender·fresh (g0-thm.met 𝓤 H 𝓜 𝓖 𝓡)))

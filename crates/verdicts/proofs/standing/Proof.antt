@@ -1,13 +1,12 @@
 -- `verdicts::standing` meets its contract.
 use denote.Ref.{now}
-use mathlib.Core.Bool.{false, not}
-use mathlib.Core.Path.{_≡_, refl, sym, ap, _∙_}
+use mathlib.Core.Bool.{Bool, false, not, _&&_}
+use mathlib.Core.Path.{_≡_, refl, sym, ap, ap₂, _∙_}
 use borrow.Author.Tests.{not-false}
 use Rattle.laws.proofs.Picks.{cond-yes, cond-no}
 use Rattle.config.specs.Ranges.{inRange, inOrder}
 use Rattle.config.proofs.ranges.Ranged.{ranged}
-use Rattle.soundness.specs.Soundness.{soundOk}
-use Rattle.verdicts.specs.Verdicts.{standing}
+use Rattle.verdicts.specs.Verdicts.{stationOk, standing}
 use borrow.Author.Needs.{needs}
 use Rattle.verdicts.proofs.standing.Statement.{statement}
 use Rattle.verdicts.proofs.standing.Tie as tie
@@ -19,8 +18,10 @@ two : (c : tie.Else2) → not (inOrder (c .before .before .before .before .befor
 unfolding inOrder
 two c = sym (ap not (c .before .in-order .ensures)) ∙ c .if2 .left
 
-three : (c : tie.Else3) → let s = c .before .before .before .before .before .before .before .before in not (soundOk (s .args .p) (s .args .s) (now (s .args .a))) ≡ false
-three c = sym (ap not (c .before .is-sound .ensures)) ∙ c .if3 .left
+-- what the third test reads
+tested : (c : tie.After-is-sound) → let s = c .before .before .before .before .before .before .before .before in
+    not (c .before .messages-ok .result && c .is-sound .result) ≡ not (stationOk (s .args .p) (s .args .t) (now (s .args .a)))
+tested c = ap₂ (λ (x y : Bool). not (x && y)) (c .before .messages-ok .ensures) (c .is-sound .ensures)
 
 in-range-requires : tie.Need-in-range-requires
 in-range-requires c κs = search needs
@@ -36,20 +37,31 @@ returns-2 : tie.Need-returns-2
 unfolding standing inOrder
 returns-2 c = cond-no _ _ _ _ (one (c .before .before)) (cond-yes _ _ _ _ (sym (ap not (c .before .in-order .ensures)) ∙ c .if2 .taken) refl)
 
+messages-ok-requires : tie.Need-messages-ok-requires
+messages-ok-requires c κs = search needs
+
 is-sound-requires : tie.Need-is-sound-requires
-is-sound-requires c κs = ranged _ (not-false _ (one (c .before .before)))
+is-sound-requires c κs = ranged _ (not-false _ (one (c .before .before .before)))
 
 returns-3 : tie.Need-returns-3
 unfolding standing
-returns-3 c = cond-no _ _ _ _ (one (c .before .before .before .before)) (cond-no _ _ _ _ (two (c .before .before)) (cond-yes _ _ _ _ (sym (ap not (c .before .is-sound .ensures)) ∙ c .if3 .taken) refl))
+returns-3 c =
+    cond-no _ _ _ _ (one (c .before .before .before .before .before))
+    (cond-no _ _ _ _ (two (c .before .before .before)) (cond-yes _ _ _ _ (sym (tested (c .before)) ∙ c .if3 .taken) refl))
 
 returns-4 : tie.Need-returns-4
 unfolding standing
-returns-4 c = cond-no _ _ _ _ (one (c .before .before .before .before .before .before .before)) (cond-no _ _ _ _ (two (c .before .before .before .before .before)) (cond-no _ _ _ _ (three (c .before .before .before)) (cond-yes _ _ _ _ (c .if4 .taken) refl)))
+returns-4 c =
+    let e = c .before .before .before in
+    cond-no _ _ _ _ (one (e .before .before .before .before .before))
+    (cond-no _ _ _ _ (two (e .before .before .before)) (cond-no _ _ _ _ (sym (tested (e .before)) ∙ e .if3 .left) (cond-yes _ _ _ _ (c .if4 .taken) refl)))
 
 returns-5 : tie.Need-returns-5
 unfolding standing
-returns-5 c = cond-no _ _ _ _ (one (c .before .before .before .before .before .before .before)) (cond-no _ _ _ _ (two (c .before .before .before .before .before)) (cond-no _ _ _ _ (three (c .before .before .before)) (cond-no _ _ _ _ (c .if4 .left) refl)))
+returns-5 c =
+    let e = c .before .before .before in
+    cond-no _ _ _ _ (one (e .before .before .before .before .before))
+    (cond-no _ _ _ _ (two (e .before .before .before)) (cond-no _ _ _ _ (sym (tested (e .before)) ∙ e .if3 .left) (cond-no _ _ _ _ (c .if4 .left) refl)))
 
 pub standing-spec : {M : Type 1} → statement M
 standing-spec =
@@ -59,6 +71,7 @@ standing-spec =
     returns
     in-order-requires
     returns-2
+    messages-ok-requires
     is-sound-requires
     returns-3
     returns-4

@@ -49,10 +49,17 @@ slice-aggregate-or-7 c = search needs
 or-requires-7 : tie.Need-or-requires-7
 or-requires-7 c κs = search needs
 
+slice-aggregate-or-8 : tie.Need-slice-aggregate-or-8
+slice-aggregate-or-8 c = search needs
+
+or-requires-8 : tie.Need-or-requires-8
+or-requires-8 c κs = search needs
+
 returns : tie.Need-returns
 unfolding callOf
 returns c =
-    let p7 = c .before .before in
+    let p8 = c .before .before in
+    let p7 = p8 .before .before in
     let p6 = p7 .before .before in
     let p5 = p6 .before .before in
     let p4 = p5 .before .before in
@@ -60,7 +67,8 @@ returns c =
     let p2 = p3 .before .before in
     let p1 = p2 .before .before in
     rw (
-      c .or7 .ensures,
+      c .or8 .ensures,
+      p8 .or7 .ensures,
       p7 .or6 .ensures,
       p6 .or5 .ensures,
       p5 .or4 .ensures,
@@ -89,4 +97,6 @@ call-of-spec =
     or-requires-6
     slice-aggregate-or-7
     or-requires-7
+    slice-aggregate-or-8
+    or-requires-8
     returns)

@@ -1,0 +1,74 @@
+-- Messages of a single class: a new one goes last, and queuings and bursts keep the class.
+-- Assumes nothing.
+use Prim.Native.Nat.{ℕ, _-_}
+use mathlib.Core.Path.{_≡_, refl, sym, ap, _∙_}
+use mathlib.Core.Bool.{Bool, true, false}
+use mathlib.Core.List.{List, [], _∷_, _++_, append-assoc, append-nil}
+use native.Mathlib.Omega.{arith}
+use lib.Dec.{leb, eqb}
+use lib.ListN.{length}
+use borrow.Author.Tests.{le-leb}
+use Rattle.laws.proofs.Picks.{by}
+use Rattle.ledger.specs.Queue.{Message, Queue, messageBytes, goes, insert, first, behind, enqueue, fliesFrom, flies}
+use Rattle.ledger.proofs.Queue.{bytes-append}
+
+abbrev pub AllOf : ℕ → List Message → Type 0
+AllOf c [] = Unit {0}
+AllOf c (m ∷ ms) = (m .class ≡ c) × AllOf c ms
+
+insert-last : (c : ℕ) (m : Message) (ms : List Message) → m .class ≡ c → AllOf c ms → insert m ms ≡ ms ++ (m ∷ [])
+insert-last c m [] e h = refl
+insert-last c m (x ∷ xs) e h = rw (le-leb (x .class) (m .class) (omega (arith, h .0, e)), insert-last c m xs e (h .1))
+
+behind-all : (c : ℕ) (b : Bool) (ms : List Message) → AllOf c ms → AllOf c (behind b ms)
+behind-all c false ms h = h
+behind-all c true [] h = tt
+behind-all c true (x ∷ xs) h = h .1
+
+first-behind : (b : Bool) (ms : List Message) → first b ms ++ behind b ms ≡ ms
+first-behind false ms = refl
+first-behind true [] = refl
+first-behind true (x ∷ xs) = refl
+
+pub single : (c : ℕ) (bs : List ℕ) (q : Queue) → AllOf c (q .messages) → goes (enqueue c bs q) ≡ goes q ++ bs
+unfolding enqueue
+single c [] q h = sym (append-nil (goes q))
+single c (b ∷ bs) q h =
+    let m : Message = record { class = c; bytes = b ∷ bs } in
+    let f = first (q .begun) (q .messages) in
+    let r = behind (q .begun) (q .messages) in
+    rw (insert-last c m r refl (behind-all c (q .begun) (q .messages) h), bytes-append f (r ++ (m ∷ [])), bytes-append r (m ∷ []))
+    (sym (append-assoc (messageBytes f) (messageBytes r) (messageBytes (m ∷ []))) ∙ rw (← bytes-append f r, first-behind (q .begun) (q .messages), append-nil (b ∷ bs)))
+
+-- ---- a single class stays one
+
+insert-all : (c : ℕ) (m : Message) (ms : List Message) → m .class ≡ c → AllOf c ms → AllOf c (insert m ms)
+insert-all c m [] e h = (e, tt)
+insert-all c m (x ∷ xs) e h = by (AllOf c) (leb (x .class) (m .class)) (λ _. (h .0, insert-all c m xs e (h .1))) (λ _. (e, h))
+
+all-append : (c : ℕ) (xs ys : List Message) → AllOf c xs → AllOf c ys → AllOf c (xs ++ ys)
+all-append c [] ys h g = g
+all-append c (x ∷ xs) ys h g = (h .0, all-append c xs ys (h .1) g)
+
+first-all : (c : ℕ) (b : Bool) (ms : List Message) → AllOf c ms → AllOf c (first b ms)
+first-all c false ms h = tt
+first-all c true [] h = tt
+first-all c true (x ∷ xs) h = (h .0, tt)
+
+pub enqueue-all : (c : ℕ) (bs : List ℕ) (q : Queue) → AllOf c (q .messages) → AllOf c (enqueue c bs q .messages)
+unfolding enqueue
+enqueue-all c [] q h = h
+enqueue-all c (b ∷ bs) q h =
+    let m : Message = record { class = c; bytes = b ∷ bs } in
+    let late = behind (q .begun) (q .messages) in
+    all-append c (first (q .begun) (q .messages)) (insert m late) (first-all c (q .begun) (q .messages) h) (insert-all c m late refl (behind-all c (q .begun) (q .messages) h))
+
+flies-from-all : (c k : ℕ) (b : Bool) (ms : List Message) → AllOf c ms → AllOf c (fliesFrom k b ms .messages)
+flies-from-all c k b [] h = tt
+flies-from-all c k b (m ∷ ms) h =
+    by (λ (q : Queue). AllOf c (q .messages)) (eqb k 0) (λ _. h)
+    (λ _. by (λ (q : Queue). AllOf c (q .messages)) (leb (length (m .bytes)) k) (λ _. flies-from-all c (k - length (m .bytes)) false ms (h .1)) (λ _. h))
+
+pub flies-all : (c k : ℕ) (q : Queue) → AllOf c (q .messages) → AllOf c (flies k q .messages)
+unfolding flies
+flies-all c k q h = flies-from-all c k (q .begun) (q .messages) h

@@ -1,0 +1,304 @@
+-- "WITH A SINGLE CLASS THE RUST IS STILL EQUALLED": the claim of specs/Single.antt.
+-- A call on a station whose messages are sound, and all of the class k, does to sender and work area what the base's call does, and answers the same: the verdicts agree (`standing-same`,
+-- `queue-same`), a new message goes last (`single`), and replies and bursts are the base's own. That its messages are so holds after every call: where the calls get through by
+-- `does`, and where every call is refused because nothing changes.
+-- Assumes nothing.
+use mathlib.Core.Path.{_≡_, refl, sym, ap, ap₂, _∙_, subst}
+use mathlib.Core.List.{List, [], _∷_, _++_, append-nil}
+use mathlib.Core.Bool.{Bool, true, false, cond, not, _&&_, false≢true}
+use Prim.Native.Nat.{ℕ, _+_, _≤_}
+use native.Mathlib.Omega.{arith}
+use lib.Dec.{ltb, leb, eqb}
+use lib.ListN.{length, replicate, length-replicate}
+use borrow.Author.Tests.{eqb-true, ne-eqb, le-ltb, leb-true, leb-false}
+use Rattle.laws.proofs.Picks.{by, by₂, test, and-first, and-second, and-yes}
+use Rattle.limits.specs.Limits.{maxClass, maxMessages}
+use Rattle.config.specs.declared.Profile.{Profile}
+use Rattle.config.specs.Ranged.{Ranged}
+use Rattle.config.specs.Ranges.{inRange, inOrder}
+use Rattle.config.proofs.ranges.Ranged.{ranged}
+use Rattle.area.specs.Layout.{areaBytes}
+use Rattle.area.specs.Room.{queueRefusal}
+use Rattle.ledger.specs.Calls.{Along, run}
+use Rattle.ledger.specs.CallsCode as C
+use Rattle.ledger.specs.Ledger as L
+use Rattle.ledger.specs.Queue.{goes, enqueue}
+use Rattle.ledger.specs.Station as St
+use Rattle.ledger.specs.Station.{takeIn}
+use Rattle.messages.specs.Messages.{messagesOk, queueIn}
+use Rattle.messages.proofs.Kept.{sound-ok, sound-none}
+use Rattle.queuing.specs.Station.{viewStation, storeStation, queuedIn, freshStation}
+use Rattle.queuing.proofs.Queuing.{stored-already}
+use Rattle.queuing.proofs.Shown.{goes-shown, fresh-shows}
+use Rattle.record.specs.View.{view, store, storeArea}
+use Rattle.record.specs.declared.Sender.{Sender}
+use Rattle.record.proofs.View.{Arrays, Counted}
+use Rattle.soundness.proofs.fields.Sound.{sound-counted}
+use Rattle.replies.specs.declared.Heard.{Heard}
+use Rattle.refusals.specs.declared.Verdict.{Verdict}
+use Rattle.refusals.specs.declared.Verdict.the-variants.{Accepted, QueueFull, AllTaken, BadClass, TooManyMessages}
+use Rattle.refusals.specs.declared.Reply.{Reply}
+use Rattle.refusals.specs.declared.Reply.the-variants.{ConnAck, Ack, LongAck, Turn}
+use Rattle.refusals.specs.Refusals.{numberOf, kindOf}
+use Rattle.report.specs.declared.ack.AckRead.{AckRead}
+use Rattle.report.specs.declared.ack.AckRead.the-variants.{TooShort, Info}
+use Rattle.report.specs.Ack.{ackOf}
+use Rattle.verdicts.specs.Verdicts.{passed, firstOf, standing, roomVerdict, replyVerdict, outputVerdict, queueVerdict, receiveVerdict, burstVerdict}
+use Rattle.receive.specs.Accepted.{acceptedReply}
+use Rattle.outgoing.specs.Outgoing.{burstOf}
+use Rattle.outgoing.specs.declared.Outgoing.{Outgoing}
+use Rattle.sender.specs.Base.{standingBase, queueVerdictBase, queueBase, receiveBase, burstBase}
+use Rattle.sender.specs.Calls.{queueOf, receiveOf, noBurst, burstCall}
+use Rattle.sender.specs.declared.Answer.{Answer}
+use Rattle.sender.specs.declared.Bursted.{Bursted}
+use Rattle.demand.specs.Lists.{Call, queues, hears, bursts, State, Given, freshStart, shown, next}
+use Rattle.demand.specs.Single.{BaseCall, plain, Said, justVerdict, BaseState, nextBase, saidBase, allSaidBase, said, tooMany, erased, allSaid, OneClass, SingleClass}
+use Rattle.laws.specs.Bytes.{Bytes}
+use Rattle.messages.specs.SoundCode.{SoundMessages}
+use Rattle.sender.proofs.Refused.{queue-verdict, receive-verdict, burst-verdict}
+use Rattle.verdicts.proofs.Passed.{queue-passed, queue-room}
+use Rattle.replies.specs.declared.LongAck as B
+use Rattle.demand.proofs.Answers.{queue-no, hear-no, burst-no}
+use Rattle.demand.proofs.OneClass.{AllOf, single, enqueue-all, flies-all}
+use Rattle.demand.proofs.Connected.{quiet-next}
+use Rattle.demand.proofs.Steps.{does, call, callOf, longCallOf}
+use Rattle.demand.proofs.Reached.{Fit, fresh-fit, stays, refused-by}
+
+abbrev core : State → BaseState
+core c = (c .0 .sender, c .1)
+
+abbrev Listed : State → Type 0
+Listed c = messagesOk (c .0 .sender .counts .waiting) (c .0 .messages) ≡ true
+
+-- ---- the verdicts agree
+
+module _ (p : Profile) (c : State) (ok : Listed c) where
+  standing-same : (connect : Bool) → standing p (c .0) (c .1) connect ≡ standingBase p (c .0 .sender) (c .1) connect
+  unfolding standing standingBase
+  standing-same connect = rw ok refl
+
+  abbrev room : ℕ → Verdict → Verdict
+  room n last =
+      let s = c .0 .sender in
+      let q = queueRefusal (s .counts .waiting) (s .counts .«next_offset» + s .counts .waiting) n in
+      cond (eqb q 8) QueueFull (cond (eqb q 9) AllTaken last)
+
+  abbrev judged : ℕ → Verdict → Verdict
+  judged n last = firstOf (standingBase p (c .0 .sender) (c .1) false) (room n last)
+
+  -- not 12: the last test is Accepted's, or another verdict comes before it
+  unless-many : (x : Bool) (v : Verdict) (y z b : Bool) → let w = cond x (cond y QueueFull (cond z AllTaken (cond b TooManyMessages Accepted))) v in
+      eqb (numberOf w) 12 ≡ false → w ≡ cond x (cond y QueueFull (cond z AllTaken Accepted)) v
+  unless-many false v y z b e = refl
+  unless-many true v true z b e = refl
+  unless-many true v false true b e = refl
+  unless-many true v false false true e = absurd (false≢true (sym e))
+  unless-many true v false false false e = refl
+
+  queue-same : (k : ℕ) → k ≤ maxClass → (n : ℕ) → eqb (numberOf (queueVerdict p (c .0) (c .1) k n)) 12 ≡ false
+      → queueVerdict p (c .0) (c .1) k n ≡ queueVerdictBase p (c .0 .sender) (c .1) n
+  unfolding queueVerdict roomVerdict queueVerdictBase
+  queue-same k low n e =
+      let b = ltb 0 n && leb maxMessages (c .0 .messages .n) in
+      let f : queueVerdict p (c .0) (c .1) k n ≡ judged n (cond b TooManyMessages Accepted) =
+      ap₂ (λ (v : Verdict) (t : Bool). firstOf v (cond t BadClass (room n (cond b TooManyMessages Accepted)))) (standing-same false) (le-ltb maxClass k low) in
+      let s = c .0 .sender in
+      let v = standingBase p s (c .1) false in
+      let q = queueRefusal (s .counts .waiting) (s .counts .«next_offset» + s .counts .waiting) n in
+      f ∙ unless-many (passed v) v (eqb q 8) (eqb q 9) b (sym (ap (λ (u : Verdict). eqb (numberOf u) 12) f) ∙ e)
+
+-- ---- a call that is not refused by 12 does what the base's does
+
+abbrev Same : Profile → State → Call → Type 0
+Same p c i = (core (next p i c) ≡ nextBase p (plain i) (core c)) × (said p i c ≡ saidBase p (plain i) (core c))
+
+module _ (p : Profile) (c : State) (ok : Listed c) where
+  abbrev s : Sender
+  s = c .0 .sender
+
+  module _ (h : Heard) (r : Reply) (b : List ℕ) where
+    abbrev vr : Verdict
+    vr = receiveVerdict p (c .0) (c .1) h r (length b)
+
+    reply-verdict : vr ≡ firstOf (standingBase p s (c .1) (eqb (kindOf r) 0)) (replyVerdict (s .link .«last_time») h r (length b))
+    unfolding receiveVerdict
+    reply-verdict = ap (λ (v : Verdict). firstOf v (replyVerdict (s .link .«last_time») h r (length b))) (standing-same p c ok (eqb (kindOf r) 0))
+
+    reply-same : Same p c (hears h r b)
+    unfolding receiveOf receiveBase
+    reply-same = (
+      by₂ (λ (y : Answer × List ℕ) (z : BaseState). (y .0 .next .sender, y .1) ≡ z) (passed vr) (λ t. refl) (λ t. refl)
+          ∙ ap (λ (v : Verdict). cond (passed v) (acceptedReply p h r b s (c .1)) (core c)) reply-verdict,
+      ap justVerdict (receive-verdict p (c .0) (c .1) h r b ∙ reply-verdict),
+    )
+
+  module _ (out : List ℕ) where
+    abbrev vb : Verdict
+    vb = burstVerdict p (c .0) (c .1) (length out)
+
+    abbrev Made : Type 0
+    Made = (Outgoing × Sender) × (List ℕ × List ℕ)
+
+    burst-verdict-same : vb ≡ firstOf (standingBase p s (c .1) false) (outputVerdict (p .«long_bytes») (length out))
+    unfolding burstVerdict
+    burst-verdict-same = ap (λ (v : Verdict). firstOf v (outputVerdict (p .«long_bytes») (length out))) (standing-same p c ok false)
+
+    abbrev made : Verdict → Made
+    made v = cond (passed v) (burstOf p s (c .1) out) ((noBurst, s), (c .1, out))
+
+    burst-same : Same p c (bursts out)
+    unfolding burstCall burstBase
+    burst-same = (
+      by₂ (λ (y : Bursted × (List ℕ × List ℕ)) (z : Made). _≡_ {A = BaseState} (y .0 .next .sender, y .1 .0) (z .0 .1, z .1 .0)) (passed vb) (λ t. refl) (λ t. refl)
+          ∙ ap (λ (v : Verdict). let x = made v in (x .0 .1, x .1 .0)) burst-verdict-same,
+      by₂ (λ (y : Bursted × (List ℕ × List ℕ)) (z : Made). _≡_ {A = Said} (record { verdict = y .0 .verdict; outgoing = y .0 .outgoing; out = y .1 .1 })
+          (record { verdict = vb; outgoing = z .0 .0; out = z .1 .1 })) (passed vb) (λ t. refl) (λ t. refl)
+          ∙ ap (λ (v : Verdict). let x = made v in record { verdict = v; outgoing = x .0 .0; out = x .1 .1 }) burst-verdict-same,
+    )
+
+  -- a queuing: all messages of the class k, and the new one goes last
+  module _ (k : ℕ) (low : k ≤ maxClass) (bs : List ℕ) where
+    abbrev after : L.Sender
+    after = L.requeue (view s (c .1) .waiting ++ bs) (view s (c .1))
+
+    abbrev vq : Verdict
+    vq = queueVerdict p (c .0) (c .1) k (length bs)
+
+    module _ (all : AllOf k (shown c .queue .messages)) (counted : Counted s (c .1)) (by8 : Bytes (c .1)) (ar : Arrays s) (so : SoundMessages (c .0 .messages) (s .counts .waiting)) where
+      queued-last : (x : List ℕ) → x ≡ bs → core (queuedIn k x (c .0) (c .1)) ≡ (store after s, storeArea after (c .1))
+      unfolding queuedIn takeIn storeStation viewStation
+      queued-last [] e =
+          let y = stored-already s (c .1) counted by8 ar in
+          let f : view s (c .1) .waiting ≡ view s (c .1) .waiting ++ bs = sym (append-nil (view s (c .1) .waiting)) ∙ ap (λ (z : List ℕ). view s (c .1) .waiting ++ z) e in
+          ap₂ (λ (u : Sender) (v : List ℕ). (u, v)) (sym (y .0)) (sym (y .1))
+          ∙ ap (λ (w : List ℕ). (store (L.requeue w (view s (c .1))) s, storeArea (L.requeue w (view s (c .1))) (c .1))) f
+      queued-last (b ∷ x) e =
+          let q = queueIn (c .0 .messages) (view s (c .1) .waiting) in
+          let f : goes (enqueue k (b ∷ x) q) ≡ view s (c .1) .waiting ++ bs =
+          single k (b ∷ x) q all ∙ ap₂ (λ (u v : List ℕ). u ++ v) (goes-shown (c .0) (c .1) counted so) e in
+          ap (λ (w : List ℕ). (store (L.requeue w (view s (c .1))) s, storeArea (L.requeue w (view s (c .1))) (c .1))) f
+
+    queue-does : (passed vq ≡ true → core (queuedIn k bs (c .0) (c .1)) ≡ (store after s, storeArea after (c .1))) → eqb (numberOf vq) 12 ≡ false → Same p c (queues k bs)
+    unfolding queueOf queueBase
+    queue-does last few =
+        let e = queue-same p c ok k low (length bs) few in (
+          by₂ (λ (y : Answer × List ℕ) (z : BaseState). (y .0 .next .sender, y .1) ≡ z) (passed vq) last (λ t. refl)
+              ∙ ap (λ (v : Verdict). cond (passed v) (store after s, storeArea after (c .1)) (core c)) e,
+          ap justVerdict (queue-verdict p (c .0) (c .1) k bs ∙ e),
+        )
+
+abbrev Ends : Profile → List Call → State → Type 0
+Ends p is c = (core (run (next p) is c) ≡ run (nextBase p) (erased p is c) (core c)) × (allSaid p is c ≡ allSaidBase p (erased p is c) (core c))
+
+-- ---- lists, by any invariant under which one call does what the base's does
+
+module _ (p : Profile) (k : ℕ) (Inv : State → Type 0)
+    (keeps : (i : Call) (c : State) → Given i c → OneClass k i c → Inv c → Inv (next p i c))
+    (stops : (i : Call) (c : State) → Given i c → OneClass k i c → Inv c → tooMany p i c ≡ true → core (next p i c) ≡ core c)
+    (same : (i : Call) (c : State) → Given i c → OneClass k i c → Inv c → tooMany p i c ≡ false → Same p c i) where
+  lists : (is : List Call) (c : State) → Along (next p) Given is c → Along (next p) (OneClass k) is c → Inv c → Ends p is c
+  lists [] c gs os v = (refl, refl)
+  lists (i ∷ is) c gs os v =
+      let c′ = next p i c in
+      let z = lists is c′ (gs .1) (os .1) (keeps i c (gs .0) (os .0) v) in
+      by₂ (λ (calls : List BaseCall) (says : List Said). (core (run (next p) is c′) ≡ run (nextBase p) calls (core c)) × (says ≡ allSaidBase p calls (core c))) (tooMany p i c)
+      (λ t. subst (λ (x : BaseState). (core (run (next p) is c′) ≡ run (nextBase p) (erased p is c′) x) × (allSaid p is c′ ≡ allSaidBase p (erased p is c′) x)) (stops i c (gs .0) (os .0) v t) z)
+      (λ t. let y = same i c (gs .0) (os .0) v t in (
+        z .0 ∙ ap (run (nextBase p) (erased p is c′)) (y .0),
+        ap₂ (λ (x : Said) (xs : List Said). x ∷ xs) (y .1) (z .1 ∙ ap (allSaidBase p (erased p is c′)) (y .0)),
+      ))
+
+-- a call that is refused by 12 changes nothing
+not-passed : (v w : Verdict) → w ≡ v → eqb (numberOf w) 12 ≡ true → passed v ≡ false
+not-passed v w e t = ne-eqb (numberOf v) 0 (λ z. omega (arith, z, eqb-true (numberOf w) 12 t, ap numberOf e))
+
+many-stays : (p : Profile) (i : Call) (c : State) → tooMany p i c ≡ true → next p i c ≡ c
+many-stays p (queues k bs) c t = queue-no p c k bs (not-passed _ _ (queue-verdict p (c .0) (c .1) k bs) t)
+many-stays p (hears h r b) c t = hear-no p c h r b (not-passed _ _ (receive-verdict p (c .0) (c .1) h r b) t)
+many-stays p (bursts out) c t = burst-no p c out (not-passed _ _ (burst-verdict p (c .0) (c .1) out) t)
+
+not-many : (p : Profile) (c : State) (k : ℕ) (bs : List ℕ) → tooMany p (queues k bs) c ≡ false → eqb (numberOf (queueVerdict p (c .0) (c .1) k (length bs))) 12 ≡ false
+not-many p c k bs t = ap (λ (v : Verdict). eqb (numberOf v) 12) (sym (queue-verdict p (c .0) (c .1) k bs)) ∙ t
+
+-- ---- the calls get through
+
+module _ (p : Profile) (rg : Ranged p) (io : inOrder p ≡ true) (six : length (p .codes .ends) ≤ 6) (k : ℕ) (low : k ≤ maxClass) where
+  abbrev Inv : State → Type 0
+  Inv c = Fit p rg io six c × AllOf k (shown c .queue .messages)
+
+  abbrev After : State → C.Move → Type 0
+  After c m = AllOf k (C.queueAfter m (shown c) .messages)
+
+  long-all : (c : State) (r : B.LongAck) (v : AckRead) → AllOf k (shown c .queue .messages) → After c (longCallOf p rg io six (c .0 .sender) r v)
+  long-all c r TooShort h = h
+  long-all c r (Info i) h = h
+
+  reply-all : (c : State) (r : Reply) (b : List ℕ) → AllOf k (shown c .queue .messages) → After c (callOf p rg io six (c .0 .sender) r b)
+  reply-all c (ConnAck r) b h = h
+  reply-all c (Ack r) b h = h
+  reply-all c (LongAck r) b h = long-all c r (ackOf b) h
+  reply-all c (Turn r) b h = h
+
+  all-after : (i : Call) (c : State) → OneClass k i c → AllOf k (shown c .queue .messages) → After c (call p rg io six i c)
+  all-after (queues j bs) c o h =
+      by (After c) (passed (queueVerdict p (c .0) (c .1) j (length bs)))
+      (λ _. subst (λ (x : ℕ). AllOf k (enqueue x bs (shown c .queue) .messages)) (sym o) (enqueue-all k bs (shown c .queue) h)) (λ _. h)
+  all-after (hears h r b) c o a = by (After c) (passed (receiveVerdict p (c .0) (c .1) h r (length b))) (λ _. reply-all c r b a) (λ _. a)
+  all-after (bursts out) c o h = by (After c) (passed (burstVerdict p (c .0) (c .1) (length out))) (λ _. flies-all k _ (shown c .queue) h) (λ _. h)
+
+  keeps-class : (i : Call) (c : State) → Given i c → OneClass k i c → Inv c → Inv (next p i c)
+  keeps-class i c g o v =
+      let d = does p rg io six i c g (v .0 .0) (v .0 .1) in
+      ((d .keeps, quiet-next p i c (v .0 .1)), subst (λ (x : St.Station). AllOf k (x .queue .messages)) (sym (d .steps)) (all-after i c o (v .1)))
+
+  same-through : (i : Call) (c : State) → Given i c → OneClass k i c → Inv c → (ok : Listed c) → tooMany p i c ≡ false → Same p c i
+  same-through (queues j bs) c g o v ok t =
+      let w = v .0 .0 in
+      let f : eqb (numberOf (queueVerdict p (c .0) (c .1) k (length bs))) 12 ≡ false = subst (λ (x : ℕ). eqb (numberOf (queueVerdict p (c .0) (c .1) x (length bs))) 12 ≡ false) o (not-many p c j bs t) in
+      subst (λ (x : ℕ). Same p c (queues x bs)) (sym o)
+      (queue-does p c ok k low bs
+      (λ _. queued-last p c ok k low bs (v .1) (sound-counted p (c .0 .sender) (c .1) (w .well .sound)) (w .well .bytes) (w .well .arrays) (w .listed) bs refl) f)
+  same-through (hears h r b) c g o v ok t = reply-same p c ok h r b
+  same-through (bursts out) c g o v ok t = burst-same p c ok out
+
+  through : (n : ℕ) → areaBytes ≤ n → (is : List Call) → Along (next p) Given is (freshStart n) → Along (next p) (OneClass k) is (freshStart n) → Ends p is (freshStart n)
+  through n large is gs os =
+      lists p k Inv keeps-class (λ i c g o v t. ap core (many-stays p i c t))
+      (λ i c g o v t. same-through i c g o v (sound-ok _ _ (v .0 .0 .listed)) t) is (freshStart n) gs os
+      (fresh-fit p rg io six n large, subst (λ (x : St.Station). AllOf k (x .queue .messages)) (sym (fresh-shows (replicate n 0))) tt)
+
+-- ---- every call is refused
+
+module _ (p : Profile) (n : ℕ) (no : (inRange p && inOrder p) ≡ true → areaBytes ≤ n → ⊥) (k : ℕ) (low : k ≤ maxClass) where
+  fresh-listed : Listed (freshStart n)
+  fresh-listed = sound-ok _ _ sound-none
+
+  never : (bs : List ℕ) → passed (queueVerdict p freshStation (replicate n 0) k (length bs)) ≡ true → ⊥
+  never bs e =
+      let q = queue-passed p freshStation (replicate n 0) k (length bs) e in
+      no (and-yes (inRange p) (inOrder p) (q .one) (q .two)) (omega (arith, queue-room p freshStation (replicate n 0) k (length bs) e .1, length-replicate {A = ℕ} n 0))
+
+  same-refused : (i : Call) → OneClass k i (freshStart n) → tooMany p i (freshStart n) ≡ false → Same p (freshStart n) i
+  same-refused (queues j bs) o t =
+      let f = subst (λ (x : ℕ). eqb (numberOf (queueVerdict p freshStation (replicate n 0) x (length bs))) 12 ≡ false) o (not-many p (freshStart n) j bs t) in
+      subst (λ (x : ℕ). Same p (freshStart n) (queues x bs)) (sym o) (queue-does p (freshStart n) fresh-listed k low bs (λ e. absurd (never bs e)) f)
+  same-refused (hears h r b) o t = reply-same p (freshStart n) fresh-listed h r b
+  same-refused (bursts out) o t = burst-same p (freshStart n) fresh-listed out
+
+  refused : (is : List Call) → Along (next p) Given is (freshStart n) → Along (next p) (OneClass k) is (freshStart n) → Ends p is (freshStart n)
+  refused is gs os =
+      let st = stays p n (refused-by p n no) in
+      lists p k (λ (c : State). c ≡ freshStart n) (λ i c g o e. ap (next p i) e ∙ st i .0) (λ i c g o e t. ap core (many-stays p i c t))
+      (λ i c g o e t. at-fresh i c e o t) is (freshStart n) gs os refl
+    where
+      at-fresh : (i : Call) (c : State) → c ≡ freshStart n → OneClass k i c → tooMany p i c ≡ false → Same p c i
+      at-fresh i c e =
+          subst (λ (x : State). OneClass k i x → tooMany p i x ≡ false → Same p x i) (sym e) (same-refused i)
+
+pub single-class : SingleClass
+single-class p six k low n is gs os =
+    test (inRange p && inOrder p)
+    (λ v. test (leb areaBytes n)
+    (λ l. through p (ranged p (and-first (inRange p) (inOrder p) v)) (and-second (inRange p) (inOrder p) v) six k low n (leb-true areaBytes n l) is gs os)
+    (λ l. refused p n (λ x y. omega (arith, leb-false areaBytes n l, y)) k low is gs os))
+    (λ v. refused p n (λ x y. false≢true (sym v ∙ x)) k low is gs os)

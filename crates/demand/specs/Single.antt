@@ -1,0 +1,95 @@
+-- "WITH A SINGLE CLASS THE RUST IS STILL EQUALLED" (document 02, Change 1): over every list of calls that queues with one class, record, work area
+-- and answers are those of the base, the queuings refused by 12 left out. Definitions only.
+-- To believe beside it: Lists.antt; of crates/sender Base.antt (the base's calls).
+use mathlib.Core.Path.{_≡_}
+use mathlib.Core.List.{List, [], _∷_}
+use mathlib.Core.Bool.{Bool, false, cond}
+use Prim.Native.Nat.{ℕ, _≤_}
+use lib.Dec.{eqb}
+use lib.ListN.{length, replicate}
+use Rattle.limits.specs.Limits.{maxClass}
+use Rattle.config.specs.declared.Profile.{Profile}
+use Rattle.ledger.specs.Calls.{Along, run}
+use Rattle.record.specs.Fresh.{fresh}
+use Rattle.record.specs.declared.Sender.{Sender}
+use Rattle.outgoing.specs.declared.Outgoing.{Outgoing}
+use Rattle.replies.specs.declared.Heard.{Heard}
+use Rattle.refusals.specs.declared.Verdict.{Verdict}
+use Rattle.refusals.specs.declared.Reply.{Reply}
+use Rattle.refusals.specs.Refusals.{numberOf}
+use Rattle.sender.specs.Base.{queueBase, receiveBase, burstBase}
+use Rattle.sender.specs.Calls.{queueOf, receiveOf, noBurst, burstCall}
+use Rattle.demand.specs.Lists.{Call, queues, hears, bursts, State, Given, freshStart, next}
+
+-- a call of the base
+pub data BaseCall : Type 0 where
+  queuesBytes : List ℕ → BaseCall
+  hearsReply : Heard → Reply → List ℕ → BaseCall
+  burstsInto : List ℕ → BaseCall
+
+-- the class left off
+abbrev pub plain : Call → BaseCall
+plain (queues k bs) = queuesBytes bs
+plain (hears h r b) = hearsReply h r b
+plain (bursts out) = burstsInto out
+
+-- what a call answers: its verdict, a burst and the output
+pub record Said : Type 0 where
+  pub verdict : Verdict
+  pub outgoing : Outgoing
+  pub out : List ℕ
+
+abbrev pub justVerdict : Verdict → Said
+justVerdict v = record { verdict = v; outgoing = noBurst; out = [] }
+
+-- ---- the base: its record and work area, what a call leaves and answers
+
+abbrev pub BaseState : Type 0
+BaseState = Sender × List ℕ
+
+module _ (p : Profile) where
+  abbrev pub nextBase : BaseCall → BaseState → BaseState
+  nextBase (queuesBytes bs) c = queueBase p (c .0) (c .1) bs .1
+  nextBase (hearsReply h r b) c = receiveBase p (c .0) (c .1) h r b .1
+  nextBase (burstsInto out) c = let x = burstBase p (c .0) (c .1) out .1 in (x .0 .1, x .1 .0)
+
+  abbrev pub saidBase : BaseCall → BaseState → Said
+  saidBase (queuesBytes bs) c = justVerdict (queueBase p (c .0) (c .1) bs .0)
+  saidBase (hearsReply h r b) c = justVerdict (receiveBase p (c .0) (c .1) h r b .0)
+  saidBase (burstsInto out) c = let x = burstBase p (c .0) (c .1) out in record { verdict = x .0; outgoing = x .1 .0 .0; out = x .1 .1 .1 }
+
+  abbrev pub allSaidBase : List BaseCall → BaseState → List Said
+  allSaidBase [] c = []
+  allSaidBase (i ∷ is) c = saidBase i c ∷ allSaidBase is (nextBase i c)
+
+  -- ---- the station
+
+  abbrev pub said : Call → State → Said
+  said (queues k bs) c = justVerdict (queueOf p (c .0) (c .1) k bs .0 .verdict)
+  said (hears h r b) c = justVerdict (receiveOf p (c .0) (c .1) h r b .0 .verdict)
+  said (bursts out) c = let x = burstCall p (c .0) (c .1) out in record { verdict = x .0 .verdict; outgoing = x .0 .outgoing; out = x .1 .1 }
+
+  -- refused by 12
+  abbrev pub tooMany : Call → State → Bool
+  tooMany i c = eqb (numberOf (said i c .verdict)) 12
+
+  -- the calls that are not refused by 12, their classes left off, and what they answer
+  abbrev pub erased : List Call → State → List BaseCall
+  erased [] c = []
+  erased (i ∷ is) c = cond (tooMany i c) (erased is (next p i c)) (plain i ∷ erased is (next p i c))
+
+  abbrev pub allSaid : List Call → State → List Said
+  allSaid [] c = []
+  allSaid (i ∷ is) c = cond (tooMany i c) (allSaid is (next p i c)) (said i c ∷ allSaid is (next p i c))
+
+-- all that is queued has class k
+abbrev pub OneClass : ℕ → Call → State → Type 0
+OneClass k (queues j bs) c = j ≡ k
+OneClass k (hears h r b) c = Unit {0}
+OneClass k (bursts out) c = Unit {0}
+
+abbrev pub SingleClass : Type 0
+SingleClass = (p : Profile) → length (p .codes .ends) ≤ 6 → (k : ℕ) → k ≤ maxClass → (n : ℕ) (is : List Call)
+    → Along (next p) Given is (freshStart n) → Along (next p) (OneClass k) is (freshStart n)
+    → let c = run (next p) is (freshStart n) in let calls = erased p is (freshStart n) in
+    ((c .0 .sender, c .1) ≡ run (nextBase p) calls (fresh, replicate n 0)) × (allSaid p is (freshStart n) ≡ allSaidBase p calls (fresh, replicate n 0))

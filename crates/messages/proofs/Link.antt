@@ -1,0 +1,203 @@
+-- The queue that the record and the waiting bytes show takes the ledger's steps: what the code stores is what `enqueue` and `flies` leave.
+-- Assumes nothing.
+use Prim.Native.Nat.{ℕ, suc, _+_, _-_, _≤_, _<_}
+use mathlib.Core.Path.{_≡_, refl, sym, ap, ap₂, _∙_}
+use mathlib.Core.Bool.{Bool, true, false, _&&_}
+use mathlib.Core.List.{List, [], _∷_, _++_, append-assoc}
+use native.Mathlib.Omega.{arith}
+use lib.ListN.{length, take, drop, length-append, length-drop, length-map, take-append-drop}
+use lib.Seq.{take-at, drop-at, length-take-le}
+use lib.Dec.{leb, ltb, eqb}
+use borrow.Author.Tests.{lt-ltb, ltb-true}
+use Rattle.laws.proofs.Picks.{by, by₂, and-second}
+use Rattle.limits.specs.Limits.{maxMessages}
+use Rattle.ledger.specs.Queue.{Message, Queue, messageBytes, goes, insert, first, behind, enqueue, fliesFrom, flies}
+use Rattle.ledger.proofs.Queue.{Ready, goes-flies, ready-enqueue, ready-flies}
+use Rattle.messages.specs.declared.Messages.{Messages}
+use Rattle.messages.specs.declared.Position.{Position}
+use Rattle.messages.specs.Messages.{Entry, entryOf, entriesIn, storeEntries, total, begunIn, messagesOf, queueIn, entriesOf, storeQueue}
+use Rattle.messages.specs.MessagesCode.{placeIn, insertRow, Line, flownFrom, flown, storeLine}
+use Rattle.messages.specs.SoundCode.{Sized}
+use Rattle.messages.proofs.Entries.{length-entries, length-insert, with-begun}
+use Rattle.messages.proofs.Placed.{insertEntry, placed, row-placed}
+use Rattle.messages.proofs.Stored.{entries-stored}
+
+-- ---- entries cut out of bytes
+
+entries-messages : (es : List Entry) (w : List ℕ) → total es ≤ length w → entriesOf (messagesOf es w) ≡ es
+unfolding total
+entries-messages [] w h = refl
+entries-messages (e ∷ es) w h =
+    ap₂ (λ (x : Entry) (xs : List Entry). x ∷ xs) (ap (λ (k : ℕ). entryOf k (e .class)) (length-take-le (e .left) w (omega arith)))
+    (entries-messages es (drop (e .left) w) (omega (arith, length-drop (e .left) w)))
+
+bytes-messages : (es : List Entry) (w : List ℕ) → total es ≡ length w → messageBytes (messagesOf es w) ≡ w
+unfolding total
+bytes-messages [] [] h = refl
+bytes-messages [] (x ∷ w) h = absurd (omega arith)
+bytes-messages (e ∷ es) w h = ap (λ (r : List ℕ). take (e .left) w ++ r) (bytes-messages es (drop (e .left) w) (omega (arith, length-drop (e .left) w))) ∙ take-append-drop (e .left) w
+
+messages-entries : (ms : List Message) → messagesOf (entriesOf ms) (messageBytes ms) ≡ ms
+messages-entries [] = refl
+messages-entries (x ∷ ms) =
+    ap₂ (λ (bs : List ℕ) (xs : List Message). record { class = x .class; bytes = bs } ∷ xs) (take-at (x .bytes) (messageBytes ms) (length (x .bytes)) refl)
+    (ap (messagesOf (entriesOf ms)) (drop-at (x .bytes) (messageBytes ms) (length (x .bytes)) refl) ∙ messages-entries ms)
+
+-- ---- a queuing
+
+abbrev entry : Message → Entry
+entry x = entryOf (length (x .bytes)) (x .class)
+
+entries-insert : (x : Message) (ms : List Message) → entriesOf (insert x ms) ≡ insertEntry (entry x) (entriesOf ms)
+entries-insert x [] = refl
+entries-insert x (m ∷ ms) =
+    by₂ (λ (xs : List Message) (es : List Entry). entriesOf xs ≡ es) (leb (m .class) (x .class)) (λ _. ap (λ (es : List Entry). entry m ∷ es) (entries-insert x ms)) (λ _. refl)
+
+entries-placed : (x : Message) (b : Bool) (ms : List Message) → entriesOf (first b ms ++ insert x (behind b ms)) ≡ placed (entry x) b (entriesOf ms)
+entries-placed x false ms = entries-insert x ms
+entries-placed x true [] = refl
+entries-placed x true (m ∷ ms) = ap (λ (es : List Entry). entry m ∷ es) (entries-insert x ms)
+
+-- what `place` finds, behind r messages of y bytes; and behind m
+abbrev found : Message → ℕ → ℕ → Bool → List Message → Position
+found x r y b ms = placeIn (x .class) r y b (entriesOf ms)
+
+abbrev past : Message → Message → List Message → ℕ → ℕ → Position
+past x m ms r y = found x (r + 1) (y + length (m .bytes)) false ms
+
+-- bs put in behind the first k
+abbrev putBytes : ℕ → List ℕ → List ℕ → List ℕ
+putBytes k bs w = take k w ++ (bs ++ drop k w)
+
+put-bytes : (pre w bs : List ℕ) (k : ℕ) → length pre ≡ k → pre ++ (bs ++ w) ≡ putBytes k bs (pre ++ w)
+put-bytes pre w bs k e = ap₂ (λ (u v : List ℕ). u ++ (bs ++ v)) (sym (take-at pre w k e)) (sym (drop-at pre w k e))
+
+bytes-past : (bs u v pre : List ℕ) (w : List ℕ) (k : ℕ) → (pre ++ u) ++ v ≡ putBytes k bs ((pre ++ u) ++ w) → pre ++ (u ++ v) ≡ putBytes k bs (pre ++ (u ++ w))
+bytes-past bs u v pre w k e = sym (append-assoc pre u v) ∙ e ∙ ap (putBytes k bs) (append-assoc pre u w)
+
+bytes-goes : (x : Message) (ms : List Message) (pre : List ℕ) (r y : ℕ) (b : Bool) → length pre ≡ y →
+    pre ++ messageBytes (first b ms ++ insert x (behind b ms)) ≡ putBytes (found x r y b ms .bytes) (x .bytes) (pre ++ messageBytes ms)
+unfolding placeIn
+bytes-goes x [] pre r y true e = put-bytes pre [] (x .bytes) y e
+bytes-goes x [] pre r y false e = put-bytes pre [] (x .bytes) y e
+bytes-goes x (m ∷ ms) pre r y true e =
+    bytes-past (x .bytes) (m .bytes) (messageBytes (insert x ms)) pre (messageBytes ms) (past x m ms r y .bytes) (bytes-goes x ms (pre ++ m .bytes) (r + 1) (y + length (m .bytes)) false (omega (arith, length-append pre (m .bytes), e)))
+bytes-goes x (m ∷ ms) pre r y false e =
+    by₂ (λ (p : Position) (xs : List Message). pre ++ messageBytes xs ≡ putBytes (p .bytes) (x .bytes) (pre ++ (m .bytes ++ messageBytes ms))) (leb (m .class) (x .class))
+    (λ _. bytes-past (x .bytes) (m .bytes) (messageBytes (insert x ms)) pre (messageBytes ms) (past x m ms r y .bytes) (bytes-goes x ms (pre ++ m .bytes) (r + 1) (y + length (m .bytes)) false (omega (arith, length-append pre (m .bytes), e))))
+    (λ _. put-bytes pre (m .bytes ++ messageBytes ms) (x .bytes) y e)
+
+-- ---- a burst
+
+abbrev lineOf : Queue → Line
+lineOf q = record { begun = q .begun; entries = entriesOf (q .messages) }
+
+line-flies : (k : ℕ) (b : Bool) (ms : List Message) → lineOf (fliesFrom k b ms) ≡ flownFrom k b (entriesOf ms)
+line-flies k b [] = refl
+line-flies k b (m ∷ ms) =
+    by₂ (λ (q : Queue) (x : Line). lineOf q ≡ x) (eqb k 0) (λ _. refl)
+    (λ _.
+    by₂ (λ (q : Queue) (x : Line). lineOf q ≡ x) (leb (length (m .bytes)) k) (λ _. line-flies (k - length (m .bytes)) false ms)
+    (λ _. ap (λ (j : ℕ). record { begun = true; entries = entryOf j (m .class) ∷ entriesOf ms }) (length-drop k (m .bytes))))
+
+length-flies : (k : ℕ) (b : Bool) (ms : List Message) → length (fliesFrom k b ms .messages) ≤ length ms
+length-flies k b [] = omega arith
+length-flies k b (m ∷ ms) =
+    by (λ (q : Queue). length (q .messages) ≤ suc (length ms)) (eqb k 0) (λ _. omega arith)
+    (λ _. by (λ (q : Queue). length (q .messages) ≤ suc (length ms)) (leb (length (m .bytes)) k) (λ _. omega (arith, length-flies (k - length (m .bytes)) false ms)) (λ _. omega arith))
+
+-- ---- the record and the waiting bytes
+
+length-messages : (es : List Entry) (w : List ℕ) → length (messagesOf es w) ≡ length es
+length-messages [] w = refl
+length-messages (e ∷ es) w = ap suc (length-messages es (drop (e .left) w))
+
+-- A MESSAGE THAT HAS BEGUN IS THERE
+pub ready-shown : (m : Messages) (w : List ℕ) → Ready (queueIn m w)
+unfolding queueIn
+ready-shown m w = λ f. let h = ltb-true 0 (m .n) (and-second (m .begun) _ f) in omega (arith, length-messages (entriesIn m) w, length-entries m 0 (m .n))
+
+begun-some : (b : Bool) (n : ℕ) → (b ≡ true → 1 ≤ n) → (b && ltb 0 n) ≡ b
+begun-some true n r = lt-ltb 0 n (r refl)
+begun-some false n r = refl
+
+-- WHAT IS STORED IS SHOWN
+pub queue-stored : (q : Queue) (m : Messages) → Sized m → Ready q → length (q .messages) ≤ maxMessages → queueIn (storeQueue q m) (goes q) ≡ q
+unfolding queueIn storeQueue storeEntries
+queue-stored q m s r h =
+    let es = entriesOf (q .messages) in
+    let n = length-map (q .messages) entry in
+    ap₂ (λ (b : Bool) (ms : List Message). record { begun = b; messages = ms }) (begun-some (q .begun) (length es) (λ f. omega (arith, n, r f)))
+    (ap (λ (xs : List Entry). messagesOf xs (goes q)) (entries-stored m s (q .begun) es (omega (arith, n))) ∙ messages-entries (q .messages))
+
+module _ (m : Messages) (w : List ℕ) (sum : total (entriesIn m) ≡ length w) where
+  -- the waiting bytes are the queue's, in its order
+  pub shown : goes (queueIn m w) ≡ w
+  unfolding queueIn
+  shown = bytes-messages (entriesIn m) w sum
+
+  entries-shown : entriesOf (queueIn m w .messages) ≡ entriesIn m
+  unfolding queueIn
+  entries-shown = entries-messages (entriesIn m) w (omega arith)
+
+  module _ (c b : ℕ) (bs : List ℕ) where
+    abbrev p : Position
+    p = placeIn c 0 0 (m .begun) (entriesIn m)
+
+    abbrev new : Message
+    new = record { class = c; bytes = b ∷ bs }
+
+    at-begun : p ≡ placeIn c 0 0 (begunIn m) (entriesIn m)
+    unfolding placeIn
+    at-begun = with-begun (placeIn c 0 0) refl m
+
+    same : found new 0 0 (begunIn m) (queueIn m w .messages) ≡ p
+    same = ap (placeIn c 0 0 (begunIn m)) entries-shown ∙ sym at-begun
+
+    -- A QUEUING: the bytes go in where `place` says, and `insert` there stores what the ledger's queue then is
+    pub goes-place : goes (enqueue c (b ∷ bs) (queueIn m w)) ≡ take (p .bytes) w ++ ((b ∷ bs) ++ drop (p .bytes) w)
+    unfolding enqueue queueIn
+    goes-place =
+        bytes-goes new (queueIn m w .messages) [] 0 0 (begunIn m) refl
+        ∙ ap₂ (λ (x : Position) (v : List ℕ). putBytes (x .bytes) (b ∷ bs) v) same shown
+
+    insert-entries : insertRow (p .row) (entry new) (entriesIn m) ≡ entriesOf (enqueue c (b ∷ bs) (queueIn m w) .messages)
+    unfolding enqueue queueIn
+    insert-entries =
+        ap (λ (x : Position). insertRow (x .row) (entry new) (entriesIn m)) at-begun
+        ∙ row-placed (entry new) (entriesIn m) [] 0 0 (begunIn m) refl ∙ ap (placed (entry new) (begunIn m)) (sym entries-shown) ∙ sym (entries-placed new (begunIn m) (queueIn m w .messages))
+
+    abbrev inserted : Messages
+    inserted = storeEntries (begunIn m) (insertRow (p .row) (entry new) (entriesIn m)) m
+
+    pub insert-stores : inserted ≡ storeQueue (enqueue c (b ∷ bs) (queueIn m w)) m
+    unfolding enqueue queueIn storeQueue
+    insert-stores = ap (λ (es : List Entry). storeEntries (begunIn m) es m) insert-entries
+
+    pub insert-few : m .n < maxMessages → length (enqueue c (b ∷ bs) (queueIn m w) .messages) ≤ maxMessages
+    insert-few room =
+        let q = enqueue c (b ∷ bs) (queueIn m w) in
+        omega (arith, length-map (q .messages) entry, ap length insert-entries, length-insert (p .row) (entry new) (entriesIn m), length-entries m 0 (m .n))
+
+    pub insert-shows : Sized m → m .n < maxMessages → queueIn inserted (take (p .bytes) w ++ ((b ∷ bs) ++ drop (p .bytes) w)) ≡ enqueue c (b ∷ bs) (queueIn m w)
+    insert-shows z room =
+        ap₂ queueIn insert-stores (sym goes-place)
+        ∙ queue-stored (enqueue c (b ∷ bs) (queueIn m w)) m z (ready-enqueue c (queueIn m w) (b ∷ bs) (ready-shown m w)) (insert-few room)
+
+  -- A BURST: the first k waiting bytes go, and `fly` stores what the ledger's queue then is
+  pub goes-fly : (k : ℕ) → goes (flies k (queueIn m w)) ≡ drop k w
+  goes-fly k = goes-flies k (queueIn m w) ∙ ap (drop k) shown
+
+  pub fly-stores : (k : ℕ) → flown k m ≡ storeQueue (flies k (queueIn m w)) m
+  unfolding flown flies queueIn storeQueue
+  fly-stores k =
+      ap (λ (x : Line). storeLine x m)
+      (with-begun (flownFrom k) refl m ∙ ap (flownFrom k (begunIn m)) (sym entries-shown) ∙ sym (line-flies k (begunIn m) (queueIn m w .messages)))
+
+  pub fly-shows : Sized m → m .n ≤ maxMessages → (k : ℕ) → queueIn (flown k m) (drop k w) ≡ flies k (queueIn m w)
+  unfolding flies queueIn
+  fly-shows z most k =
+      let q = flies k (queueIn m w) in
+      let few : length (q .messages) ≤ maxMessages =
+      omega (arith, length-map (q .messages) entry, length-flies k (begunIn m) (queueIn m w .messages), length-map (queueIn m w .messages) entry, ap length entries-shown, length-entries m 0 (m .n)) in
+      ap₂ queueIn (fly-stores k) (sym (goes-fly k)) ∙ queue-stored q m z (ready-flies k (queueIn m w)) few

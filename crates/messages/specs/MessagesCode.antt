@@ -1,0 +1,58 @@
+-- The code's steps over the messages (document 02, Change 1): what follows the code or serves proofs; nothing here has to be believed.
+use Prim.Native.Nat.{ℕ, _+_, _-_}
+use mathlib.Core.Bool.{Bool, true, false, cond, _||_}
+use mathlib.Core.List.{List, [], _∷_, _++_}
+use lib.Dec.{leb, eqb}
+use lib.ListN.{take, drop}
+use Rattle.messages.specs.declared.Messages.{Messages}
+use Rattle.messages.specs.declared.Position.{Position}
+use Rattle.messages.specs.declared.Gone.{Gone}
+use Rattle.messages.specs.Messages.{Entry, entryOf, entriesIn, storeEntries}
+
+-- ---- a queuing
+
+-- where a message of class c goes: behind the begun one, and behind those of its class and of lower ones
+unfoldable pub placeIn : ℕ → ℕ → ℕ → Bool → List Entry → Position
+placeIn c row bytes b [] = record { row = row; bytes = bytes }
+placeIn c row bytes b (e ∷ es) =
+    cond (b || leb (e .class) c) (placeIn c (row + 1) (bytes + e .left) false es) (record { row = row; bytes = bytes })
+
+abbrev pub insertRow : ℕ → Entry → List Entry → List Entry
+insertRow row e es = take row es ++ (e ∷ drop row es)
+
+-- ---- a burst
+
+-- k waiting bytes begin to fly: the messages that go whole, the bytes left of the one behind them, and whether it has begun
+unfoldable pub goneIn : ℕ → ℕ → Bool → List Entry → Gone
+goneIn k rows b [] = record { rows = rows; left = 0; begun = false }
+goneIn k rows b (e ∷ es) =
+    cond (eqb k 0) (record { rows = rows; left = e .left; begun = b })
+    (cond (leb (e .left) k) (goneIn (k - e .left) (rows + 1) false es)
+    (record { rows = rows; left = e .left - k; begun = true }))
+
+-- the first entry has `left` bytes left
+abbrev pub withLeft : ℕ → List Entry → List Entry
+withLeft left [] = []
+withLeft left (e ∷ es) = entryOf left (e .class) ∷ es
+
+abbrev pub cutTo : ℕ → ℕ → List Entry → List Entry
+cutTo rows left es = withLeft left (drop rows es)
+
+-- entries, and whether the first has begun
+pub record Line : Type 0 where
+  pub begun : Bool
+  pub entries : List Entry
+
+-- what is left where k waiting bytes begin to fly
+abbrev pub flownFrom : ℕ → Bool → List Entry → Line
+flownFrom k b [] = record { begun = false; entries = [] }
+flownFrom k b (e ∷ es) =
+    cond (eqb k 0) (record { begun = b; entries = e ∷ es })
+    (cond (leb (e .left) k) (flownFrom (k - e .left) false es)
+    (record { begun = true; entries = entryOf (e .left - k) (e .class) ∷ es }))
+
+abbrev pub storeLine : Line → Messages → Messages
+storeLine x m = storeEntries (x .begun) (x .entries) m
+
+unfoldable pub flown : ℕ → Messages → Messages
+flown k m = storeLine (flownFrom k (m .begun) (entriesIn m)) m
