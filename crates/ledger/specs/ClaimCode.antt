@@ -8,7 +8,7 @@ use lib.ListN.{length, take, drop}
 use Rattle.laws.specs.Lists.{listed}
 use Rattle.limits.specs.Limits.{maxFlying, maxPieces}
 use Rattle.ledger.specs.Ledger.{Piece, Frame, Sender, size, find, offs, heldOffs}
-use Rattle.ledger.specs.Queue.{Message, Queue, messageBytes, behind, rest, count, ofClass, Ascending}
+use Rattle.ledger.specs.Queue.{Message, Queue, messageBytes, behind, rest, count, withdraws, ofClass, Ascending, Sublist}
 use Rattle.ledger.specs.Tally.{Tally, waits, Event, byteOf, inFlight, acknowledged, feed, framesTold}
 use Rattle.ledger.specs.Claim.{covering, flyingAt, ackedAt, settledBy}
 use Rattle.ledger.specs.CoverCode.{Ascend}
@@ -20,17 +20,19 @@ Carry bs ps [] = Unit {0}
 Carry bs ps (f ∷ fs) =
     (1 ≤ f .len) × (length (find (f .off) ps) ≡ f .len) × (find (f .off) ps ≡ take (f .len) (drop (f .off) bs)) × Carry bs ps fs
 
--- after a list of calls that queued the messages ms and left the sender s, the queue q and the tally t; one further call, told as e, leaves the
--- sender s′
-pub record LedgerClaim (z : Sizes) (ms : List Message) (s : Sender) (q : Queue) (t : Tally) (e : Event) (s′ : Sender) : Type 0 where
-  pub sum : t .taken ≡ length (waits t) + inFlight (t .flown) + acknowledged (t .flown)
+-- after a list of calls that queued the messages ms and left the sender s, the queue q, w bytes withdrawn, and the tally t; one further call, told
+-- as e, leaves the sender s′
+pub record LedgerClaim (z : Sizes) (ms : List Message) (s : Sender) (q : Queue) (w : ℕ) (t : Tally) (e : Event) (s′ : Sender) : Type 0 where
+  pub sum : t .taken ≡ length (waits t) + inFlight (t .flown) + acknowledged (t .flown) + length (messageBytes (t .withdrawn))
   pub taken : t .taken ≡ length (messageBytes ms)
-  pub each : (p : Message → Bool) → count p ms ≡ count p (t .began) + count p (behind (t .queue .begun) (t .queue .messages))
+  pub each : (p : Message → Bool) → count p ms ≡ count p (t .began) + count p (behind (t .queue .begun) (t .queue .messages)) + count p (t .withdrawn)
   pub history : map byteOf (t .flown) ++ rest (t .queue) ≡ messageBytes (t .began)
   pub waiting : s .waiting ≡ waits t
   pub queue : q ≡ t .queue
+  pub withdrawn : w ≡ length (messageBytes (t .withdrawn))
   pub order : Ascending 0 (behind (t .queue .begun) (t .queue .messages))
-  pub earliest : (c : ℕ) → ofClass c ms ≡ ofClass c (t .began) ++ ofClass c (behind (t .queue .begun) (t .queue .messages))
+  pub earliest : (c : ℕ) → Sublist (ofClass c (t .began) ++ ofClass c (behind (t .queue .begun) (t .queue .messages))) (ofClass c ms)
+  pub newest : (l : ℕ) → count (λ (m : Message). withdraws l (m .label)) (behind (t .queue .begun) (t .queue .messages)) ≤ 1
   pub covers : (o : ℕ) → covering o (s .pieces) ≡ flyingAt o (t .flown)
   pub inPieces : size (s .pieces) ≡ inFlight (t .flown)
   pub ascends : Ascend (z .long) 0 (s .next) (s .pieces)
