@@ -11,7 +11,7 @@ use borrow.Author.Tests.{leb-true, leb-false, le-leb, lt-ltb, ltb-true, eqb-true
 use Rattle.laws.proofs.Picks.{by, and-first, and-second}
 use Rattle.limits.specs.Limits.{maxClass, maxMessages}
 use Rattle.messages.specs.declared.Messages.{Messages}
-use Rattle.messages.specs.Messages.{noMessages, Entry, entryOf, entriesIn, total, entriesOk, messagesOk, storeEntries}
+use Rattle.messages.specs.Messages.{noMessages, Entry, entriesIn, total, entriesOk, messagesOk, storeEntries}
 use Rattle.messages.specs.MessagesCode.{insertRow, Line, flownFrom, flown}
 use Rattle.messages.specs.SoundCode.{Each, SoundMessages, Sized}
 use Rattle.messages.proofs.Entries.{length-entries, length-insert}
@@ -45,7 +45,7 @@ module _ (m : Messages) (w : ℕ) where
 -- ---- a fresh record
 
 pub sized-none : Sized noMessages
-sized-none = record { left = length-replicate {A = ℕ} maxMessages 0; class = length-replicate {A = ℕ} maxMessages 0 }
+sized-none = let e = length-replicate {A = ℕ} maxMessages 0 in record { left = e; class = e; label = e }
 
 pub sound-none : SoundMessages noMessages 0
 unfolding total
@@ -102,9 +102,8 @@ module _ (e : Entry) where
   each-insert some class (suc row) (x ∷ es) a = (a .0, a .1, each-insert some class row es (a .2))
 
 -- A QUEUING KEEPS A SOUND RECORD
-pub insert-sound : (m : Messages) (w l c : ℕ) → Sized m → SoundMessages m w → m .n < maxMessages → 1 ≤ l → c ≤ maxClass →
-    (b : Bool) (row : ℕ) → SoundMessages (storeEntries b (insertRow row (entryOf l c) (entriesIn m)) m) (w + l)
-insert-sound m w l c z s room some class b row =
-    let e = entryOf l c in
-    sound-stored m z b (insertRow row e (entriesIn m)) (w + l) (omega (arith, length-insert row e (entriesIn m), length-entries m 0 (m .n)))
+pub insert-sound : (m : Messages) (w : ℕ) (e : Entry) → Sized m → SoundMessages m w → m .n < maxMessages → 1 ≤ e .left → e .class ≤ maxClass →
+    (b : Bool) (row : ℕ) → SoundMessages (storeEntries b (insertRow row e (entriesIn m)) m) (w + e .left)
+insert-sound m w e z s room some class b row =
+    sound-stored m z b (insertRow row e (entriesIn m)) (w + e .left) (omega (arith, length-insert row e (entriesIn m), length-entries m 0 (m .n)))
     (each-insert e some class row (entriesIn m) (s .each)) (omega (arith, total-insert e row (entriesIn m), s .sum))
