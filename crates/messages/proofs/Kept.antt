@@ -11,11 +11,12 @@ use borrow.Author.Tests.{leb-true, leb-false, le-leb, lt-ltb, ltb-true, eqb-true
 use Rattle.laws.proofs.Picks.{by, and-first, and-second}
 use Rattle.limits.specs.Limits.{maxClass, maxMessages}
 use Rattle.messages.specs.declared.Messages.{Messages}
-use Rattle.messages.specs.Messages.{noMessages, Entry, entriesIn, total, entriesOk, messagesOk, storeEntries}
-use Rattle.messages.specs.MessagesCode.{insertRow, Line, flownFrom, flown}
+use Rattle.messages.specs.Messages.{noMessages, Entry, entriesIn, total, entriesOk, messagesOk, storeEntries, withWithdrawn, begunIn}
+use Rattle.messages.specs.MessagesCode.{insertRow, goIn, stayIn, withdrawn, Line, flownFrom, flown}
 use Rattle.messages.specs.SoundCode.{Each, SoundMessages, Sized}
 use Rattle.messages.proofs.Entries.{length-entries, length-insert}
-use Rattle.messages.proofs.Stored.{entries-stored}
+use Rattle.messages.proofs.Stored.{entries-stored, entries-withdrawn, sized-stored}
+use Rattle.messages.proofs.Withdrawn.{stay-go, each-stay}
 
 -- ---- the test, both ways
 
@@ -58,6 +59,37 @@ unfolding storeEntries
 sound-stored m z b es w few each sum =
     let e = sym (entries-stored m z b es few) in
     record { few = few; each = subst Each e each; sum = ap total (sym e) ∙ sum }
+
+-- ---- a withdrawal
+
+sized-with : (k : ℕ) (m : Messages) → Sized m → Sized (withWithdrawn k m)
+sized-with k m z = record { left = z .left; class = z .class; label = z .label }
+
+-- A WITHDRAWAL KEEPS A SOUND RECORD
+module _ (m : Messages) (w l : ℕ) (z : Sized m) (s : SoundMessages m w) where
+  abbrev stays : List Entry
+  stays = stayIn l (begunIn m) (entriesIn m)
+
+  few-stay : length stays ≤ maxMessages
+  few-stay = omega (arith, stay-go l (begunIn m) (entriesIn m) .0, length-entries m 0 (m .n), s .few)
+
+  pub withdraw-sound : SoundMessages (withdrawn l m) (total stays)
+  unfolding withdrawn
+  withdraw-sound =
+      let k = m .withdrawn + total (goIn l (begunIn m) (entriesIn m)) in
+      let x = storeEntries (begunIn m) stays m in
+      let i = sound-stored m z (begunIn m) stays (total stays) few-stay (each-stay l (begunIn m) (entriesIn m) (s .each)) refl in
+      let e = sym (entries-withdrawn k x) in
+      record { few = i .few; each = subst Each e (i .each); sum = ap total (sym e) ∙ i .sum }
+
+  pub withdraw-sized : Sized (withdrawn l m)
+  unfolding withdrawn
+  withdraw-sized =
+      sized-with (m .withdrawn + total (goIn l (begunIn m) (entriesIn m))) (storeEntries (begunIn m) stays m) (sized-stored m z (begunIn m) stays)
+
+  pub withdraw-rows : withdrawn l m .n ≡ length stays
+  unfolding withdrawn storeEntries
+  withdraw-rows = refl
 
 -- ---- a burst
 

@@ -11,7 +11,7 @@ use Rattle.laws.specs.Bytes.{overwrite}
 use Rattle.laws.proofs.Bytes.{length-over, over-cat, over-front, set-over}
 use Rattle.limits.specs.Limits.{maxMessages}
 use Rattle.messages.specs.declared.Messages.{Messages}
-use Rattle.messages.specs.Messages.{Entry, entryOf, entriesFrom, entriesIn, lefts, classes, labels, storeEntries}
+use Rattle.messages.specs.Messages.{Entry, entryOf, entriesFrom, entriesIn, lefts, classes, labels, storeEntries, withWithdrawn}
 use Rattle.messages.specs.SoundCode.{Sized}
 
 at-over : (l : List ℕ) (i x : ℕ) (xs : List ℕ) → i < length l → getD (overwrite l i (x ∷ xs)) i 0 ≡ x
@@ -54,6 +54,9 @@ written (e ∷ es) m i h =
 alike : (a b : Messages) → a .left ≡ b .left → a .class ≡ b .class → a .label ≡ b .label → (i k : ℕ) → entriesFrom a i k ≡ entriesFrom b i k
 alike a b l c d i zero = refl
 alike a b l c d i (suc k) = ap₂ (λ (x : Entry) (xs : List Entry). x ∷ xs) (λ j. entryOf (getD (l j) i 0) (getD (c j) i 0) (getD (d j) i 0)) (alike a b l c d (i + 1) k)
+
+pub entries-withdrawn : (k : ℕ) (m : Messages) → entriesIn (withWithdrawn k m) ≡ entriesIn m
+entries-withdrawn k m = alike (withWithdrawn k m) m refl refl refl 0 (m .n)
 
 module _ (m : Messages) (s : Sized m) (b : Bool) (es : List Entry) where
   pub entries-stored : length es ≤ maxMessages → entriesIn (storeEntries b es m) ≡ es
