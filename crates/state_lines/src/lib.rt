@@ -32,7 +32,11 @@ pub mod queue;
 fn tally(t: &mut [u8], n: usize, c: Counts, withdrawn: u32) -> usize
     ensures { λ r. ⌜ (r, now (t .exit)) ≡ appended (n, now (t .entry)) (tallyWords c withdrawn) ⌝ }
 {
-    let n = number(t, n, (c.next_offset as u64) + (c.waiting as u64) + (withdrawn as u64));
+    let n = number(
+        t,
+        n,
+        (c.next_offset as u64) + (c.waiting as u64) + (withdrawn as u64),
+    );
     let n = number(t, n, c.waiting as u64);
     let n = number(t, n, c.flying as u64);
     number(t, n, c.bytes_acked as u64)

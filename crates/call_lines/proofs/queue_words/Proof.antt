@@ -40,9 +40,19 @@ returns c =
     let p4 = p5 .before in
     let p3 = p4 .before in
     let p2 = p3 .before in
-    let p1 = p2 .before .before .before in
-    (rw (c .done3 .ensures, p7 .label-of .ensures, p6 .class-of .ensures, p5 .done2 .ensures, p4 .done .ensures, p3 .whole2 .ensures,
-    p2 .whole .ensures, p1 .hex .ensures .0), p1 .hex .ensures .1)
+    let p1 = p2 .before .before .before in (
+      rw (
+        c .done3 .ensures,
+        p7 .label-of .ensures,
+        p6 .class-of .ensures,
+        p5 .done2 .ensures,
+        p4 .done .ensures,
+        p3 .whole2 .ensures,
+        p2 .whole .ensures,
+        p1 .hex .ensures .0,
+      ),
+      p1 .hex .ensures .1,
+    )
 
 pub queue-words-spec : {M : Type 1} → statement M
 queue-words-spec =
