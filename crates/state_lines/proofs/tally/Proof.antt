@@ -14,29 +14,26 @@ cast-number-2 c = search needs
 add-number : tie.Need-add-number
 add-number c = search needs
 
-cast-number-3 : tie.Need-cast-number-3
-cast-number-3 c = search needs
-
 add-number-2 : tie.Need-add-number-2
 add-number-2 c = search needs
 
 number-requires : tie.Need-number-requires
 number-requires c κs = search needs
 
-cast-number-4 : tie.Need-cast-number-4
-cast-number-4 c = search needs
+cast-number-3 : tie.Need-cast-number-3
+cast-number-3 c = search needs
 
 number-requires-2 : tie.Need-number-requires-2
 number-requires-2 c κs = search needs
 
-cast-number-5 : tie.Need-cast-number-5
-cast-number-5 c = search needs
+cast-number-4 : tie.Need-cast-number-4
+cast-number-4 c = search needs
 
 number-requires-3 : tie.Need-number-requires-3
 number-requires-3 c κs = search needs
 
-cast-number-6 : tie.Need-cast-number-6
-cast-number-6 c = search needs
+cast-number-5 : tie.Need-cast-number-5
+cast-number-5 c = search needs
 
 number-requires-4 : tie.Need-number-requires-4
 number-requires-4 c κs = search needs
@@ -64,14 +61,13 @@ tally-spec =
     cast-number
     cast-number-2
     add-number
-    cast-number-3
     add-number-2
     number-requires
-    cast-number-4
+    cast-number-3
     number-requires-2
-    cast-number-5
+    cast-number-4
     number-requires-3
-    cast-number-6
+    cast-number-5
     number-requires-4
     same-length
     returns)
