@@ -586,7 +586,13 @@ fn reach_burst(reached: &mut Reached, waiting: &[Message], b: &Burst, new: Range
 }
 
 /// What a queuing meets among the messages that waited before it: whom it overtakes, whom it withdraws, and what is judged after that.
-fn reach_queuing(reached: &mut Reached, waited: &[Message], begun: bool, (said, n): (Said, usize), refused: Option<u8>) {
+fn reach_queuing(
+    reached: &mut Reached,
+    waited: &[Message],
+    begun: bool,
+    (said, n): (Said, usize),
+    refused: Option<u8>,
+) {
     let (first, others) = waited.split_at(begun as usize);
     let (class, label) = (said.class(), said.label());
     let over = |m: &Message| class < m.class && n > 0;
@@ -605,7 +611,10 @@ fn reach_queuing(reached: &mut Reached, waited: &[Message], begun: bool, (said, 
     );
     let withdraws = n > 0 && !gone.is_empty();
     let begun = first.iter().any(same);
-    reached.count("queuings of no bytes with a label that waits", n == 0 && !gone.is_empty());
+    reached.count(
+        "queuings of no bytes with a label that waits",
+        n == 0 && !gone.is_empty(),
+    );
     reached.count("queuings that withdraw", withdraws);
     reached.count(
         "queuings that withdraw of another class",

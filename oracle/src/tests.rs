@@ -574,11 +574,15 @@ fn messages_in_the_order_of_going() {
     let of_messages = lines.iter().find(|l| l.starts_with("messages")).unwrap();
     assert!(of_messages.starts_with("messages 2 1 0 3:0:") && of_messages.ends_with(" 0:0:1"));
     // Labels: what is withdrawn is taken, and 65,536 is no label.
-    let calls = "queue 0102 3 1\nqueue 03 3\nqueue 04 0 65535\nqueue 05 2 65537\nqueue 06 1 65536\nqueue - 1 65535\nmessages\n";
+    let calls =
+        "queue 0102 3 1\nqueue 03 3\nqueue 04 0 65535\nqueue 05 2 65537\nqueue 06 1 65536\nqueue - 1 65535\nmessages\n";
     let lines = list(calls);
     assert_eq!(lines[7], "messages 4 0 2 0:65535:1 1:0:1 2:1:1 3:0:1");
     assert_eq!(lines[8], "end 6 4 0 0");
-    assert_eq!(list("queue 00 3 18446744073709551615\nmessages\n")[2], "messages 1 0 0 3:65535:1");
+    assert_eq!(
+        list("queue 00 3 18446744073709551615\nmessages\n")[2],
+        "messages 1 0 0 3:65535:1"
+    );
 }
 
 #[test]
