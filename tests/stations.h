@@ -41,7 +41,7 @@ struct arguments {
     uint32_t off;
 };
 
-/* not connected; connected, ten bytes wait, with a label; with pieces, held ones, an outstanding burst, a begun message with another label */
+/* not connected; connected, ten bytes wait, with a label; with pieces, held ones, an outstanding burst, a begun message of another label */
 static struct station fresh_one, open_one, flown_one;
 enum { OPEN_LABEL = 7, FLOWN_LABEL = 8 };
 static struct station subject; /* what the checks change */

@@ -1,6 +1,6 @@
-/* Document 01's tally, fed with the arguments and answers of accepted calls only, and its comparison with record, work area and output. Messages are kept
- * in the order in which they were queued; which goes next is chosen when it goes, and what a label withdraws by looking at each (document 02, Changes 1
- * and 6). */
+/* Document 01's tally, fed with the arguments and answers of accepted calls only, and its comparison with record, work area and output.
+ * Messages are kept in the order in which they were queued; which goes next is chosen when it goes, and what a label withdraws by looking at
+ * each (document 02, Changes 1 and 6). */
 #ifndef TALLY_H
 #define TALLY_H
 #include <stdint.h>
@@ -181,7 +181,8 @@ static inline const char *compare_tally(const struct tally *t, const struct vani
     const struct vanitycrow_counts *c = &s->sender.counts;
     const char *wrong;
     size_t flying = t->flown - t->acknowledged;
-    if (t->taken != t->waiting + flying + t->acknowledged + t->withdrawn) return "taken is not waiting, in flight, acknowledged and withdrawn";
+    if (t->taken != t->waiting + flying + t->acknowledged + t->withdrawn)
+        return "taken is not waiting, in flight, acknowledged and withdrawn";
     if (t->taken != (uint64_t)c->next_offset + c->waiting + s->messages.withdrawn) return "another count taken";
     if (t->waiting != c->waiting) return "another count waiting";
     if (flying != c->flying) return "another count in flight";
