@@ -1,4 +1,5 @@
-/* What a far station cannot force (document 02, Change 14), of record and answers: crates/far_station/specs/CannotForce.antt proves it of every list of calls. */
+/* What a far station cannot force (document 02, Change 14), checked of record and answers. crates/far_station/specs/CannotForce.antt states it of
+ * every list of calls. */
 #ifndef CANNOT_FORCE_H
 #define CANNOT_FORCE_H
 #include <math.h>
@@ -50,7 +51,8 @@ static inline double data_seconds(const struct vanitycrow_profile *p, size_t lev
 }
 
 /* `burst_len_s`: what a burst of whole pieces may take. */
-static inline double burst_seconds(const struct vanitycrow_profile *p, const struct vanitycrow_gear *g, const struct vanitycrow_outgoing *o) {
+static inline double burst_seconds(const struct vanitycrow_profile *p, const struct vanitycrow_gear *g,
+                                   const struct vanitycrow_outgoing *o) {
     double usual = p->lengths.max_burst_s, ack = p->air.ack_s[o->wave], turn = 2 * p->lengths.turnaround_s;
     double clean = (data_seconds(p, o->code, 1, o->cue) + ack + turn) / p->lengths.burst_overhead - ack - turn;
     if (!p->lengths.burst_adapt) return usual;
@@ -58,9 +60,10 @@ static inline double burst_seconds(const struct vanitycrow_profile *p, const str
     return fmin(g->burst_s == 0 ? usual : g->burst_s, clean);
 }
 
-/* No test stops a chunk but those of the burst itself: where bytes are left waiting after it, one more frame does not fit. The test against the
- * original's WINDOW_BYTES, 65,536, stops none then; that fewer fly at every cut, compare_tally says (16,320 at most). */
-static inline const char *compare_window(const struct vanitycrow_profile *p, const struct vanitycrow_sender *s, const struct vanitycrow_outgoing *o) {
+/* The test against the original's WINDOW_BYTES, 65,536, stops no chunk: where bytes are left waiting after a burst, one more frame does not fit.
+ * That fewer fly at every cut, compare_tally says (16,320 at most). */
+static inline const char *compare_window(const struct vanitycrow_profile *p, const struct vanitycrow_sender *s,
+                                         const struct vanitycrow_outgoing *o) {
     size_t whole = 0;
     uint64_t bits = p->air.slot_bits[o->code];
     for (size_t i = 0; i < s->last_burst.n; i++) {

@@ -2,8 +2,8 @@
  *
  * Mail is of all four classes. Each of six profiles has a fresh sender and HOURS of simulated time (24); then SENDERS more (20) have random
  * profiles in range and some hundred calls each. Every call is checked (checked.h), and the tally of document 01 is kept from arguments and
- * answers alone (tally.h); what a far station cannot force is checked by it (cannot_force.h). -x lends blocks of exact lengths, for valgrind.
- * -l writes the calls and what was answered, for `replay`. The status is 1 at the first difference. */
+ * answers alone (tally.h); what a far station cannot force is checked by it (cannot_force.h). -x lends blocks of exact lengths, for
+ * valgrind. -l writes the calls and what was answered, for `replay`. The status is 1 at the first difference. */
 #include <stdio.h>
 #include <stdlib.h>
 #include "checked.h"
@@ -156,9 +156,10 @@ static void tell(const char *name, double hours, double air_hours, const struct 
     printf(" accepted %llu, refused", s->answers[0]);
     for (int i = 1; i <= VANITYCROW_TOO_MANY_MESSAGES; i++)
         if (s->answers[i]) printf(" %d: %llu,", i, s->answers[i]);
-    printf(" %llu bytes acknowledged in %llu frames, %llu messages overtook, %llu calls with a hold as late as it may be;", s->acked, s->frames,
-           s->overtaking, s->latest);
-    printf(" at most %zu pieces, %zu bytes flying, %zu held, %zu frames, %zu messages\n", s->most_pieces, s->most_flying, s->most_held, s->most_frames, s->most_messages);
+    printf(" %llu bytes acknowledged in %llu frames, %llu messages overtook, %llu calls with a hold as late as it may be;", s->acked,
+           s->frames, s->overtaking, s->latest);
+    printf(" at most %zu pieces, %zu bytes flying, %zu held, %zu frames, %zu messages\n", s->most_pieces, s->most_flying, s->most_held,
+           s->most_frames, s->most_messages);
 }
 
 struct totals { struct seen seen; double hours, air_hours; };

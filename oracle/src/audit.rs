@@ -813,7 +813,9 @@ mod tests {
         assert!(holds_end(&p, &h.station, None).is_ok());
         h.station.blocked_until[3] = 1480.0;
         assert!(holds_end(&p, &h.station, Some(1000.0)).is_ok());
-        assert!(holds_end(&p, &h.station, Some(1000.0f64.next_down())).is_err());
+        // The sum is rounded once: to 1480 here.
+        assert!(holds_end(&p, &h.station, Some(1000.0f64.next_down())).is_ok());
+        assert!(holds_end(&p, &h.station, Some(1000.0f64.next_down().next_down())).is_err());
         assert!(holds_end(&p, &h.station, None).is_err());
         h.station.blocked_until[3] = f64::NAN;
         assert!(holds_end(&p, &h.station, Some(1000.0)).is_err());
