@@ -1,8 +1,9 @@
 -- Each hold ends by the latest end after the last judged reply, along every list of calls.
--- How it goes: five things are carried from call to call. The record is sound (`Fit`); it agrees with the tally, so that a reply is judged by the tally
--- where the sender judges it (`judges-ack`, `judges-turn`); a burst that is not awaited has no frame (`Idle`), which a turn needs; every end is by the
--- latest one of the last judged reply; and that reply was no later than the last accepted time, so an older end is by the latest one of any later
--- reply. A judged reply sets the ends of gear_laws' two holds at most (`ack-each`); all other calls leave gear and holds.
+-- How it goes: five things are carried from call to call (`Carried`). The record is sound. It agrees with the tally, so that a reply is
+-- judged by the tally where the sender judges it (`judges-ack`, `judges-turn`). A burst that is not awaited has no frame (`Idle`), which
+-- a turn needs. Every end is by the latest one of the last judged reply, and that reply was no later than the last accepted time, so that
+-- an older end is by the latest one of any later reply (`Bounded`). A judged reply sets one of gear_laws' two ends at most (`ack-each`);
+-- all other calls leave the holds.
 -- Assumes nothing.
 use mathlib.Core.Path.{_≡_, refl, sym, ap, _∙_, subst}
 use mathlib.Core.Logic.{_⊎_, inl, inr, ⊎-elim}
@@ -28,7 +29,8 @@ use Rattle.config.specs.declared.Profile.{Profile}
 use Rattle.config.specs.Ranged.{Ranged}
 use Rattle.config.specs.Ranges.{inOrder}
 use Rattle.gear.specs.declared.Gear.{Gear}
-use Rattle.gear.specs.Judging.{failHold}
+use Rattle.gear.specs.declared.Outcome.{Outcome}
+use Rattle.gear.specs.Judging.{failHold, onAck}
 use Rattle.gear.specs.OtherReplies as M
 use Rattle.gear.specs.OtherReplies.{connected, onTurn}
 use Rattle.gear_laws.specs.Sound.{TimeInRange}
@@ -99,7 +101,8 @@ judges-ack r s t ag = ap (judges (reply r)) (ag .out) ∙ go (s .awaited)
 judges-turn : (s : L.Sender) (t : Tally) → Idle s → Agree s t → judges turn (t .out) ≡ not (eqb (length (s .sent)) 0)
 judges-turn s t i ag = ap (judges turn) (ag .out) ∙ go (s .awaited) (s .sent) i
   where
-    go : (b : Bool) (fs : List Sent) → (b ≡ false → fs ≡ []) → judges turn (cond b (outstanding (s .number) (frames (s .pieces) fs)) nothing) ≡ not (eqb (length fs) 0)
+    go : (b : Bool) (fs : List Sent) → (b ≡ false → fs ≡ [])
+        → judges turn (cond b (outstanding (s .number) (frames (s .pieces) fs)) nothing) ≡ not (eqb (length fs) 0)
     go true [] e = refl
     go true (f ∷ fs) e = sym (ap not (ne-eqb (suc (length fs)) 0 (λ q. omega (arith, q))))
     go false fs e = rw (e refl) refl
@@ -120,21 +123,24 @@ module _ (p : Profile) (rg : Ranged p) (io : inOrder p ≡ true) (six : length (
   since-later (some t) last now h s = (s .0, le-trans t last now (s .1) h)
 
   -- an end by an earlier reply's latest is by a later one's
-  ends-later : (j : Option Float) (last now x : Float) → T (le last now) → TimeInRange now → Since j last → EndsBy p j x → EndsBy p (some now) x
+  ends-later : (j : Option Float) (last now x : Float) → T (le last now) → TimeInRange now → Since j last
+      → EndsBy p j x → EndsBy p (some now) x
   ends-later none last now x h n s e = inl e
   ends-later (some t) last now x h n s e =
-      ⊎-elim (λ d. inl d)
-      (λ d. inr (is-true _ (le-trans x (latest p t) (latest p now) (yes d) (longest-later p rg t now (s .0) n (le-trans t last now (s .1) h))))) e
+      let up = longest-later p rg t now (s .0) n (le-trans t last now (s .1) h) in
+      ⊎-elim (λ d. inl d) (λ d. inr (is-true _ (le-trans x (latest p t) (latest p now) (yes d) up))) e
 
   -- the two ends that a reply may set
-  fail-by : (now : Float) → TimeInRange now → (g : Gear) (at : ℕ) (channel : Bool) → EndsBy p (some now) (add binary64 now (failHold p g at channel now))
+  fail-by : (now : Float) → TimeInRange now → (g : Gear) (at : ℕ) (channel : Bool)
+      → EndsBy p (some now) (add binary64 now (failHold p g at channel now))
   fail-by now i g at channel = inr (is-true _ (fail-ends p rg now i g at channel))
 
   loss-by : (now : Float) → TimeInRange now → EndsBy p (some now) (add binary64 now (p .«hold_times» .«loss_hold_s»))
   loss-by now i = inr (is-true _ (loss-ends p rg now i))
 
-  module _ (h : Heard) (c : State) (w : Ok p rg io six c) (t : Tally) (ag : Agree (shown c .sender) t) (idle : Idle (shown c .sender)) (j : Option Float)
-      (bd : Bounded j (c .0 .sender)) (late : T (le (c .0 .sender .link .«last_time») (h .time))) (now : TimeInRange (h .time)) where
+  module _ (h : Heard) (c : State) (w : Ok p rg io six c) (t : Tally) (ag : Agree (shown c .sender) t) (idle : Idle (shown c .sender))
+      (j : Option Float) (bd : Bounded j (c .0 .sender)) (late : T (le (c .0 .sender .link .«last_time») (h .time)))
+      (now : TimeInRange (h .time)) where
     abbrev s : Sender
     s = c .0 .sender
 
@@ -156,18 +162,22 @@ module _ (p : Profile) (rg : Ranged p) (io : inOrder p ≡ true) (six : length (
     same-time : Since x (h .time)
     same-time = (now, le-refl (h .time) (le-no-nan _ (h .time) (now .low) .1))
 
+    judged-each : (g : Gear) (o : Outcome) (snr : Float) → g .level < 17 → Each (EndsBy p x) g
+        → Each (EndsBy p x) (onAck p g o snr (h .time))
+    judged-each = ack-each (EndsBy p x) p (h .time) (fail-by (h .time) now) (loss-by (h .time) now)
+
     short-bounded : (r : A.Ack) → Bounded (cond (s .link .awaiting) x j) (shortAcked p h r s a .0)
     unfolding shortAcked ackIn store storeLink
     short-bounded r =
         by₂ (λ (i : Option Float) (y : Sender × List ℕ). Bounded i (y .0)) (s .link .awaiting)
-        (λ e. (ack-each (EndsBy p x) p (h .time) (fail-by (h .time) now) (loss-by (h .time) now) _ _ _ level older, same-time))
+        (λ e. (judged-each _ _ _ level older, same-time))
         (λ e. (bd .0, stays))
 
     long-bounded : (r : B.LongAck) (i : AckInfo) → Bounded (cond (s .link .awaiting) x j) (longAcked p h r i s a .0)
     unfolding longAcked ackIn store storeLink
     long-bounded r i =
         by₂ (λ (i : Option Float) (y : Sender × List ℕ). Bounded i (y .0)) (s .link .awaiting)
-        (λ e. (ack-each (EndsBy p x) p (h .time) (fail-by (h .time) now) (loss-by (h .time) now) _ _ _ level older, same-time))
+        (λ e. (judged-each _ _ _ level older, same-time))
         (λ e. (bd .0, stays))
 
     connect-bounded : (r : E.ConnAck) → Bounded j (connectedTo p h r s)
@@ -197,15 +207,18 @@ module _ (p : Profile) (rg : Ranged p) (io : inOrder p ≡ true) (six : length (
     unfolding viewStation
     turn-told = judges-turn (shown c .sender) t idle ag
 
+    after-told : (b b′ : Bool) (y : Sender) → b ≡ b′ → Bounded (cond b′ x j) y → Bounded (cond b x j) y
+    after-told b b′ y e k = subst (λ (v : Bool). Bounded (cond v x j) y) (sym e) k
+
     long-after : (r : B.LongAck) (i : AckRead) → After (longEvent i) (longRead p h r i s a)
     long-after r TooShort = bd
-    long-after r (Info i) = subst (λ (b : Bool). Bounded (cond b x j) (longAcked p h r i s a .0)) (sym (ack-told (longAck (i .burst) (i .bitmap)))) (long-bounded r i)
+    long-after r (Info i) = after-told _ _ (longAcked p h r i s a .0) (ack-told (longAck (i .burst) (i .bitmap))) (long-bounded r i)
 
     reply-after : (r : Reply) (b : List ℕ) → After (replyEvent r b) (acceptedReply p h r b s a)
     reply-after (ConnAck r) b = connect-bounded r
-    reply-after (Ack r) b = subst (λ (y : Bool). Bounded (cond y x j) (shortAcked p h r s a .0)) (sym (ack-told (shortAck (r .burst) (r .bitmap)))) (short-bounded r)
+    reply-after (Ack r) b = after-told _ _ (shortAcked p h r s a .0) (ack-told (shortAck (r .burst) (r .bitmap))) (short-bounded r)
     reply-after (LongAck r) b = long-after r (ackOf b)
-    reply-after (Turn r) b = subst (λ (y : Bool). Bounded (cond y x j) (turned p h r s a .0)) (sym turn-told) (turn-bounded r)
+    reply-after (Turn r) b = after-told _ _ (turned p h r s a .0) turn-told (turn-bounded r)
 
   -- queuings and bursts leave gear and time
   abbrev Same : Sender → Sender → Type 0
@@ -255,15 +268,16 @@ module _ (p : Profile) (rg : Ranged p) (io : inOrder p ≡ true) (six : length (
       test (passed (receiveVerdict p (c .0) (c .1) h r (length b)))
       (λ e.
       let v = reply-passed p (c .0) (c .1) h r (length b) e .0 in
+      let x = acceptedReply p h r b (c .0 .sender) (c .1) in
       subst (After (told p (hears h r b) c)) (sym (hear-yes p c h r b e))
-      (subst (λ (y : Event). After y (withSender (c .0) (acceptedReply p h r b (c .0 .sender) (c .1) .0), acceptedReply p h r b (c .0 .sender) (c .1) .1))
-      (sym (hear-told p c h r b true e))
+      (subst (λ (y : Event). After y (withSender (c .0) (x .0), x .1)) (sym (hear-told p c h r b true e))
       (reply-after h c (k .fit .0) t (k .agree) (k .idle) j (k .bounded) (is-late _ (h .time) v) (time-in _ (h .time) v) r b)))
       (λ e.
       subst (After (told p (hears h r b) c)) (sym (hear-no p c h r b e))
       (subst (λ (y : Event). After y c) (sym (hear-told p c h r b false e)) (k .bounded)))
 
-  call-bounded : (i : Call) (c : State) (t : Tally) (j : Option Float) → Carried c t j → Bounded (judgedBy i (told p i c) (t .out) j) (next p i c .0 .sender)
+  call-bounded : (i : Call) (c : State) (t : Tally) (j : Option Float) → Carried c t j
+      → Bounded (judgedBy i (told p i c) (t .out) j) (next p i c .0 .sender)
   call-bounded (queues k bs) c t j b = same-bounded j (c .0 .sender) (next p (queues k bs) c .0 .sender) (queue-same k bs c) (b .bounded)
   call-bounded (bursts out) c t j b = same-bounded j (c .0 .sender) (next p (bursts out) c .0 .sender) (burst-same out c) (b .bounded)
   call-bounded (hears h r pl) c t j b = hear-bounded h r pl c t j b
@@ -277,11 +291,12 @@ module _ (p : Profile) (rg : Ranged p) (io : inOrder p ≡ true) (six : length (
   carried-next i c t j g b =
       let d = does p rg io six i c g (b .fit .0) (b .fit .1) in
       let k = call p rg io six i c in
+      let z = sizesOf p in
       let so = shown-sound c (b .fit .0) in
       record {
         fit = (d .keeps, quiet-next p i c (b .fit .1));
-        queue = rw (d .steps, d .tells) (step-queue (sizesOf p) (sizes p rg io six) k (shown c) t (d .allowed) so (b .queue) (b .agree));
-        agree = rw (d .steps, d .tells) (step-agree (sizesOf p) (sizes p rg io six) k (shown c) t (d .allowed) so (b .queue) (b .agree));
+        queue = rw (d .steps, d .tells) (step-queue z (sizes p rg io six) k (shown c) t (d .allowed) so (b .queue) (b .agree));
+        agree = rw (d .steps, d .tells) (step-agree z (sizes p rg io six) k (shown c) t (d .allowed) so (b .queue) (b .agree));
         idle = rw (d .steps) (idle-step (sizesOf p) k (C.queueAfter k (shown c)) (shown c .sender) (b .idle));
         bounded = call-bounded i c t j b;
       }

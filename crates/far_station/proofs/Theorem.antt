@@ -1,5 +1,5 @@
--- WHAT A FAR STATION CANNOT FORCE, as its page states it (specs/CannotForce.antt). Where the profile is refused or the work area is short, every call is
--- refused, and the record stays fresh.
+-- WHAT A FAR STATION CANNOT FORCE, as its page states it (specs/CannotForce.antt). Where the profile is refused or the work area is short,
+-- every call is refused, and the record stays fresh.
 -- Assumes nothing.
 use mathlib.Core.Path.{_≡_, refl, sym, ap, _∙_, subst}
 use mathlib.Core.Option.{Option, none, some}
@@ -49,7 +49,8 @@ module _ (p : Profile) (n : ℕ) (refused : (connect : Bool) → passed (standin
   unjudged (bursts out) t = refl
   unjudged (hears h r b) t = ap (λ (e : Event). judgedBy (hears h r b) e (t .out) none) (stays p n refused (hears h r b) .1)
 
-  all-stay : (is : List Call) (c : State) (t : Tally) → c ≡ freshStart n → (run (next p) is c ≡ freshStart n) × (lastJudged p is c t none ≡ none)
+  all-stay : (is : List Call) (c : State) (t : Tally) → c ≡ freshStart n
+      → (run (next p) is c ≡ freshStart n) × (lastJudged p is c t none ≡ none)
   all-stay [] c t e = (e, refl)
   all-stay (i ∷ is) c t e =
       let a : next p i c ≡ freshStart n = ap (next p i) e ∙ stays p n refused i .0 in
@@ -65,7 +66,8 @@ module _ (p : Profile) (six : length (p .codes .ends) ≤ 6) (n : ℕ) (is : Lis
       let q = all-stay p n (refused-by p n f) is (freshStart n) start refl in (
         subst (OpenAt p) (sym (q .0)) (fresh-open p n),
         (λ k h.
-            subst (λ (j : Option Float). EndsBy p j (getD (reached p n is .0 .sender .gear .holds .«blocked_until») k nan)) (sym (q .1))
+            subst (λ (j : Option Float). EndsBy p j (getD (reached p n is .0 .sender .gear .holds .«blocked_until») k nan))
+            (sym (q .1))
             (subst (λ (c : State). EndsBy p none (getD (c .0 .sender .gear .holds .«blocked_until») k nan)) (sym (q .0)) (never-held p k h))),
       )
 
@@ -87,7 +89,9 @@ module _ (p : Profile) (six : length (p .codes .ends) ≤ 6) (n : ℕ) (is : Lis
   both : NeverStopped p n is × HoldsEnd p n is
   both =
       test (inRange p && inOrder p)
-      (λ v. test (leb areaBytes n) (λ l. taken-up v (leb-true areaBytes n l)) (λ l. turned-down (λ x y. omega (arith, leb-false areaBytes n l, y))))
+      (λ v.
+      test (leb areaBytes n) (λ l. taken-up v (leb-true areaBytes n l))
+      (λ l. turned-down (λ x y. omega (arith, leb-false areaBytes n l, y))))
       (λ v. turned-down (λ x y. false≢true (sym v ∙ x)))
 
 pub cannot-force : CannotForce

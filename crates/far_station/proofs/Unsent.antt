@@ -1,4 +1,5 @@
--- No acknowledged byte is in any later frame: a frame's bytes are in a piece, which covers bytes in flight alone, and what is acknowledged stays so.
+-- No acknowledged byte is in any later frame: a frame's bytes are in a piece, pieces cover bytes in flight alone, and what is acknowledged
+-- stays so.
 -- Assumes nothing.
 use mathlib.Core.Path.{_≡_, refl, sym, ap, _∙_, subst}
 use mathlib.Core.List.{List, [], _∷_, _++_}
@@ -33,16 +34,20 @@ module _ (p : Profile) where
   run-append [] js c = refl
   run-append (i ∷ is) js c = run-append is js (next p i c)
 
-  tally-append : (is js : List Call) (c : State) (t : Tally) → tally (next p) (told p) (is ++ js) c t ≡ tally (next p) (told p) js (run (next p) is c) (tally (next p) (told p) is c t)
+  abbrev tells : List Call → State → Tally → Tally
+  tells = tally (next p) (told p)
+
+  tally-append : (is js : List Call) (c : State) (t : Tally) → tells (is ++ js) c t ≡ tells js (run (next p) is c) (tells is c t)
   tally-append [] js c t = refl
   tally-append (i ∷ is) js c t = tally-append is js (next p i c) (feed (told p i c) t)
 
-  along-one : (is : List Call) (i : Call) (c : State) → Along (next p) Given is c → Given i (run (next p) is c) → Along (next p) Given (is ++ i ∷ []) c
+  along-one : (is : List Call) (i : Call) (c : State) → Along (next p) Given is c → Given i (run (next p) is c)
+      → Along (next p) Given (is ++ i ∷ []) c
   along-one [] i c gs g = (g, tt)
   along-one (j ∷ is) i c gs g = (gs .0, along-one is i (next p j c) (gs .1) g)
 
   -- what is acknowledged stays so
-  acked-later : (js : List Call) (o : ℕ) (c : State) (t : Tally) → ackedAt o (t .flown) ≡ true → ackedAt o (tally (next p) (told p) js c t .flown) ≡ true
+  acked-later : (js : List Call) (o : ℕ) (c : State) (t : Tally) → ackedAt o (t .flown) ≡ true → ackedAt o (tells js c t .flown) ≡ true
   acked-later [] o c t e = e
   acked-later (j ∷ js) o c t e = acked-later js o (next p j c) (feed (told p j c) t) (acked-exactly (told p j c) t o ∙ rw e)
 
@@ -74,17 +79,23 @@ none-in o bs ps (f ∷ fs) c n =
 
 -- ---- the frames that a burst answers are those that the tally is told; one that is refused has none
 
-frames-told : (p : Profile) (c : State) (out : List ℕ) → framesTold (told p (bursts out) c) ≡ framesAnswered (burstCall p (c .0) (c .1) out .0 .outgoing .frames)
-frames-told p c out =
-    let x = burstCall p (c .0) (c .1) out .0 in
-    let told-if : (b : Bool) → passed (x .verdict) ≡ b → told p (bursts out) c ≡ cond b (went (x .outgoing .number) (framesAnswered (x .outgoing .frames))) silent =
-    λ b e. ap (λ (y : Bool). cond y (went (x .outgoing .number) (framesAnswered (x .outgoing .frames))) silent) e in
-    test (passed (x .verdict))
-    (λ e. ap framesTold (told-if true e))
-    (λ e. ap framesTold (told-if false e)
-    ∙ sym (ap (λ (y : Bursted × (List ℕ × List ℕ)). framesAnswered (y .0 .outgoing .frames)) (burst-is p c out false (ap passed (sym (burst-verdict p c out)) ∙ e))))
+module _ (p : Profile) (c : State) (out : List ℕ) where
+  abbrev x : Bursted
+  x = burstCall p (c .0) (c .1) out .0
 
-module _ (p : Profile) (six : length (p .codes .ends) ≤ 6) (n : ℕ) (is js : List Call) (gs : Along (next p) Given (is ++ js) (freshStart n)) (out : List ℕ) where
+  told-if : (b : Bool) → passed (x .verdict) ≡ b
+      → told p (bursts out) c ≡ cond b (went (x .outgoing .number) (framesAnswered (x .outgoing .frames))) silent
+  told-if b e = ap (λ (y : Bool). cond y (went (x .outgoing .number) (framesAnswered (x .outgoing .frames))) silent) e
+
+  frames-told : framesTold (told p (bursts out) c) ≡ framesAnswered (x .outgoing .frames)
+  frames-told =
+      test (passed (x .verdict)) (λ e. ap framesTold (told-if true e))
+      (λ e.
+      let none = burst-is p c out false (ap passed (sym (burst-verdict p c out)) ∙ e) in
+      ap framesTold (told-if false e) ∙ sym (ap (λ (y : Bursted × (List ℕ × List ℕ)). framesAnswered (y .0 .outgoing .frames)) none))
+
+module _ (p : Profile) (six : length (p .codes .ends) ≤ 6) (n : ℕ) (is js : List Call) (gs : Along (next p) Given (is ++ js) (freshStart n))
+    (out : List ℕ) where
   abbrev c : State
   c = reached p n (is ++ js)
 
@@ -97,14 +108,16 @@ module _ (p : Profile) (six : length (p .codes .ends) ≤ 6) (n : ℕ) (is js : 
   -- after the burst the pieces cover what is in flight
   covers : (o : ℕ) → covering o (shown (next p (bursts out) c) .sender .pieces) ≡ flyingAt o (feed e t .flown)
   covers o =
-      let d = demand3 p six n ((is ++ js) ++ bursts out ∷ []) (along-one p (is ++ js) (bursts out) (freshStart n) gs tt) .0 .covers o in
+      let gs′ = along-one p (is ++ js) (bursts out) (freshStart n) gs tt in
+      let d = demand3 p six n ((is ++ js) ++ bursts out ∷ []) gs′ .0 .covers o in
       ap (λ (x : State). covering o (shown x .sender .pieces)) (sym (run-append p (is ++ js) (bursts out ∷ []) (freshStart n)))
       ∙ d ∙ ap (λ (u : Tally). flyingAt o (u .flown)) (tally-append p (is ++ js) (bursts out ∷ []) (freshStart n) start)
 
   still-acked : (o : ℕ) → ackedAt o (tallied p n is .flown) ≡ true → ackedAt o (feed e t .flown) ≡ true
   still-acked o a =
       let b : ackedAt o (t .flown) ≡ true =
-      ap (λ (u : Tally). ackedAt o (u .flown)) (tally-append p is js (freshStart n) start) ∙ acked-later p js o (reached p n is) (tallied p n is) a in
+      ap (λ (u : Tally). ackedAt o (u .flown)) (tally-append p is js (freshStart n) start)
+      ∙ acked-later p js o (reached p n is) (tallied p n is) a in
       acked-exactly e t o ∙ rw b
 
   pub unsent : NotSentAgain p n is js out

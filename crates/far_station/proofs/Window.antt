@@ -1,4 +1,5 @@
--- The test against WINDOW_BYTES never stops a chunk: at most 16,320 bytes are in flight when a burst cuts its first new piece, and it cuts 64 at most.
+-- The test against WINDOW_BYTES never stops a chunk: at most 16,320 bytes are in flight when a burst cuts its first new piece, and it
+-- cuts at most 64 of at most 255 bytes.
 -- Assumes nothing.
 use mathlib.Core.Path.{_≡_, refl, sym, ap, subst}
 use mathlib.Core.Bool.{true}
@@ -33,8 +34,9 @@ chunks-within : (n k m o : ℕ) (w : List ℕ) → n + k * m < windowBytes → c
 chunks-within n zero m o w h = refl
 chunks-within n (suc k) m o [] h = refl
 chunks-within n (suc k) m o (x ∷ w) h =
-    let l = length-take m (x ∷ w) in
-    rw (lt-ltb n windowBytes (omega arith), chunks-within (n + length (take m (x ∷ w))) k m (o + length (take m (x ∷ w))) (drop m (x ∷ w)) (omega arith))
+    let l = length (take m (x ∷ w)) in
+    let e = length-take m (x ∷ w) in
+    rw (lt-ltb n windowBytes (omega arith), chunks-within (n + l) k m (o + l) (drop m (x ∷ w)) (omega arith))
 
 -- a plan cuts the same new pieces with the test as without it
 abbrev Open : Plan → Sender → Type 0
@@ -69,7 +71,10 @@ module _ (p : Profile) where
   pub sound-open : (rg : Ranged p) (io : inOrder p ≡ true) (six : length (p .codes .ends) ≤ 6) (c : State) → Ok p rg io six c → OpenAt c
   unfolding viewStation
   sound-open rg io six c w =
-      window-open (sizesOf p) (view (c .0 .sender) (c .1)) (w .well .sound .ledger) (sizes p rg io six) _ (choice-fits p rg (c .0 .sender) (c .1) (w .well) six)
+      let s = c .0 .sender in
+      window-open (sizesOf p) (view s (c .1)) (w .well .sound .ledger) (sizes p rg io six) _ (choice-fits p rg s (c .1) (w .well) six)
 
   pub fresh-open : (n : ℕ) → OpenAt (freshStart n)
-  fresh-open n = idle-open (plan (freshStart n)) (shown (freshStart n) .sender) (ap (λ (x : LS.Station). x .sender .waiting) (fresh-shows (replicate n 0)))
+  fresh-open n =
+      let c = freshStart n in
+      idle-open (plan c) (shown c .sender) (ap (λ (x : LS.Station). x .sender .waiting) (fresh-shows (replicate n 0)))

@@ -1,9 +1,12 @@
--- WHAT A FAR STATION CANNOT FORCE, ON ONE PAGE (document 02, Change 14): of every list of calls from a fresh sender, refused ones included, whatever
--- replies it has. 1. "No acknowledged byte is in any later frame". 2. "The test against WINDOW_BYTES never stops a chunk". 3. "Each level's hold ends
--- no later than the time of the last judged reply plus the larger of fail_hold_max_s and loss_hold_s, that sum rounded once, or has never been set".
--- The claim is `CannotForce`, at the end. Definitions only. docs/LISTING.md says it in plain words, with the numbers of the default profile.
--- To believe beside it: of crates/demand Lists.antt (a call, what it leaves, what the tally is told of it) and Page.antt (`c`, `s`, `t`, `answer`);
--- of crates/ledger Calls.antt (lists of calls), Tally.antt (the tally), Ledger.antt and Plan.antt (how a burst is cut).
+-- WHAT A FAR STATION CANNOT FORCE, ON ONE PAGE (document 02, Change 14): of every list of calls from a fresh sender, refused ones included,
+-- whatever replies it has.
+-- 1. "No acknowledged byte is in any later frame".
+-- 2. "The test against WINDOW_BYTES never stops a chunk".
+-- 3. "Each level's hold ends no later than the time of the last judged reply (an awaited ack, or a turn that ends an outstanding burst with
+--    a frame) plus the larger of fail_hold_max_s and loss_hold_s, that sum rounded once, or has never been set".
+-- The claim is `CannotForce`, at the end. Definitions only. docs/LISTING.md has it in plain words, with the numbers of the default profile.
+-- To believe beside it: of crates/demand Lists.antt (a call, what it leaves, what the tally is told of it) and Page.antt (`c`, `s`, `t` and
+-- `answer`); of crates/ledger Calls.antt (lists of calls), Tally.antt (the tally), Ledger.antt and Plan.antt (how a burst is cut).
 use mathlib.Core.Path.{_≡_}
 use mathlib.Core.Logic.{_⊎_}
 use mathlib.Core.Option.{Option, none, some}
@@ -38,15 +41,14 @@ inFrames o (f ∷ fs) = within (f .off) (f .len) o || inFrames o fs
 abbrev pub windowBytes : ℕ
 windowBytes = 65536
 
--- `data_burst`'s loop that cuts new pieces, as the Rust has it, n bytes in flight: it goes on while `in_flight < WINDOW_BYTES`. `chunks` of
--- crates/ledger Ledger.antt, by which `newPieces` are cut, is the same loop without that test
+-- `data_burst`'s loop that cuts new pieces, as the Rust has it, with n bytes in flight: it goes on while `in_flight < WINDOW_BYTES`. The same
+-- loop without that test is `chunks` of crates/ledger Ledger.antt, by which `newPieces` are cut
 abbrev pub chunksWithin : ℕ → ℕ → ℕ → ℕ → List ℕ → List Piece
 chunksWithin n zero m o w = []
 chunksWithin n (suc k) m o [] = []
 chunksWithin n (suc k) m o (x ∷ w) =
-    cond (ltb n windowBytes)
-    (record { off = o; bytes = take m (x ∷ w) } ∷ chunksWithin (n + length (take m (x ∷ w))) k m (o + length (take m (x ∷ w))) (drop m (x ∷ w)))
-    []
+    let l = length (take m (x ∷ w)) in
+    cond (ltb n windowBytes) (record { off = o; bytes = take m (x ∷ w) } ∷ chunksWithin (n + l) k m (o + l) (drop m (x ∷ w))) []
 
 -- ---- 3. holds
 
@@ -87,7 +89,8 @@ module _ (p : Profile) where
 module _ (p : Profile) (n : ℕ) (is : List Call) where
   -- an offset that is acknowledged then is in no frame of a burst after any calls `js` more, into any output
   abbrev pub NotSentAgain : List Call → List ℕ → Type 0
-  NotSentAgain js out = (o : ℕ) → ackedAt o (tallied p n is .flown) ≡ true → inFrames o (framesAnswered (answer p n (is ++ js) out .frames)) ≡ false
+  NotSentAgain js out =
+      (o : ℕ) → ackedAt o (tallied p n is .flown) ≡ true → inFrames o (framesAnswered (answer p n (is ++ js) out .frames)) ≡ false
 
   -- the next burst cuts the same new pieces with the test as without it
   abbrev pub NeverStopped : Type 0
@@ -97,10 +100,12 @@ module _ (p : Profile) (n : ℕ) (is : List Call) where
       chunksWithin (size (recut g s)) (g .room - length (oldOffs g s)) (g .payload) (s .next) (s .waiting) ≡ newPieces g s
 
   abbrev pub HoldsEnd : Type 0
-  HoldsEnd = (k : ℕ) → k < 17 → EndsBy p (lastJudged p is (freshStart n) start none) (getD (reached p n is .0 .sender .gear .holds .«blocked_until») k nan)
+  HoldsEnd =
+      (k : ℕ) → k < 17
+      → EndsBy p (lastJudged p is (freshStart n) start none) (getD (reached p n is .0 .sender .gear .holds .«blocked_until») k nan)
 
--- THE CLAIM: of every profile, every length of the work area and every list of calls. That a profile has six rate ends at most, and that a byte is
--- below 256 (`Given`), is what the types [u32; 6] and [u8] say
+-- THE CLAIM: of every profile, every length of the work area and every list of calls. That a profile has six rate ends at most, and that a
+-- byte is below 256 (`Given`), is what the types [u32; 6] and [u8] say
 abbrev pub CannotForce : Type 0
 CannotForce = (p : Profile) → length (p .codes .ends) ≤ 6 → (n : ℕ) (is : List Call) → Along (next p) Given is (freshStart n)
     → ((js : List Call) → Along (next p) Given (is ++ js) (freshStart n) → (out : List ℕ) → NotSentAgain p n is js out)
