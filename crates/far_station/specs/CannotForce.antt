@@ -41,8 +41,8 @@ inFrames o (f ∷ fs) = within (f .off) (f .len) o || inFrames o fs
 abbrev pub windowBytes : ℕ
 windowBytes = 65536
 
--- `data_burst`'s loop that cuts new pieces, as the Rust has it, with n bytes in flight: it goes on while `in_flight < WINDOW_BYTES`. The same
--- loop without that test is `chunks` of crates/ledger Ledger.antt, by which `newPieces` are cut
+-- `data_burst`'s loop that cuts new pieces, as the Rust has it, with n bytes in flight: it goes on while `in_flight < WINDOW_BYTES`.
+-- The same loop without that test is `chunks` of crates/ledger Ledger.antt, by which `newPieces` are cut
 abbrev pub chunksWithin : ℕ → ℕ → ℕ → ℕ → List ℕ → List Piece
 chunksWithin n zero m o w = []
 chunksWithin n (suc k) m o [] = []
