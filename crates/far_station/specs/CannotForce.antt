@@ -5,8 +5,9 @@
 -- 3. "Each level's hold ends no later than the time of the last judged reply (an awaited ack, or a turn that ends an outstanding burst with
 --    a frame) plus the larger of fail_hold_max_s and loss_hold_s, that sum rounded once, or has never been set".
 -- The claim is `CannotForce`, at the end. Definitions only. docs/LISTING.md has it in plain words, with the numbers of the default profile.
--- To believe beside it: of crates/demand Lists.antt (a call, what it leaves, what the tally is told of it) and Page.antt (`c`, `s`, `t` and
--- `answer`); of crates/ledger Calls.antt (lists of calls), Tally.antt (the tally), Ledger.antt and Plan.antt (how a burst is cut).
+-- To believe beside it: of crates/demand Lists.antt (a call, what it leaves, what the tally is told of it) and Page.antt (after a list of
+-- calls: record and work area, here `reached`; what they show, `shows`; the tally, `tallied`; what a burst answers, `answer`); of
+-- crates/ledger Calls.antt (lists of calls), Tally.antt (the tally), Ledger.antt and Plan.antt (how a burst is cut).
 use mathlib.Core.Path.{_≡_}
 use mathlib.Core.Logic.{_⊎_}
 use mathlib.Core.Option.{Option, none, some}
@@ -41,8 +42,9 @@ inFrames o (f ∷ fs) = within (f .off) (f .len) o || inFrames o fs
 abbrev pub windowBytes : ℕ
 windowBytes = 65536
 
--- `data_burst`'s loop that cuts new pieces, as the Rust has it, with n bytes in flight: it goes on while `in_flight < WINDOW_BYTES`.
--- The same loop without that test is `chunks` of crates/ledger Ledger.antt, by which `newPieces` are cut
+-- `data_burst`'s loop that cuts new pieces, as the Rust has it: n bytes are in flight, at most k pieces of at most m bytes are cut from
+-- offset o and the waiting bytes w on, and it goes on while `in_flight < WINDOW_BYTES`. The same loop without that test is `chunks` of
+-- crates/ledger Ledger.antt, by which `newPieces` are cut
 abbrev pub chunksWithin : ℕ → ℕ → ℕ → ℕ → List ℕ → List Piece
 chunksWithin n zero m o w = []
 chunksWithin n (suc k) m o [] = []
