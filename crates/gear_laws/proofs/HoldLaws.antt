@@ -26,7 +26,6 @@ use Rattle.gear.specs.Setters.{withTries}
 use Rattle.gear.specs.BurstLength.{adapted}
 use Rattle.gear.specs.Judging.{aimed, capped, incrementsOnly, blamed, byGoodput, worthKeeping, failHold, held, byLadder, judged, arrived}
 use Rattle.gear.specs.Judging.{onAck}
-use Rattle.gear.specs.OtherReplies.{atTurn, unmatchedOutcome, onTurn}
 use Rattle.gear_laws.specs.Sound.{TimeInRange}
 use Rattle.gear_laws.proofs.SoundLaws.{kept-by-set}
 
@@ -65,10 +64,6 @@ module _ (Q : Float → Type 0) where
         either Each (o .empty) _ _ e
         (either Each (not (o .fresh) && o .matched) _ _ (either Each (eqb (capped p (aimed p g snr) (g .level) now) (g .level)) _ _ e e)
         (judged-each (g .level) (lossOf (arrived o) (o .sent)) snr (aimed p g snr) b e))
-
-    pub turn-each : (g : Gear) (o : Outcome) (snr : Float) (w : ℕ) → g .level < 17 → Each g → Each (onTurn p g o snr w now)
-    unfolding onTurn atTurn
-    turn-each g o snr w b e = either Each (o .empty) g _ e (ack-each g (unmatchedOutcome o) snr b e)
 
 -- ---- the longest hold after a reply
 
