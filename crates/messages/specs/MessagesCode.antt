@@ -4,11 +4,11 @@ use mathlib.Core.Bool.{Bool, true, false, cond, not, _||_}
 use mathlib.Core.List.{List, [], _∷_, _++_}
 use lib.Dec.{leb, eqb}
 use lib.ListN.{length, take, drop}
-use Rattle.ledger.specs.Queue.{first, behind, those, withdraws}
+use Rattle.ledger.specs.Queue.{Message, Queue, insert, first, behind, those, withdraws, staysBy}
 use Rattle.messages.specs.declared.Messages.{Messages}
 use Rattle.messages.specs.declared.Position.{Position}
 use Rattle.messages.specs.declared.Gone.{Gone}
-use Rattle.messages.specs.declared.Superseded.{Superseded}
+use Rattle.messages.specs.declared.Withdrawal.{Withdrawal}
 use Rattle.messages.specs.Messages.{Entry, entryOf, entriesIn, storeEntries, withWithdrawn, total, begunIn, withdrawnIn}
 
 -- ---- a queuing
@@ -25,16 +25,26 @@ insertRow row e es = take row es ++ (e ∷ drop row es)
 -- ---- withdrawal
 
 -- how many messages a queuing of n bytes with label l withdraws, and their bytes
-abbrev pub supersededIn : ℕ → ℕ → Messages → Superseded
+abbrev pub supersededIn : ℕ → ℕ → Messages → Withdrawal
 supersededIn l n m = record { n = length (withdrawnIn l n m); bytes = total (withdrawnIn l n m) }
 
--- the entries that stay: the begun one, and those that label l does not withdraw
+-- the entries that go, and those that stay: the begun one, and those that label l does not withdraw
+abbrev pub goIn : ℕ → Bool → List Entry → List Entry
+goIn l b es = those (λ (e : Entry). withdraws l (e .label)) (behind b es)
+
 abbrev pub stayIn : ℕ → Bool → List Entry → List Entry
 stayIn l b es = first b es ++ those (λ (e : Entry). not (withdraws l (e .label))) (behind b es)
 
 unfoldable pub withdrawn : ℕ → Messages → Messages
 withdrawn l m =
-    withWithdrawn (m .withdrawn + total (withdrawnIn l 1 m)) (storeEntries (begunIn m) (stayIn l (begunIn m) (entriesIn m)) m)
+    withWithdrawn (m .withdrawn + total (goIn l (begunIn m) (entriesIn m))) (storeEntries (begunIn m) (stayIn l (begunIn m) (entriesIn m)) m)
+
+-- the ledger's queue where these are gone, and where a message is put in: a queuing is the one and then the other
+abbrev pub stayQueue : ℕ → Queue → Queue
+stayQueue l q = record { begun = q .begun; messages = first (q .begun) (q .messages) ++ staysBy l q }
+
+abbrev pub putQueue : Message → Queue → Queue
+putQueue x q = record { begun = q .begun; messages = first (q .begun) (q .messages) ++ insert x (behind (q .begun) (q .messages)) }
 
 -- ---- a burst
 

@@ -4,6 +4,7 @@ use limits::MAX_MESSAGES;
 ghost use mathlib.Core.Path.{_≡_};
 ghost use Prim.Native.Nat.{_+_, _≤_, _<_};
 ghost use Rattle.limits.specs.Limits.{maxMessages, maxTaken};
+ghost use Rattle.ledger.specs.Queue.{withdraws as withdrawsLabel};
 ghost use Rattle.messages.specs.Messages.{noMessages, begunIn, entryOf, entriesIn, storeEntries, total, messagesOk};
 ghost use Rattle.messages.specs.MessagesCode.{placeIn, insertRow, supersededIn, withdrawn, goneIn, cutTo, flown};
 
@@ -40,7 +41,7 @@ pub struct Position {
 }
 
 // How many messages a queuing withdraws, and their bytes.
-pub struct Superseded {
+pub struct Withdrawal {
     pub n: usize,
     pub bytes: u32,
 }
@@ -129,28 +130,36 @@ pub fn insert(m: Messages, row: usize, left: u16, class: u8, label: u16) -> Mess
     out
 }
 
+// Whether a label withdraws a message of label `of` that has not begun.
+pub fn withdraws(label: u16, of: u16) -> bool
+    ensures { λ r. ⌜ r ≡ withdrawsLabel label of ⌝ }
+{
+    (label != 0) & (of == label)
+}
+
 // What a queuing of n bytes with this label withdraws: the messages with it that have not begun. No bytes, or no label, withdraw none.
-pub fn superseded(m: Messages, label: u16, n: usize) -> Superseded
+pub fn superseded(m: Messages, label: u16, n: usize) -> Withdrawal
     requires { ⌜ m .n ≤ maxMessages ⌝ }
     ensures { λ r. ⌜ r ≡ supersededIn label n m ⌝ }
 {
+    if (n == 0) | (label == 0) {
+        return Withdrawal { n: 0, bytes: 0 };
+    }
+    let rows = m.n;
     let mut gone = 0;
     let mut bytes: u32 = 0;
-    if (n == 0) | (label == 0) {
-        return Superseded { n: gone, bytes };
-    }
     let mut begun = m.begun;
     let mut i = 0;
-    while i < m.n {
-        let l = m.label[i];
-        if !begun & (l == label) {
+    while i < rows {
+        let b = m.label[i];
+        if !begun & withdraws(label, b) {
             gone = gone + 1;
             bytes = bytes + wide(m.left[i]);
         }
         begun = false;
         i += 1;
     }
-    Superseded { n: gone, bytes }
+    Withdrawal { n: gone, bytes }
 }
 
 // The messages that a queuing with this label leaves; the bytes of the others count as withdrawn.
@@ -167,7 +176,7 @@ pub fn withdraw(m: Messages, label: u16) -> Messages
         let l = m.left[i];
         let c = m.class[i];
         let b = m.label[i];
-        if !begun & (0 < label) & (b == label) {
+        if !begun & withdraws(label, b) {
             out.withdrawn = out.withdrawn + wide(l);
         } else {
             out.left[to] = l;
