@@ -12,7 +12,7 @@ use lib.Dec.{ltb, leb, eqb}
 use lib.ListN.{length, replicate, length-replicate}
 use borrow.Author.Tests.{eqb-true, ne-eqb, le-ltb, leb-true, leb-false, le-leb}
 use Rattle.laws.proofs.Picks.{by, by₂, test, and-first, and-second, and-yes, or-right}
-use Rattle.limits.specs.Limits.{maxClass, maxMessages}
+use Rattle.limits.specs.Limits.{maxTaken, maxClass, maxMessages}
 use Rattle.config.specs.declared.Profile.{Profile}
 use Rattle.config.specs.Ranged.{Ranged}
 use Rattle.config.specs.Ranges.{inRange, inOrder}
@@ -26,7 +26,7 @@ use Rattle.ledger.specs.Queue.{Message, messageBytes, goes, enqueue}
 use Rattle.ledger.specs.Station as St
 use Rattle.ledger.specs.Station.{takeIn}
 use Rattle.messages.specs.Messages.{messagesOk, queueIn, total, withdrawnIn}
-use Rattle.messages.specs.MessagesCode.{Withdrawal}
+use Rattle.messages.specs.declared.Withdrawal.{Withdrawal}
 use Rattle.messages.proofs.Withdrawn.{superseded-none}
 use Rattle.messages.proofs.Kept.{sound-ok, sound-none}
 use Rattle.queuing.specs.Station.{viewStation, storeStation, queuedIn, freshStation}
@@ -81,7 +81,7 @@ module _ (p : Profile) (c : State) (ok : Listed c) where
   sound-same =
       rw (ok .0)
       (test (soundOk p (c .0 .sender) (c .1))
-      (λ e. rw e (le-leb _ _ (omega (arith, sound-taken p (c .0 .sender) (c .1) e, ok .1))))
+      (λ e. rw e (le-leb (takenBy (c .0 .sender .counts) (c .0 .messages)) maxTaken (omega (arith, sound-taken p (c .0 .sender) (c .1) e, ok .1))))
       (λ e. rw e refl))
 
   standing-same : (connect : Bool) → standing p (c .0) (c .1) connect ≡ standingBase p (c .0 .sender) (c .1) connect
