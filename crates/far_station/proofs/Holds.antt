@@ -234,9 +234,9 @@ module _ (p : Profile) (rg : Ranged p) (io : inOrder p ≡ true) (six : length (
 
   queue-same : (k l : ℕ) (bs : List ℕ) (c : State) → Same (c .0 .sender) (next p (queues k l bs) c .0 .sender)
   queue-same k l bs c =
-      test (passed (queueVerdict p (c .0) (c .1) k (length bs)))
+      test (passed (queueVerdict p (c .0) (c .1) k l (length bs)))
       (λ e. subst (λ (d : State). Same (c .0 .sender) (d .0 .sender)) (sym (queue-yes p c k l bs e)) (queued-same k l bs (c .0) (c .1)))
-      (λ e. subst (λ (d : State). Same (c .0 .sender) (d .0 .sender)) (sym (queue-no p c k bs e)) (refl, refl))
+      (λ e. subst (λ (d : State). Same (c .0 .sender) (d .0 .sender)) (sym (queue-no p c k l bs e)) (refl, refl))
 
   sent-same : (s : Sender) (a out : List ℕ) → Same s (burstOf p s a out .0 .1)
   unfolding burstOf store storeLink
