@@ -79,4 +79,10 @@ edit hold-uncapped gear.rs 's/\.min(self.cfg.fail_hold_max_s)/.min(1e300)/'
 edit burst-grows gear.rs 's/(self.burst_s \* 2.0)\.min(/(self.burst_s * 2.0).max(/'
 edit four-reports gear.rs 's/self.snr_reports.len() > 3/self.snr_reports.len() > 4/'
 
+# What a far station cannot force.
+edit window-small sender.rs 's/in_flight < WINDOW_BYTES/in_flight < WINDOW_BYTES \/ 64/'
+edit loss-held-long gear.rs 's/max(now + self.cfg.loss_hold_s)/max(now + self.cfg.fail_hold_max_s + self.cfg.loss_hold_s)/'
+edit hold-adds-up gear.rs 's/self.blocked_until\[at\].max(now + hold)/self.blocked_until[at].max(now) + hold/'
+edit connect-holds sender.rs 's/self.peer_class = class;/&self.blocked_until[16] = now + self.cfg.fail_hold_max_s;/'
+
 finish

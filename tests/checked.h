@@ -5,6 +5,7 @@
 #include <stdio.h>
 #include <stdlib.h>
 #include "call_list.h"
+#include "cannot_force.h"
 #include "chance.h"
 #include "far_station.h"
 #include "defined.h"
@@ -22,6 +23,7 @@ struct seen {
     unsigned long long acked;
     unsigned long long frames;
     unsigned long long overtaking, withdrawing; /* queuings */
+    unsigned long long latest;                  /* calls with a hold as late as it may be */
     size_t most_pieces, most_flying, most_held, most_frames, most_messages;
 };
 
@@ -38,6 +40,7 @@ struct run {
     size_t listed_area_len, listed_out_len; /* as the call list has them */
     bool connected;
     double now, last; /* s: the clock, and the last accepted time */
+    struct judged judged;
     uint64_t airtime_ms;
     struct seen seen;
 };
@@ -134,6 +137,8 @@ static void after(struct run *r, enum kind k, uint8_t answer, uint8_t expected, 
     if (!kept_from(&r->out, written)) differ(r, k, "the output past the frames changed");
     if ((answer || k == FIND) && !(record_kept(r) && kept(&r->area))) differ(r, k, "record or work area changed");
     if ((wrong = compare_tally(&r->t, r->station, r->area.bytes))) differ(r, k, wrong);
+    if ((wrong = compare_holds(r->p, &r->s->gear.holds, r->judged))) differ(r, k, wrong);
+    r->seen.latest += latest_hold(r->p, &r->s->gear.holds, r->judged);
     if (r->s->counts.airtime_ms != r->airtime_ms) differ(r, k, "another time on the air");
     compare_held(r, k);
     most(&r->seen.most_pieces, r->s->counts.pieces);
@@ -201,6 +206,7 @@ static void short_call(struct run *r, uint32_t wild) {
     uint8_t answer = vanitycrow_short_ack(r->p, r->station, r->area.bytes, r->area_len, h, a);
     list_short(r->list, h, a, answer);
     if (!answer) {
+        judge_ack(&r->judged, &r->t, h.time);
         tally_short(&r->t, a);
         r->last = h.time;
     }
@@ -223,6 +229,7 @@ static void long_call(struct run *r, uint32_t wild) {
     if (!kept(&payload)) differ(r, LONG_ACK, "the payload changed");
     give_back(&payload);
     if (!answer) {
+        judge_ack(&r->judged, &r->t, h.time);
         tally_long(&r->t, bytes);
         r->last = h.time;
     }
@@ -238,6 +245,7 @@ static void turn_call(struct run *r, uint32_t wild) {
     uint8_t answer = vanitycrow_turn(r->p, r->station, r->area.bytes, r->area_len, h, a);
     list_turn(r->list, h, a, answer);
     if (!answer) {
+        judge_turn(&r->judged, &r->t, h.time);
         tally_turn(&r->t);
         r->last = h.time;
     }
@@ -266,6 +274,8 @@ static void burst_call(struct run *r) {
         tally_burst(&r->t, &b.outgoing);
         if (b.outgoing.code != level) differ(r, BURST, "another level");
         if ((wrong = compare_burst(&r->t, &b.outgoing, r->out.bytes, size))) differ(r, BURST, wrong);
+        if ((wrong = compare_unsent(&r->t, &b.outgoing.frames))) differ(r, BURST, wrong);
+        if ((wrong = compare_window(r->p, r->s, &b.outgoing))) differ(r, BURST, wrong);
         for (size_t i = 0; i < b.outgoing.frames.n; i++)
             if (piece_len(r->area.bytes, r->s->counts.pieces, b.outgoing.frames.off[i]) != b.outgoing.frames.len[i])
                 differ(r, BURST, "a frame is not its piece");

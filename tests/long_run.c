@@ -2,8 +2,8 @@
  *
  * Mail is of all four classes, some of it with labels. Each of six profiles has a fresh sender and HOURS of simulated time (24); then
  * SENDERS more (20) have random profiles in range and some hundred calls each. Every call is checked (checked.h), and the tally of document
- * 01 is kept from arguments and answers alone (tally.h). -x lends blocks of exact lengths, for valgrind. -l writes the calls and what was
- * answered, for `replay`. The status is 1 at the first difference. */
+ * 01 is kept from arguments and answers alone (tally.h); what a far station cannot force is checked by it (cannot_force.h). -x lends blocks
+ * of exact lengths, for valgrind. -l writes the calls and what was answered, for `replay`. The status is 1 at the first difference. */
 #include <stdio.h>
 #include <stdlib.h>
 #include "checked.h"
@@ -131,6 +131,7 @@ static void end(struct run *r) {
     tally_drop(&r->t);
     r->connected = false;
     r->last = 0;
+    r->judged = (struct judged){false, 0};
     r->airtime_ms = 0;
 }
 
@@ -149,6 +150,7 @@ static void add(struct seen *all, const struct seen *s) {
     for (int i = 0; i <= VANITYCROW_TOO_MANY_MESSAGES; i++) all->answers[i] += s->answers[i];
     all->overtaking += s->overtaking;
     all->withdrawing += s->withdrawing;
+    all->latest += s->latest;
     all->acked += s->acked;
     all->frames += s->frames;
     most(&all->most_pieces, s->most_pieces);
@@ -166,10 +168,11 @@ static void tell(const char *name, double hours, double air_hours, const struct 
     printf(" accepted %llu, refused", s->answers[0]);
     for (int i = 1; i <= VANITYCROW_TOO_MANY_MESSAGES; i++)
         if (s->answers[i]) printf(" %d: %llu,", i, s->answers[i]);
-    printf(" %llu bytes acknowledged in %llu frames, %llu messages overtook, %llu withdrew another; ", s->acked, s->frames, s->overtaking,
-        s->withdrawing);
-    printf("at most %zu pieces, %zu bytes flying, %zu held, %zu frames, %zu messages\n", s->most_pieces, s->most_flying, s->most_held,
-        s->most_frames, s->most_messages);
+    printf(" %llu bytes acknowledged in %llu frames, %llu messages overtook, %llu withdrew another, ", s->acked, s->frames, s->overtaking,
+           s->withdrawing);
+    printf("%llu calls with a hold as late as it may be;", s->latest);
+    printf(" at most %zu pieces, %zu bytes flying, %zu held, %zu frames, %zu messages\n", s->most_pieces, s->most_flying, s->most_held,
+           s->most_frames, s->most_messages);
 }
 
 struct totals { struct seen seen; double hours, air_hours; };

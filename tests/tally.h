@@ -225,7 +225,6 @@ static inline const char *compare_burst(const struct tally *t, const struct vani
     for (size_t i = 0; i < f->n; i++) {
         const char *wrong = compare_frame(t, out + i * size, size, f->off[i], f->len[i]);
         if (wrong) return wrong;
-        if (t->acked[f->off[i]]) return "a frame carries an acknowledged byte";
         if (f->bits[i] < 1 || f->bits[i] > 16384) return "a frame's bits";
     }
     return NULL;

@@ -1,5 +1,5 @@
 #!/bin/sh
-# The tools do what they say, over small repositories made here.
+# The tools do what they say, over small repositories made here: check-contracts, believed, prove.
 #
 # tools/check-contracts notices what it is there for: in copies of the sources, a removed ensures (of a function, a method, an exported
 # function with its signature over several lines) and an added requires are each reported; a requires where one may stand, and a
@@ -151,7 +151,8 @@ printf 'pub demand3 : Unit\ndemand3 = tt\n' >"$small/crates/demand/proofs/Theore
 printf 'pub single-class : Unit\nsingle-class = tt\n' >"$small/crates/demand/proofs/Single.antt"
 printf 'pub in-binary32 : Unit\nin-binary32 = tt\n\npub in-binary64 : Unit\nin-binary64 = tt\n\npub in-conversions : Unit\nin-conversions = tt\n' \
     >"$small/crates/rounding/proofs/Theorem.antt"
-mkdir -p "$small/crates/verdicts/proofs" "$small/crates/calendar/proofs" "$small/crates/adif/proofs" "$small/crates/reachable/proofs"
+mkdir -p "$small/crates/verdicts/proofs" "$small/crates/calendar/proofs" "$small/crates/adif/proofs" "$small/crates/reachable/proofs" "$small/crates/far_station/proofs"
+printf 'pub cannot-force : Unit\ncannot-force = tt\n' >"$small/crates/far_station/proofs/Theorem.antt"
 printf 'pub lists : Unit\nlists = tt\n' >"$small/crates/reachable/proofs/Laws.antt"
 printf 'pub by-claim : Unit\nby-claim = tt\n\npub under-claim : Unit\nunder-claim = tt\n\npub agree : Unit\nagree = tt\n' >"$small/crates/reachable/proofs/Answers.antt"
 for law in queue reply burst lookup; do
@@ -170,4 +171,40 @@ for name in hidden field unused; do
     tried=$((tried + 1))
 done
 ! grep -q Unused "$work/believed"
+
+# tools/prove begins a crate when those that it uses are proved, ends with the crate that was asked for, and stops at one that is not proved. The prover is
+# a script here that writes down what it is asked.
+repo=$work/repo
+mkdir -p "$repo/tools" "$repo/bin"
+cp tools/prove "$repo/tools/"
+for name in a b c d e f; do
+    mkdir -p "$repo/crates/$name"
+    echo "$name" >"$repo/crates/$name/source"
+done
+printf 'a:\nb: a\nc: a # a remark\nd: b c\ne: d io\nf: a\n' >"$repo/crates.txt"
+cat >"$repo/bin/rt" <<'END'
+#!/bin/sh
+echo "begin $2" >>"$LOG"
+sleep 0.3
+[ "$2" != "$BAD" ] || { echo "rt: $2 NOT PROVED"; exit 1; }
+echo "end $2" >>"$LOG"
+echo "rt: $2 proved (0 s)"
+END
+chmod +x "$repo/bin/rt"
+LOG=$work/asked BAD=none PATH="$repo/bin:$PATH" "$repo/tools/prove" e 2>"$work/said"
+for pair in a:b a:c b:d c:d d:e; do
+    awk -v first="end ${pair%:*}" -v then="begin ${pair#*:}" '$0 == first { a = NR } $0 == then { b = NR } END { exit !(a && b && a < b) }' "$work/asked" ||
+        { cat "$work/asked"; echo "prove: ${pair#*:} did not wait for ${pair%:*}"; exit 1; }
+    tried=$((tried + 1))
+done
+! grep -q ' f$' "$work/asked"
+[ "$(tail -n 1 "$work/said")" = "5 of 5: e proved (0 s)" ] || { cat "$work/said"; echo "prove: the last line"; exit 1; }
+: >"$work/asked"
+status=0
+LOG=$work/asked BAD=c PATH="$repo/bin:$PATH" "$repo/tools/prove" e 2>"$work/said" || status=$?
+[ $status -eq 1 ] && grep -q 'rt: c NOT PROVED' "$work/said" && ! grep -q 'begin [de]' "$work/asked" || { cat "$work/said"; echo "prove: c is not proved, and it went on"; exit 1; }
+status=0
+"$repo/tools/prove" g 2>/dev/null || status=$?
+[ $status -eq 2 ] || { echo "prove: a crate that is not there"; exit 1; }
+tried=$((tried + 4))
 echo "$tried cases"

@@ -1,5 +1,6 @@
-//! `oracle audit`: demand 3 and the sound record, held against the original
-//! after every call of generated lists. The tally is document 01's, kept from
+//! `oracle audit`: demand 3, the sound record and what a far station cannot
+//! force (document 02, Change 14), held against the original after every call
+//! of generated lists. The tally is document 01's, kept from
 //! the calls and their answers alone. It puts each message at its place when it
 //! is queued, and withdraws from that list; messages.rs, which orders the
 //! original's bytes, chooses at bursts from those in the order of arrival.
@@ -565,6 +566,64 @@ fn burst_holds(h: &Harness, before: &Allowance, b: &Burst, flown: &[u8], first_n
     Ok(())
 }
 
+/// The time of a judged reply: an awaited ack, or a turn that ends an outstanding
+/// burst with a frame. `outstanding` is how many frames it had before the call.
+fn judged(call: &Call, answer: &Answer, outstanding: Option<usize>) -> Option<f64> {
+    match (call, answer, outstanding?) {
+        (_, Answer::Refused(_), _) => None,
+        (Call::Short { t, .. } | Call::Long { t, .. }, ..) => Some(*t),
+        (Call::Turn { t, .. }, _, 1..) => Some(*t),
+        _ => None,
+    }
+}
+
+fn longest_hold(p: &Profile) -> f64 {
+    p.f64(HOLDS, 1).max(p.f64(HOLDS, 2))
+}
+
+/// Each hold ends by the longest one after the last judged reply, or was never set.
+fn holds_end(p: &Profile, s: &Station, judged: Option<f64>) -> Check {
+    for (l, &end) in s.blocked_until.iter().enumerate() {
+        let by = judged.is_some_and(|t| end <= t + longest_hold(p));
+        demand!(
+            end == f64::NEG_INFINITY || by,
+            "level {l} is held until {end}, the last judged reply came at {judged:?}"
+        );
+    }
+    Ok(())
+}
+
+/// No frame has a byte that was acknowledged before.
+fn unsent(b: &Burst, acknowledged: &[bool]) -> Check {
+    for f in &b.frames {
+        let at = f.offset as usize;
+        demand!(
+            (at..at + f.len).all(|o| acknowledged.get(o) != Some(&true)),
+            "frame {at}/{} has an acknowledged byte",
+            f.len
+        );
+    }
+    Ok(())
+}
+
+/// The test against WINDOW_BYTES stops no chunk: where bytes are left waiting, one more frame does not fit.
+fn window_open(p: &Profile, s: &Station, before: &Allowance, b: &Burst) -> Check {
+    let level = before.level;
+    let whole = s.last_burst.iter().filter(|f| f.held == f.bits).count();
+    let bits = b.frames.iter().map(|f| f.bits as u64).sum::<u64>() + p.whole(level, 0);
+    let fits = b.frames.len() < if level >= 5 { 64 } else { 6 }
+        && s.at_peer.len() + whole < 64
+        && duration(p, level, bits as usize, before.cue) <= before.burst_len_s
+        && bits <= p.whole(level, 3);
+    demand!(
+        s.out.is_empty() || !fits,
+        "{} bytes wait, {} fly, and one more frame fits",
+        s.out.len(),
+        s.inflight.values().map(Vec::len).sum::<usize>()
+    );
+    Ok(())
+}
+
 /// How a burst cuts the messages that waited before it; `new` are the offsets that begin to fly.
 fn reach_burst(reached: &mut Reached, waiting: &[Message], b: &Burst, new: Range<usize>) {
     let mut end = new.start;
@@ -637,6 +696,8 @@ struct Auditor {
     tally: Tally,
     /// Held offsets and the lengths of their pieces after the last call.
     held: Vec<(u32, usize)>,
+    /// The time of the last judged reply.
+    judged: Option<f64>,
 }
 
 impl Auditor {
@@ -645,6 +706,7 @@ impl Auditor {
             h: Harness::new(profile),
             tally: Tally::default(),
             held: Vec::new(),
+            judged: None,
         }
     }
 
@@ -675,6 +737,16 @@ impl Auditor {
             demand!(record == after, "refused by {number}, and the record changed");
             reached.refused[number as usize] += 1;
         }
+        if let Answer::Burst(b) = &answer {
+            unsent(b, &self.tally.acknowledged)?;
+            window_open(&h.profile, &h.station, &before, b)?;
+            reached.count("bursts that leave bytes waiting", !h.station.out.is_empty());
+            reached.count("bursts after an acknowledged byte", self.tally.acknowledged_count > 0);
+        }
+        let judges = judged(call, &answer, numbered.map(|n| n.1));
+        reached.count("judged replies", judges.is_some());
+        self.judged = judges.or(self.judged);
+        holds_end(&h.profile, &h.station, self.judged)?;
         self.tally.feed(call, &answer);
         if h.profile.refusal().is_none() {
             sound(h).map_err(|e| format!("the record is not sound: {e}"))?;
@@ -743,6 +815,11 @@ impl Auditor {
         reached.count(
             "calls with a hold running",
             h.last_time.is_some_and(|t| s.blocked_until.iter().any(|&b| t < b)),
+        );
+        reached.count(
+            "calls with a hold as late as it may be",
+            self.judged
+                .is_some_and(|t| s.blocked_until.contains(&(t + longest_hold(&h.profile)))),
         );
         reached.count(
             "calls with a hold that leaves longer guards",
@@ -834,6 +911,22 @@ mod tests {
             assert_eq!(b[n - 4..], crc32(&b[..n - 4]).to_le_bytes());
         }
         assert_eq!(crc32(b"123456789"), 0xCBF43926);
+    }
+
+    #[test]
+    fn holds_at_the_latest() {
+        let p = Profile::usual();
+        let mut h = Harness::new(p.clone());
+        assert_eq!(longest_hold(&p), 480.0);
+        assert!(holds_end(&p, &h.station, None).is_ok());
+        h.station.blocked_until[3] = 1480.0;
+        assert!(holds_end(&p, &h.station, Some(1000.0)).is_ok());
+        // The sum is rounded once: to 1480 here.
+        assert!(holds_end(&p, &h.station, Some(1000.0f64.next_down())).is_ok());
+        assert!(holds_end(&p, &h.station, Some(1000.0f64.next_down().next_down())).is_err());
+        assert!(holds_end(&p, &h.station, None).is_err());
+        h.station.blocked_until[3] = f64::NAN;
+        assert!(holds_end(&p, &h.station, Some(1000.0)).is_err());
     }
 
     #[test]

@@ -1,0 +1,1 @@
+// What a far station cannot force: definitions and proofs, no code.
