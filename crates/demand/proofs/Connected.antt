@@ -83,7 +83,8 @@ module _ (p : Profile) (t : Station) (a : List ℕ) where
 -- ---- all calls
 
 -- a queuing that is accepted leaves the link as it is
-queued-on : (t : Station) (a : List ℕ) (k l : ℕ) (bs : List ℕ) → t .sender .link .connected ≡ true → queuedIn k l bs t a .0 .sender .link .connected ≡ true
+queued-on : (t : Station) (a : List ℕ) (k l : ℕ) (bs : List ℕ) → t .sender .link .connected ≡ true
+    → queuedIn k l bs t a .0 .sender .link .connected ≡ true
 unfolding queuedIn storeStation store storeLink
 queued-on t a k l [] e = e
 queued-on t a k l (b ∷ bs) e = e
@@ -97,7 +98,9 @@ unfolding queueVerdict receiveVerdict burstVerdict
 quiet-next p (queues k l bs) c q =
     test (passed (queueVerdict p (c .0) (c .1) k l (length bs)))
     (λ e. subst Quiet (sym (queue-yes p c k l bs e))
-    (λ f. absurd (false≢true (sym f ∙ queued-on (c .0) (c .1) k l bs (stands-on p (c .0) (c .1) (first-passed (standing p (c .0) (c .1) false) _ e))))))
+    (λ f.
+    let on = stands-on p (c .0) (c .1) (first-passed (standing p (c .0) (c .1) false) _ e) in
+    absurd (false≢true (sym f ∙ queued-on (c .0) (c .1) k l bs on))))
     (λ e. subst Quiet (sym (queue-no p c k l bs e)) q)
 quiet-next p (hears h r b) c q =
     test (passed (receiveVerdict p (c .0) (c .1) h r (length b)))

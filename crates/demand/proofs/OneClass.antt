@@ -9,7 +9,8 @@ use lib.Dec.{leb, eqb}
 use lib.ListN.{length}
 use borrow.Author.Tests.{le-leb}
 use Rattle.laws.proofs.Picks.{by}
-use Rattle.ledger.specs.Queue.{Message, Queue, messageBytes, goes, insert, first, behind, those, withdraws, enqueue, superseded, fliesFrom, flies}
+use Rattle.ledger.specs.Queue.{Message, Queue, messageBytes, goes, insert, first, behind, those, withdraws, enqueue, superseded}
+use Rattle.ledger.specs.Queue.{fliesFrom, flies}
 use Rattle.ledger.proofs.Queue.{bytes-append, first-behind}
 
 abbrev pub AllOf : ℕ → List Message → Type 0
@@ -46,8 +47,9 @@ single c (b ∷ bs) q h =
     let m : Message = record { class = c; label = 0; bytes = b ∷ bs } in
     let f = first (q .begun) (q .messages) in
     let r = behind (q .begun) (q .messages) in
-    rw (stays-all r, insert-last c m r refl (behind-all c (q .begun) (q .messages) h), bytes-append f (r ++ (m ∷ [])), bytes-append r (m ∷ []))
-    (sym (append-assoc (messageBytes f) (messageBytes r) (messageBytes (m ∷ []))) ∙ rw (← bytes-append f r, first-behind (q .begun) (q .messages), append-nil (b ∷ bs)))
+    rw (stays-all r, insert-last c m r refl (behind-all c (q .begun) (q .messages) h))
+    (rw (bytes-append f (r ++ (m ∷ [])), bytes-append r (m ∷ []))
+    (sym (append-assoc (messageBytes f) (messageBytes r) (messageBytes (m ∷ []))) ∙ rw (← bytes-append f r, first-behind (q .begun) (q .messages), append-nil (b ∷ bs))))
 
 -- ---- a single class stays one
 
@@ -71,7 +73,8 @@ enqueue-all c (b ∷ bs) q h =
     let m : Message = record { class = c; label = 0; bytes = b ∷ bs } in
     let late = behind (q .begun) (q .messages) in
     rw (stays-all late)
-    (all-append c (first (q .begun) (q .messages)) (insert m late) (first-all c (q .begun) (q .messages) h) (insert-all c m late refl (behind-all c (q .begun) (q .messages) h)))
+    (all-append c (first (q .begun) (q .messages)) (insert m late) (first-all c (q .begun) (q .messages) h)
+    (insert-all c m late refl (behind-all c (q .begun) (q .messages) h)))
 
 flies-from-all : (c k : ℕ) (b : Bool) (ms : List Message) → AllOf c ms → AllOf c (fliesFrom k b ms .messages)
 flies-from-all c k b [] h = tt

@@ -74,7 +74,7 @@ module _ (p : Profile) (rg : Ranged p) (io : inOrder p ≡ true) (six : length (
 
   module _ (n : ℕ) (large : areaBytes ≤ n) (is : List Call) (gs : Along (next p) Given is (freshStart n)) where
     through : (i : Call) → Given i (c p n is)
-        → LedgerClaim (sizesOf p) (messages p n is) (s p n is .sender) (s p n is .queue) (s p n is .withdrawn) (t p n is) (told p i (c p n is)) (shown (next p i (c p n is)) .sender)
+        → LedgerClaim (sizesOf p) (messages p n is) (s p n is) (t p n is) (told p i (c p n is)) (shown (next p i (c p n is)) .sender)
     through i g =
         refined (sizesOf p) (sizes p rg io six) State Call Given Fit (next p) shown (call p rg io six) (told p) refines (freshStart n) (fresh-shows (replicate n 0)) (fresh-fit n large) is gs i g
 
@@ -85,7 +85,9 @@ module _ (p : Profile) (rg : Ranged p) (io : inOrder p ≡ true) (six : length (
     few-taken : takenBy (c p n is .0 .sender .counts) (c p n is .0 .messages) ≤ maxTaken
     unfolding viewStation view
     few-taken =
-        let so = sound-after (sizesOf p) (sizes p rg io six) State Call Given Fit (next p) shown (call p rg io six) (told p) refines (freshStart n) (fresh-shows (replicate n 0)) (fresh-fit n large) is gs in
+        let so =
+        sound-after (sizesOf p) (sizes p rg io six) State Call Given Fit (next p) shown (call p rg io six) (told p) refines (freshStart n)
+        (fresh-shows (replicate n 0)) (fresh-fit n large) is gs in
         omega (arith, so .taken, waiting-length p rg io six (c p n is .0 .sender) (c p n is .1) (well .well))
 
 -- ---- every call is refused
@@ -118,7 +120,7 @@ module _ (p : Profile) (n : ℕ) (refused : (connect : Bool) → passed (standin
 
     module _ (is : List Call) (gs : Along (next p) Given is (freshStart n)) where
       refused-all : (i : Call) → Given i (c p n is)
-          → LedgerClaim z (messages p n is) (s p n is .sender) (s p n is .queue) (s p n is .withdrawn) (t p n is) (told p i (c p n is)) (shown (next p i (c p n is)) .sender)
+          → LedgerClaim z (messages p n is) (s p n is) (t p n is) (told p i (c p n is)) (shown (next p i (c p n is)) .sender)
       refused-all i g =
           refined z zr State Call Given (λ (c : State). c ≡ freshStart n) (next p) shown (λ (j : Call) (c : State). idle) (told p) idles (freshStart n) (fresh-shows (replicate n 0)) refl is gs i g
 
@@ -145,7 +147,7 @@ least-sizes = record { least = omega arith; order = omega arith; most = omega ar
 
 module _ (p : Profile) (six : length (p .codes .ends) ≤ 6) (n : ℕ) (is : List Call) (gs : Along (next p) Given is (freshStart n)) where
   abbrev Claimed : Sizes → Call → Type 0
-  Claimed z i = LedgerClaim z (messages p n is) (s p n is .sender) (s p n is .queue) (s p n is .withdrawn) (t p n is) (told p i (c p n is)) (shown (next p i (c p n is)) .sender)
+  Claimed z i = LedgerClaim z (messages p n is) (s p n is) (t p n is) (told p i (c p n is)) (shown (next p i (c p n is)) .sender)
 
   sizes-for : (b : Bool) → (inRange p && inOrder p) ≡ b → sizesFor p ≡ cond b (sizesOf p) (record { short = minPayload; long = minPayload; top = 0 })
   sizes-for b e = ap (λ (x : Bool). cond x (sizesOf p) (record { short = minPayload; long = minPayload; top = 0 })) e
@@ -172,8 +174,8 @@ module _ (p : Profile) (six : length (p .codes .ends) ≤ 6) (n : ℕ) (is : Lis
       record {
         ledger = subst (λ (x : Sizes). Claimed x i) (sym (sizes-for true v)) (through p rg io six n l is gs i g);
         sound = λ x y.
-            and-yes _ _ (sound-ok _ _ (w .listed))
-            (and-yes _ _ (sound-test p (c p n is .0 .sender) (c p n is .1) (w .well .sound) (w .well .arrays)) (le-leb _ _ (few-taken p rg io six n l is gs)));
+            let so = sound-test p (c p n is .0 .sender) (c p n is .1) (w .well .sound) (w .well .arrays) in
+            and-yes _ _ (sound-ok _ _ (w .listed)) (and-yes _ _ so (le-leb _ _ (few-taken p rg io six n l is gs)));
         sends = λ out ok. sends p rg io six n is w out (through p rg io six n l is gs (bursts out) tt) ok;
       }
 

@@ -93,7 +93,8 @@ older-stays (bursts g) s = step sizes (bursts g) s
 -- a queuing withdraws the begun message too
 abbrev begun-withdrawn : Move → Station → Station
 begun-withdrawn (queues c l bs) s =
-    step sizes (queues c l bs) (record { sender = s .sender; queue = record { begun = false; messages = s .queue .messages }; withdrawn = s .withdrawn })
+    step sizes (queues c l bs)
+    (record { sender = s .sender; queue = record { begun = false; messages = s .queue .messages }; withdrawn = s .withdrawn })
 begun-withdrawn idle s = s
 begun-withdrawn (hears r keep) s = step sizes (hears r keep) s
 begun-withdrawn turns s = step sizes turns s
@@ -120,9 +121,12 @@ module _ (wrong : Move → Station → Station) where
 abbrev frames : ℕ → Plan
 frames n = record { payload = 8; merging = false; parity = 0; room = n; slot = 1; increment = λ h. 1; number = 1 }
 
+abbrev nine : List ℕ
+nine = 1 ∷ 2 ∷ 3 ∷ 4 ∷ 5 ∷ 6 ∷ 7 ∷ 8 ∷ 9 ∷ []
+
 -- nine bytes in two frames, and an ack with this bitmap
 abbrev calls : ℕ → List Move
-calls bitmap = queues 3 0 (1 ∷ 2 ∷ 3 ∷ 4 ∷ 5 ∷ 6 ∷ 7 ∷ 8 ∷ 9 ∷ []) ∷ bursts (frames 2) ∷ hears (shortAck 1 bitmap) false ∷ []
+calls bitmap = queues 3 0 nine ∷ bursts (frames 2) ∷ hears (shortAck 1 bitmap) false ∷ []
 
 pub right-first : run (step sizes) (calls 1) freshStation .sender .acked ≡ 8
 unfolding requeue enqueue flies begins dataBurst hearAck settleBurst clearBurst
@@ -173,6 +177,6 @@ unfolding requeue enqueue superseded queued
 no-uncounted d = omega (arith, d .withdrawn)
 
 -- eight of nine bytes fly, and the ninth still waits when a newer bulletin comes
-pub no-begun-withdrawn : Holds begun-withdrawn (queues 3 7 (1 ∷ 2 ∷ 3 ∷ 4 ∷ 5 ∷ 6 ∷ 7 ∷ 8 ∷ 9 ∷ []) ∷ bursts (frames 1) ∷ queues 3 7 (10 ∷ []) ∷ []) → ⊥
+pub no-begun-withdrawn : Holds begun-withdrawn (queues 3 7 nine ∷ bursts (frames 1) ∷ queues 3 7 (10 ∷ []) ∷ []) → ⊥
 unfolding requeue enqueue superseded flies begins dataBurst queued sentOut
 no-begun-withdrawn d = omega (arith, ap length (d .waiting))

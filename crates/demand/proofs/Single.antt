@@ -1,6 +1,7 @@
 -- "WITH A SINGLE CLASS AND NO LABELS THE RUST IS STILL EQUALLED": the claim of specs/Single.antt.
--- A call on a station whose messages are sound and all of the class k, and which has withdrawn nothing, does to sender and work area what the base's call does, and answers the same: the verdicts agree (`standing-same`,
--- `queue-same`), a new message goes last (`single`), and replies and bursts are the base's own. That its messages are so holds after every call: where the calls get through by
+-- A call on a station whose messages are sound and all of the class k, and which has withdrawn nothing, does to sender and work area
+-- what the base's call does, and answers the same: the verdicts agree (`standing-same`, `queue-same`), a new message goes last
+-- (`single`), and replies and bursts are the base's own. That its messages are so holds after every call: where the calls get through by
 -- `does`, and where every call is refused because nothing changes.
 -- Assumes nothing.
 use mathlib.Core.Path.{_≡_, refl, sym, ap, ap₂, _∙_, subst}
@@ -46,7 +47,8 @@ use Rattle.refusals.specs.Refusals.{numberOf, kindOf}
 use Rattle.report.specs.declared.ack.AckRead.{AckRead}
 use Rattle.report.specs.declared.ack.AckRead.the-variants.{TooShort, Info}
 use Rattle.report.specs.Ack.{ackOf}
-use Rattle.verdicts.specs.Verdicts.{passed, stationOk, takenBy, firstOf, standing, roomVerdict, replyVerdict, outputVerdict, queueVerdict, receiveVerdict, burstVerdict}
+use Rattle.verdicts.specs.Verdicts.{passed, stationOk, takenBy, firstOf, standing, roomVerdict, replyVerdict, outputVerdict}
+use Rattle.verdicts.specs.Verdicts.{queueVerdict, receiveVerdict, burstVerdict}
 use Rattle.receive.specs.Accepted.{acceptedReply}
 use Rattle.outgoing.specs.Outgoing.{burstOf}
 use Rattle.outgoing.specs.declared.Outgoing.{Outgoing}
@@ -81,7 +83,9 @@ module _ (p : Profile) (c : State) (ok : Listed c) where
   sound-same =
       rw (ok .0)
       (test (soundOk p (c .0 .sender) (c .1))
-      (λ e. rw e (le-leb (takenBy (c .0 .sender .counts) (c .0 .messages)) maxTaken (omega (arith, sound-taken p (c .0 .sender) (c .1) e, ok .1))))
+      (λ e.
+      let few : takenBy (c .0 .sender .counts) (c .0 .messages) ≤ maxTaken = omega (arith, sound-taken p (c .0 .sender) (c .1) e, ok .1) in
+      rw e (le-leb _ _ few))
       (λ e. rw e refl))
 
   standing-same : (connect : Bool) → standing p (c .0) (c .1) connect ≡ standingBase p (c .0 .sender) (c .1) connect
@@ -118,7 +122,8 @@ module _ (p : Profile) (c : State) (ok : Listed c) where
       let left : w - total (withdrawnIn 0 n m) ≡ w = omega (arith, ap (λ (x : Withdrawal). x .bytes) none) in
       let taken : takenBy (s .counts) m ≡ s .counts .«next_offset» + w = omega (arith, ok .1) in
       let rows : m .n - length (withdrawnIn 0 n m) ≡ m .n = omega (arith, ap (λ (x : Withdrawal). x .n) none) in
-      let judge : ℕ → ℕ → Verdict = λ q r. cond (eqb q 8) QueueFull (cond (eqb q 9) AllTaken (cond (ltb 0 n && leb maxMessages r) TooManyMessages Accepted)) in
+      let judge : ℕ → ℕ → Verdict =
+      λ q r. cond (eqb q 8) QueueFull (cond (eqb q 9) AllTaken (cond (ltb 0 n && leb maxMessages r) TooManyMessages Accepted)) in
       let f : queueVerdict p (c .0) (c .1) k 0 n ≡ judged n (cond b TooManyMessages Accepted) =
       λ i. firstOf (standing-same false i) (cond (le-ltb maxClass k low i) BadClass (judge (queueRefusal (left i) (taken i) n) (rows i))) in
       let v = standingBase p s (c .1) false in
@@ -196,7 +201,8 @@ module _ (p : Profile) (c : State) (ok : Listed c) where
           single k (b ∷ x) q all ∙ ap₂ (λ (u v : List ℕ). u ++ v) (goes-shown (c .0) (c .1) counted so) e in
           ap (λ (w : List ℕ). (store (L.requeue w (view s (c .1))) s, storeArea (L.requeue w (view s (c .1))) (c .1))) f
 
-    queue-does : (passed vq ≡ true → core (queuedIn k 0 bs (c .0) (c .1)) ≡ (store after s, storeArea after (c .1))) → eqb (numberOf vq) 12 ≡ false → Same p c (queues k 0 bs)
+    queue-does : (passed vq ≡ true → core (queuedIn k 0 bs (c .0) (c .1)) ≡ (store after s, storeArea after (c .1)))
+        → eqb (numberOf vq) 12 ≡ false → Same p c (queues k 0 bs)
     unfolding queueOf queueBase
     queue-does last few =
         let e = queue-same p c ok k low (length bs) few in (
@@ -235,13 +241,15 @@ many-stays p (queues k l bs) c t = queue-no p c k l bs (not-passed _ _ (queue-ve
 many-stays p (hears h r b) c t = hear-no p c h r b (not-passed _ _ (receive-verdict p (c .0) (c .1) h r b) t)
 many-stays p (bursts out) c t = burst-no p c out (not-passed _ _ (burst-verdict p (c .0) (c .1) out) t)
 
-not-many : (p : Profile) (c : State) (k l : ℕ) (bs : List ℕ) → tooMany p (queues k l bs) c ≡ false → eqb (numberOf (queueVerdict p (c .0) (c .1) k l (length bs))) 12 ≡ false
+not-many : (p : Profile) (c : State) (k l : ℕ) (bs : List ℕ) → tooMany p (queues k l bs) c ≡ false
+    → eqb (numberOf (queueVerdict p (c .0) (c .1) k l (length bs))) 12 ≡ false
 not-many p c k l bs t = ap (λ (v : Verdict). eqb (numberOf v) 12) (sym (queue-verdict p (c .0) (c .1) k l bs)) ∙ t
 
 -- a queuing with class k and no label
 module _ (p : Profile) (c : State) (k j l : ℕ) (bs : List ℕ) (o : (j ≡ k) × (l ≡ 0)) where
   plain-few : tooMany p (queues j l bs) c ≡ false → eqb (numberOf (queueVerdict p (c .0) (c .1) k 0 (length bs))) 12 ≡ false
-  plain-few t = sym (ap₂ (λ (x y : ℕ). eqb (numberOf (queueVerdict p (c .0) (c .1) x y (length bs))) 12) (o .0) (o .1)) ∙ not-many p c j l bs t
+  plain-few t =
+      sym (ap₂ (λ (x y : ℕ). eqb (numberOf (queueVerdict p (c .0) (c .1) x y (length bs))) 12) (o .0) (o .1)) ∙ not-many p c j l bs t
 
   plain-same : Same p c (queues k 0 bs) → Same p c (queues j l bs)
   plain-same h = subst (λ (x : ℕ). Same p c (queues x l bs)) (sym (o .0)) (subst (λ (y : ℕ). Same p c (queues k y bs)) (sym (o .1)) h)
@@ -278,9 +286,14 @@ module _ (p : Profile) (rg : Ranged p) (io : inOrder p ≡ true) (six : length (
   plain-after : (i : Call) (c : State) → OneClass k i c → Plain (shown c) → After c (call p rg io six i c)
   plain-after (queues j l bs) c o h =
       by (After c) (passed (queueVerdict p (c .0) (c .1) j l (length bs)))
-      (λ _. subst (λ (x : ℕ). After c (C.queues x l bs)) (sym (o .0)) (subst (λ (y : ℕ). After c (C.queues k y bs)) (sym (o .1)) (queue-plain c bs h))) (λ _. h)
-  plain-after (hears h r b) c o a = by (After c) (passed (receiveVerdict p (c .0) (c .1) h r (length b))) (λ _. reply-plain c r b a) (λ _. a)
-  plain-after (bursts out) c o h = by (After c) (passed (burstVerdict p (c .0) (c .1) (length out))) (λ _. (flies-all k _ (shown c .queue) (h .0), h .1)) (λ _. h)
+      (λ _.
+      subst (λ (x : ℕ). After c (C.queues x l bs)) (sym (o .0))
+      (subst (λ (y : ℕ). After c (C.queues k y bs)) (sym (o .1)) (queue-plain c bs h)))
+      (λ _. h)
+  plain-after (hears h r b) c o a =
+      by (After c) (passed (receiveVerdict p (c .0) (c .1) h r (length b))) (λ _. reply-plain c r b a) (λ _. a)
+  plain-after (bursts out) c o h =
+      by (After c) (passed (burstVerdict p (c .0) (c .1) (length out))) (λ _. (flies-all k _ (shown c .queue) (h .0), h .1)) (λ _. h)
 
   keeps-class : (i : Call) (c : State) → Given i c → OneClass k i c → Inv c → Inv (next p i c)
   keeps-class i c g o v =
@@ -294,10 +307,10 @@ module _ (p : Profile) (rg : Ranged p) (io : inOrder p ≡ true) (six : length (
   same-through : (i : Call) (c : State) → Given i c → OneClass k i c → Inv c → (ok : Listed c) → tooMany p i c ≡ false → Same p c i
   same-through (queues j l bs) c g o v ok t =
       let w = v .0 .0 in
+      let counted = sound-counted p (c .0 .sender) (c .1) (w .well .sound) in
       plain-same p c k j l bs o
       (queue-does p c ok k low bs
-      (λ _. queued-last p c ok k low bs (v .1 .0) (sound-counted p (c .0 .sender) (c .1) (w .well .sound)) (w .well .bytes) (w .well .arrays) (w .listed) bs refl)
-      (plain-few p c k j l bs o t))
+      (λ _. queued-last p c ok k low bs (v .1 .0) counted (w .well .bytes) (w .well .arrays) (w .listed) bs refl) (plain-few p c k j l bs o t))
   same-through (hears h r b) c g o v ok t = reply-same p c ok h r b
   same-through (bursts out) c g o v ok t = burst-same p c ok out
 

@@ -121,8 +121,8 @@ module _ (p : Profile) (rg : Ranged p) (io : inOrder p ≡ true) where
   pub queued-well : (w : List ℕ) (s : Sender) (a : List ℕ) → Bytes w → length w ≤ maxWaiting → view s a .next + length w ≤ maxTaken
       → Well p s a → Well p (store (requeue w (view s a)) s) (storeArea (requeue w (view s a)) a)
   queued-well w s a by h h′ wl =
-      stored-well p zr (requeue w (view s a)) s a (s .gear) (s .link) wl (queue-kept (sizesOf p) zr (view s a) (well-kept p s a wl) w by h h′)
-      (well-gear p s a wl) (wl .sound .link)
+      stored-well p zr (requeue w (view s a)) s a (s .gear) (s .link) wl
+      (queue-kept (sizesOf p) zr (view s a) (well-kept p s a wl) w by h h′) (well-gear p s a wl) (wl .sound .link)
 
 -- ---- what `AckInfo::from_bytes` reads is in range
 

@@ -1,4 +1,5 @@
--- Document 01's reckoned examples of pieces, replies by their bits, a run of calls, and the limits, reached exactly; the order of messages, and their withdrawal.
+-- Document 01's reckoned examples of pieces, replies by their bits, a run of calls, and the limits, reached exactly; the order of messages,
+-- and their withdrawal.
 -- Assumes nothing.
 use Prim.Native.Nat.{ℕ, zero, suc}
 use mathlib.Core.Path.{_≡_, refl}

@@ -1,5 +1,5 @@
--- The tally alone: each message queued has begun, waits or was withdrawn, the flown bytes and what is left of the begun one are the begun messages, and the
--- others wait in order.
+-- The tally alone: each message queued has begun, waits or was withdrawn, the flown bytes and what is left of the begun one are the begun
+-- messages, and the others wait in order.
 -- Assumes nothing.
 use Prim.Native.Nat.{ℕ, suc, _+_, _-_, _≤_}
 use mathlib.Core.Path.{_≡_, refl, sym, ap, subst, _∙_}
@@ -13,10 +13,13 @@ use Rattle.laws.proofs.Lists.{map-map, map-id, map-append}
 use Rattle.ledger.specs.Reply.{Reply}
 use Rattle.ledger.specs.Ledger.{Frame}
 use Rattle.ledger.specs.Tally.{unacked, byteOf, acknowledge, Flown, acknowledgeAll, acknowledgedBy, Outstanding, nothing, outstanding, Tally, Event, feed, queuedIn, queued, sentOut, heard, turn, noneOutstanding, silent, took, reply, went, furthest, start}
-use Rattle.ledger.specs.Queue.{Message, messageBytes, goes, behind, rest, message, count, ofClass, withdraws, enqueue, superseded, flies, begins, Ascending, Sublist}
+use Rattle.ledger.specs.Queue.{Message, messageBytes, goes, behind, rest, message, count, ofClass, withdraws, Ascending, Sublist}
+use Rattle.ledger.specs.Queue.{enqueue, superseded, flies, begins}
 use Rattle.ledger.specs.Calls.{tally, history}
-use Rattle.ledger.proofs.Queue.{Ready, bytes-append, length-bytes-append, count-append, of-append, begins-behind, goes-flies, rest-flies, ready-flies, order-flies, count-flies}
-use Rattle.ledger.proofs.Queue.{sublist-same, sublist-append, sublist-trans, ready-enqueue, order-enqueue, rest-enqueue, length-enqueue, count-enqueue, of-enqueue, newest-enqueue}
+use Rattle.ledger.proofs.Queue.{Ready, bytes-append, length-bytes-append, count-append, of-append}
+use Rattle.ledger.proofs.Queue.{sublist-same, sublist-append, sublist-trans}
+use Rattle.ledger.proofs.Queue.{ready-enqueue, order-enqueue, rest-enqueue, length-enqueue, count-enqueue, of-enqueue, newest-enqueue}
+use Rattle.ledger.proofs.Queue.{ready-flies, order-flies, rest-flies, goes-flies, begins-behind, count-flies}
 
 bytes-unacked : (bs : List ℕ) → map byteOf (unacked bs) ≡ bs
 bytes-unacked bs = map-map byteOf _ bs ∙ map-id bs
@@ -43,7 +46,8 @@ pub record Told (ms : List Message) (t : Tally) : Type 0 where
   pub order : Ascending 0 (behind (t .queue .begun) (t .queue .messages))
   pub taken : t .taken ≡ length (messageBytes ms)
   pub sum : t .taken ≡ length (goes (t .queue)) + length (t .flown) + length (messageBytes (t .withdrawn))
-  pub each : (p : Message → Bool) → count p ms ≡ count p (t .began) + count p (behind (t .queue .begun) (t .queue .messages)) + count p (t .withdrawn)
+  pub each : (p : Message → Bool) →
+      count p ms ≡ count p (t .began) + count p (behind (t .queue .begun) (t .queue .messages)) + count p (t .withdrawn)
   pub earliest : (c : ℕ) → Sublist (ofClass c (t .began) ++ ofClass c (behind (t .queue .begun) (t .queue .messages))) (ofClass c ms)
   pub newest : (l : ℕ) → count (λ (m : Message). withdraws l (m .label)) (behind (t .queue .begun) (t .queue .messages)) ≤ 1
   pub history : map byteOf (t .flown) ++ rest (t .queue) ≡ messageBytes (t .began)
@@ -66,8 +70,8 @@ message-bytes c l [] = refl
 message-bytes c l (b ∷ bs) = append-nil (b ∷ bs)
 
 -- nothing is queued, and nothing begins to fly
-module _ (ms : List Message) (t u : Tally) (e₁ : u .taken ≡ t .taken) (e₂ : u .queue ≡ t .queue) (e₃ : u .began ≡ t .began) (e₄ : u .withdrawn ≡ t .withdrawn)
-    (e₅ : map byteOf (u .flown) ≡ map byteOf (t .flown)) where
+module _ (ms : List Message) (t u : Tally) (e₁ : u .taken ≡ t .taken) (e₂ : u .queue ≡ t .queue) (e₃ : u .began ≡ t .began)
+    (e₄ : u .withdrawn ≡ t .withdrawn) (e₅ : map byteOf (u .flown) ≡ map byteOf (t .flown)) where
   same : Told ms t → Told (ms ++ []) u
   same k =
       rw append-nil
@@ -143,7 +147,8 @@ module _ (ms : List Message) (t : Tally) (k : Told ms t) where
             (k .earliest c);
         newest = λ l. omega (arith, k .newest l, count-flies (λ (m : Message). withdraws l (m .label)) j q);
         history =
-            ap (λ (x : List ℕ). x ++ rest (flies j q)) (map-append byteOf (t .flown) (unacked went) ∙ ap (λ (x : List ℕ). fl ++ x) (bytes-unacked went))
+            ap (λ (x : List ℕ). x ++ rest (flies j q))
+            (map-append byteOf (t .flown) (unacked went) ∙ ap (λ (x : List ℕ). fl ++ x) (bytes-unacked went))
             ∙ append-assoc fl went (rest (flies j q)) ∙ ap (λ (x : List ℕ). fl ++ x) (rest-flies j q)
             ∙ sym (append-assoc fl (rest q) (messageBytes (begins j q)))
             ∙ ap (λ (x : List ℕ). x ++ messageBytes (begins j q)) (k .history) ∙ sym (bytes-append (t .began) (begins j q));

@@ -182,10 +182,12 @@ module _ (z : Sizes) where
 
   module _ (zr : SizeRange z) where
     -- EVERY ACCEPTED CALL KEEPS `Sound`
-    sender-sound : (c : Move) (st : Station) → Allowed z c st → Sound z (st .sender) → st .sender .waiting ≡ goes (st .queue) → Sound z (step z c st .sender)
+    sender-sound : (c : Move) (st : Station) → Allowed z c st → Sound z (st .sender) → st .sender .waiting ≡ goes (st .queue) →
+        Sound z (step z c st .sender)
     sender-sound idle st al so sh = so
     sender-sound (queues c l bs) st al so sh =
-        queue-sound (goes (enqueue c l bs (st .queue))) (st .sender) (al .0) (omega (arith, al .1, length-enqueue c l (st .queue) bs, ap length sh)) so
+        queue-sound (goes (enqueue c l bs (st .queue))) (st .sender) (al .0)
+        (omega (arith, al .1, length-enqueue c l (st .queue) bs, ap length sh)) so
     sender-sound (hears r keep) st al so sh = ack-sound r keep (st .sender) so
     sender-sound turns st al so sh = clear-sound (st .sender) so
     sender-sound (bursts g) st al so sh = burst-sound z zr (st .sender) g so al
@@ -201,19 +203,24 @@ module _ (z : Sizes) where
     sender-shows (bursts g) st sh = let k = size (newPieces g (st .sender)) in ap (drop k) sh ∙ sym (goes-flies k (st .queue))
 
     -- the bytes taken, those withdrawn among them, grow by those queued alone
-    sender-taken : (c : Move) (st : Station) → Allowed z c st → SoundStation z st → takenOf (step z c st .sender) + step z c st .withdrawn ≤ maxTaken
+    sender-taken : (c : Move) (st : Station) → Allowed z c st → SoundStation z st →
+        takenOf (step z c st .sender) + step z c st .withdrawn ≤ maxTaken
     unfolding hearAck settleBurst clearBurst requeue
     sender-taken idle st al ss = ss .taken
     sender-taken (queues c l bs) st al ss = omega (arith, al .1, length-enqueue c l (st .queue) bs, ap length (ss .shows))
     sender-taken (hears r keep) st al ss =
-        by (λ (x : Sender). takenOf x + st .withdrawn ≤ maxTaken) (st .sender .awaited)
-        (λ _. either (λ (x : Sender). takenOf x + st .withdrawn ≤ maxTaken) (settles r (st .sender)) _ _ (ss .taken) (ss .taken)) (λ _. ss .taken)
+        let Few : Sender → Type 0 = λ x. takenOf x + st .withdrawn ≤ maxTaken in
+        by Few (st .sender .awaited) (λ _. either Few (settles r (st .sender)) _ _ (ss .taken) (ss .taken)) (λ _. ss .taken)
     sender-taken turns st al ss = ss .taken
     sender-taken (bursts g) st al ss = omega (arith, ss .taken, burst-taken z zr (st .sender) g (ss .sound) al)
 
     pub step-sound : (c : Move) (st : Station) → Allowed z c st → SoundStation z st → SoundStation z (step z c st)
     step-sound c st al so =
-        record { sound = sender-sound c st al (so .sound) (so .shows); shows = sender-shows c st (so .shows); taken = sender-taken c st al so }
+        record {
+          sound = sender-sound c st al (so .sound) (so .shows);
+          shows = sender-shows c st (so .shows);
+          taken = sender-taken c st al so;
+        }
 
   -- ---- agreement
 
@@ -246,7 +253,8 @@ module _ (z : Sizes) where
   unfolding heard
   not-awaited-agree r s t w ag = record { waiting = ag .waiting; flown = rw (ag .out, w) (ag .flown); out = rw w }
 
-  queue-agree : (c l : ℕ) (bs : List ℕ) (q : Queue) (s : Sender) (t : Tally) → t .queue ≡ q → Agree s t → Agree (requeue (goes (enqueue c l bs q)) s) (queued c l bs t)
+  queue-agree : (c l : ℕ) (bs : List ℕ) (q : Queue) (s : Sender) (t : Tally) → t .queue ≡ q → Agree s t →
+      Agree (requeue (goes (enqueue c l bs q)) s) (queued c l bs t)
   unfolding requeue queued
   queue-agree c l bs q s t e ag = record { waiting = ap (λ (x : Queue). goes (enqueue c l bs x)) e; flown = ag .flown; out = ag .out }
 
@@ -259,7 +267,8 @@ module _ (z : Sizes) where
     unfolding dataBurst
     burst-event g s t al so ag = burst-agree z zr s g so al t ag
 
-    pub step-agree : (c : Move) (st : Station) (t : Tally) → Allowed z c st → Sound z (st .sender) → t .queue ≡ st .queue → Agree (st .sender) t → Agree (step z c st .sender) (feed (moveTold z c st) t)
+    pub step-agree : (c : Move) (st : Station) (t : Tally) → Allowed z c st → Sound z (st .sender) → t .queue ≡ st .queue →
+        Agree (st .sender) t → Agree (step z c st .sender) (feed (moveTold z c st) t)
     unfolding hearAck
     step-agree idle st t al so e ag = ag
     step-agree (queues c l bs) st t al so e ag = queue-agree c l bs (st .queue) (st .sender) t e ag
@@ -272,7 +281,8 @@ module _ (z : Sizes) where
     step-agree (bursts g) st t al so e ag = burst-event g (st .sender) t al so ag
 
     -- and the tally's messages are the sender's
-    pub step-queue : (c : Move) (st : Station) (t : Tally) → Allowed z c st → Sound z (st .sender) → t .queue ≡ st .queue → Agree (st .sender) t → feed (moveTold z c st) t .queue ≡ step z c st .queue
+    pub step-queue : (c : Move) (st : Station) (t : Tally) → Allowed z c st → Sound z (st .sender) → t .queue ≡ st .queue →
+        Agree (st .sender) t → feed (moveTold z c st) t .queue ≡ step z c st .queue
     unfolding queued heard noneOutstanding sentOut dataBurst
     step-queue idle st t al so e ag = e
     step-queue (queues c l bs) st t al so e ag = ap (enqueue c l bs) e
@@ -286,7 +296,8 @@ module _ (z : Sizes) where
     unfolding queued heard noneOutstanding sentOut
     step-withdrawn idle st t e w = w
     step-withdrawn (queues c l bs) st t e w =
-        omega (arith, w, ap (λ (q : Queue). length (messageBytes (superseded l bs q))) e, length-bytes-append (t .withdrawn) (superseded l bs (t .queue)))
+        let gone = ap (λ (q : Queue). length (messageBytes (superseded l bs q))) e in
+        omega (arith, w, gone, length-bytes-append (t .withdrawn) (superseded l bs (t .queue)))
     step-withdrawn (hears r keep) st t e w = w
     step-withdrawn turns st t e w = w
     step-withdrawn (bursts g) st t e w = w
@@ -308,7 +319,8 @@ module _ (z : Sizes) where
   queue-pieces w s = refl
 
   module _ (zr : SizeRange z) where
-    pub step-keeps : (c : Move) (st : Station) (o : ℕ) → Allowed z c st → Sound z (st .sender) → 1 ≤ occurs o (heldOffs (step z c st .sender .held)) →
+    pub step-keeps : (c : Move) (st : Station) (o : ℕ) → Allowed z c st → Sound z (st .sender) →
+        1 ≤ occurs o (heldOffs (step z c st .sender .held)) →
         find o (step z c st .sender .pieces) ≡ find o (st .sender .pieces)
     unfolding hearAck
     step-keeps idle st o al so h = refl

@@ -39,8 +39,8 @@ module _ (z : Sizes) (zr : SizeRange z) (s : Sender) (t : Tally) (so : Sound z s
   holds o h =
       sym (find-flown (z .long) (s .next) o (s .pieces) (t .flown) (so .ascend) (find-some (z .long) 0 (s .next) o (s .pieces) (so .ascend) (listed-occurs o (offs (s .pieces)) h)) (ag .flown))
 
-module _ (z : Sizes) (zr : SizeRange z) (st : Station) (t : Tally) (ss : SoundStation z st) (e : t .queue ≡ st .queue) (v : st .withdrawn ≡ length (messageBytes (t .withdrawn))) (ag : Agree (st .sender) t)
-    (c : Move) (al : Allowed z c st) where
+module _ (z : Sizes) (zr : SizeRange z) (st : Station) (t : Tally) (ss : SoundStation z st) (e : t .queue ≡ st .queue)
+    (v : st .withdrawn ≡ length (messageBytes (t .withdrawn))) (ag : Agree (st .sender) t) (c : Move) (al : Allowed z c st) where
   call-carries : (c′ : Move) → Sound z (step z c′ st .sender) → Agree (step z c′ st .sender) (feed (moveTold z c′ st) t) → Carry (map byteOf (feed (moveTold z c′ st) t .flown)) (step z c′ st .sender .pieces) (framesTold (moveTold z c′ st))
   call-carries idle so′ ag′ = tt
   call-carries (queues d l bs) so′ ag′ = tt
@@ -50,7 +50,7 @@ module _ (z : Sizes) (zr : SizeRange z) (st : Station) (t : Tally) (ss : SoundSt
       carry z zr (dataBurst g (st .sender)) (feed (moveTold z (bursts g) st) t) so′ ag′ (dataBurst g (st .sender) .sent)
       (λ o h. omega (arith, out-occurs z (dataBurst g (st .sender)) so′ o))
 
-  pub claim-of : (ms : List Message) → Told ms t → LedgerClaim z ms (st .sender) (st .queue) (st .withdrawn) t (moveTold z c st) (step z c st .sender)
+  pub claim-of : (ms : List Message) → Told ms t → LedgerClaim z ms st t (moveTold z c st) (step z c st .sender)
   claim-of ms hi =
       let s = st .sender in
       let so = ss .sound in
@@ -143,7 +143,8 @@ module _ (z : Sizes) (zr : SizeRange z) (C I : Type 0) (Given : I → C → Type
 
       -- DEMAND 3, after every list of calls and of one further call
       pub refined : (i : I) → Given i (run next is c) →
-          LedgerClaim z (history next says is c) (view (run next is c) .sender) (view (run next is c) .queue) (view (run next is c) .withdrawn) (tally next says is c start) (says i (run next is c)) (view (next i (run next is c)) .sender)
+          LedgerClaim z (history next says is c) (view (run next is c)) (tally next says is c start) (says i (run next is c))
+          (view (next i (run next is c)) .sender)
       refined i g =
           let d = run next is c in
           let t = tally next says is c start in

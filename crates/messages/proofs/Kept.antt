@@ -11,7 +11,7 @@ use borrow.Author.Tests.{leb-true, leb-false, le-leb, lt-ltb, ltb-true, eqb-true
 use Rattle.laws.proofs.Picks.{by, and-first, and-second}
 use Rattle.limits.specs.Limits.{maxClass, maxMessages}
 use Rattle.messages.specs.declared.Messages.{Messages}
-use Rattle.messages.specs.Messages.{noMessages, Entry, entriesIn, total, entriesOk, messagesOk, storeEntries, withWithdrawn, begunIn}
+use Rattle.messages.specs.Messages.{noMessages, Entry, entriesIn, total, entriesOk, messagesOk, storeEntries, withWithdrawn, begunIn, withdrawnIn}
 use Rattle.messages.specs.MessagesCode.{insertRow, goIn, stayIn, withdrawn, Line, flownFrom, flown}
 use Rattle.messages.specs.SoundCode.{Each, SoundMessages, Sized}
 use Rattle.messages.proofs.Entries.{length-entries, length-insert}
@@ -64,6 +64,14 @@ sound-stored m z b es w few each sum =
 
 sized-with : (k : ℕ) (m : Messages) → Sized m → Sized (withWithdrawn k m)
 sized-with k m z = record { left = z .left; class = z .class; label = z .label }
+
+-- what a queuing withdraws is among the messages
+pub gone-within : (m : Messages) (w l n : ℕ) → SoundMessages m w → (length (withdrawnIn l n m) ≤ m .n) × (total (withdrawnIn l n m) ≤ w)
+unfolding withdrawnIn total
+gone-within m w l n s =
+    let i = stay-go l (begunIn m) (entriesIn m) in
+    by (λ (xs : List Entry). (length xs ≤ m .n) × (total xs ≤ w)) (eqb n 0) (λ _. (omega arith, omega arith))
+    (λ _. (omega (arith, i .0, length-entries m 0 (m .n)), omega (arith, i .1, s .sum)))
 
 -- A WITHDRAWAL KEEPS A SOUND RECORD
 module _ (m : Messages) (w l : ℕ) (z : Sized m) (s : SoundMessages m w) where

@@ -1,12 +1,13 @@
 -- The queue that the record and the waiting bytes show takes the ledger's steps: what the code stores is what `enqueue` and `flies` leave.
 -- Assumes nothing.
-use Prim.Native.Nat.{ℕ, suc, _+_, _-_, _≤_, _<_}
+use Prim.Native.Nat.{ℕ, zero, suc, _+_, _-_, _≤_, _<_}
 use mathlib.Core.Path.{_≡_, refl, sym, ap, ap₂, _∙_}
 use mathlib.Core.Bool.{Bool, true, false, not, _&&_, false≢true}
 use mathlib.Core.List.{List, [], _∷_, _++_, map, append-assoc}
+use native.Mathlib.Nat.{sub-zero}
 use native.Mathlib.Omega.{arith}
 use lib.ListN.{length, take, drop, length-append, length-drop, length-map, take-append-drop}
-use lib.Seq.{take-at, drop-at, length-take-le}
+use lib.Seq.{take-at, drop-at, take-take, length-take-le}
 use lib.Dec.{leb, ltb, eqb}
 use borrow.Author.Tests.{lt-ltb, ltb-true}
 use Rattle.laws.specs.Bytes.{overwrite}
@@ -39,6 +40,24 @@ unfolding total
 bytes-messages [] [] h = refl
 bytes-messages [] (x ∷ w) h = absurd (omega arith)
 bytes-messages (e ∷ es) w h = ap (λ (r : List ℕ). take (e .left) w ++ r) (bytes-messages es (drop (e .left) w) (omega (arith, length-drop (e .left) w))) ∙ take-append-drop (e .left) w
+
+drop-take : (k n : ℕ) (w : List ℕ) → k ≤ n → drop k (take n w) ≡ take (n - k) (drop k w)
+drop-take zero n w h = rw sub-zero
+drop-take (suc k) zero w h = absurd (omega arith)
+drop-take (suc k) (suc n) [] h = sym (take-none (suc n - suc k))
+  where
+    take-none : (j : ℕ) → take {A = ℕ} j [] ≡ []
+    take-none zero = refl
+    take-none (suc j) = refl
+drop-take (suc k) (suc n) (x ∷ w) h = drop-take k n w (omega arith) ∙ ap (λ (j : ℕ). take j (drop k w)) (let e : n - k ≡ suc n - suc k = omega arith in e)
+
+-- bytes behind those of the entries don't matter
+messages-take : (es : List Entry) (n : ℕ) (w : List ℕ) → total es ≤ n → messagesOf es (take n w) ≡ messagesOf es w
+unfolding total
+messages-take [] n w h = refl
+messages-take (e ∷ es) n w h =
+    ap₂ (λ (bs : List ℕ) (ms : List Message). record { class = e .class; label = e .label; bytes = bs } ∷ ms) (take-take (e .left) n w (omega arith))
+    (ap (messagesOf es) (drop-take (e .left) n w (omega arith)) ∙ messages-take es (n - e .left) (drop (e .left) w) (omega arith))
 
 messages-entries : (ms : List Message) → messagesOf (entriesOf ms) (messageBytes ms) ≡ ms
 messages-entries [] = refl
@@ -187,8 +206,12 @@ queue-stored q m s r h =
     ap₂ (λ (b : Bool) (ms : List Message). record { begun = b; messages = ms }) (begun-some (q .begun) (length es) (λ f. omega (arith, n, r f)))
     (ap (λ (xs : List Entry). messagesOf xs (goes q)) (entries-stored m s (q .begun) es (omega (arith, n))) ∙ messages-entries (q .messages))
 
+pub queue-take : (m : Messages) (n : ℕ) (w : List ℕ) → total (entriesIn m) ≤ n → queueIn m (take n w) ≡ queueIn m w
+unfolding queueIn
+queue-take m n w h = ap (λ (ms : List Message). record { begun = begunIn m; messages = ms }) (messages-take (entriesIn m) n w h)
+
 -- the bytes withdrawn don't matter to what is shown
-queue-with : (k : ℕ) (m : Messages) (w : List ℕ) → queueIn (withWithdrawn k m) w ≡ queueIn m w
+pub queue-with : (k : ℕ) (m : Messages) (w : List ℕ) → queueIn (withWithdrawn k m) w ≡ queueIn m w
 unfolding queueIn
 queue-with k m w = ap (λ (es : List Entry). record { begun = begunIn m; messages = messagesOf es w }) (entries-withdrawn k m)
 
@@ -354,7 +377,7 @@ module _ (m : Messages) (w : List ℕ) (sum : total (entriesIn m) ≡ length w) 
   pub goes-again : goes (putQueue x stay) ≡ putBytes (spot .bytes) (x .bytes) (goes stay)
   goes-again = ap (λ (y : Queue). goes (putQueue x y)) (sym shows) ∙ goes-place left (goes stay) now-sum x
 
-  length-again : length (putQueue x stay .messages) ≡ left .n + 1
+  pub length-again : length (putQueue x stay .messages) ≡ left .n + 1
   length-again = ap (λ (y : Queue). length (putQueue x y .messages)) (sym shows) ∙ length-put left (goes stay) now-sum x
 
   pub stores-again : storeEntries (begunIn left) (insertRow (spot .row) (entry x) (entriesIn left)) left

@@ -171,7 +171,7 @@ none-gone : (es : List Entry) → those (λ (e : Entry). withdraws 0 (e .label))
 none-gone [] = refl
 none-gone (e ∷ es) = none-gone es
 
-nothing-gone : (l n : ℕ) (m : Messages) → (eqb n 0 || eqb l 0) ≡ true → withdrawnIn l n m ≡ []
+pub nothing-gone : (l n : ℕ) (m : Messages) → (eqb n 0 || eqb l 0) ≡ true → withdrawnIn l n m ≡ []
 unfolding withdrawnIn
 nothing-gone l n m t = go (eqb n 0) t
   where

@@ -5,11 +5,18 @@ use messages::Messages;
 use messages::insert;
 use messages::place;
 use messages::withdraw;
+use messages::withdraws;
 use record::Sender;
 ghost use mathlib.Core.Path.{_≡_};
-ghost use lib.ListN.{length};
+ghost use Prim.Native.Nat.{_+_, _≤_};
+ghost use lib.ListN.{length, drop};
+ghost use Rattle.laws.specs.Bytes.{overwrite};
+ghost use Rattle.limits.specs.Limits.{maxMessages, maxTaken};
+ghost use Rattle.messages.specs.Messages.{entriesIn, total, begunIn};
+ghost use Rattle.messages.specs.MessagesCode.{stayIn};
+ghost use Rattle.messages.specs.SoundCode.{SoundMessages};
 ghost use Rattle.queuing.specs.Station.{freshStation, queuedIn};
-ghost use Rattle.queuing.specs.StationCode.{Fit};
+ghost use Rattle.queuing.specs.StationCode.{Fit, Room, stayBytes, stayStation, putStation, putArea};
 
 #[repr(C)]
 pub struct Station {
@@ -26,7 +33,7 @@ pub fn fresh() -> Station
     Station { sender, messages }
 }
 
-// The waiting bytes of the messages that label `label` does not withdraw, put together from `first` on: how many they are.
+// The waiting bytes of the messages that a label does not withdraw, put together from `first` on: how many they are.
 fn close_gaps(m: Messages, a: &mut [u8], first: usize, label: u16) -> usize
     requires { ⌜ (m .n ≤ maxMessages) × (first + total (entriesIn m) ≤ length (now a)) ⌝ }
     ensures { λ r. ⌜ r ≡ total (stayIn label (begunIn m) (entriesIn m)) ⌝ }
@@ -40,7 +47,7 @@ fn close_gaps(m: Messages, a: &mut [u8], first: usize, label: u16) -> usize
     while i < n {
         let l = m.left[i] as usize;
         let b = m.label[i];
-        if begun | (label == 0) | (b != label) {
+        if begun | !withdraws(label, b) {
             shift_left(a, from, to, l);
             to = to + l;
         }
@@ -51,22 +58,32 @@ fn close_gaps(m: Messages, a: &mut [u8], first: usize, label: u16) -> usize
     to - first
 }
 
-// What waits once the messages that a label withdraws are gone; without a label all stays.
-fn withdrawn(t: Station, a: &mut [u8], label: u16) -> Station {
-    if label == 0 {
-        return t;
-    }
+// What waits once the messages that a label withdraws are gone.
+fn withdrawn(t: Station, a: &mut [u8], label: u16) -> Station
+    requires { ⌜ SoundMessages (t .messages) (t .sender .counts .waiting) ⌝ }
+    requires { ⌜ t .sender .counts .flying + t .sender .counts .waiting ≤ length (now a) ⌝ }
+    requires { ⌜ t .messages .withdrawn + t .sender .counts .waiting ≤ maxTaken ⌝ }
+    ensures { λ r. ⌜ r ≡ stayStation label t ⌝ }
+    ensures { λ _. ⌜ now (a .exit) ≡ overwrite (now (a .entry)) (t .sender .counts .flying)
+        (stayBytes label (t .messages) (drop (t .sender .counts .flying) (now (a .entry)))) ⌝ }
+{
+    let m = t.messages;
     let first = t.sender.counts.flying as usize;
-    let w = close_gaps(t.messages, a, first, label);
-    let after = withdraw(t.messages, label);
+    let n = close_gaps(m, a, first, label);
+    let after = withdraw(m, label);
+    let w = n as u32;
     let mut next = t;
     next.messages = after;
-    next.sender.counts.waiting = w as u32;
+    next.sender.counts.waiting = w;
     next
 }
 
-// Bytes to send, as one message of this class, behind those of its class and of lower ones.
-fn put_in(t: Station, a: &mut [u8], class: u8, label: u16, bytes: &[u8]) -> Station {
+// Bytes to send, as one message of this class and label, behind those of its class and of lower ones.
+fn put_in(t: Station, a: &mut [u8], class: u8, label: u16, bytes: &[u8]) -> Station
+    requires { ⌜ Room t (now a) (length (now bytes)) ⌝ }
+    ensures { λ r. ⌜ r ≡ putStation class label (length (now (bytes .entry))) t ⌝ }
+    ensures { λ _. ⌜ now (a .exit) ≡ putArea class (now (bytes .entry)) t (now (a .entry)) ⌝ }
+{
     let n = bytes.len();
     let c = t.sender.counts;
     let m = t.messages;
@@ -91,6 +108,9 @@ pub fn enqueue(t: Station, a: &mut [u8], class: u8, label: u16, bytes: &[u8]) ->
 {
     if bytes.len() == 0 {
         return t;
+    }
+    if label == 0 {
+        return put_in(t, a, class, label, bytes);
     }
     let s = withdrawn(t, a, label);
     put_in(s, a, class, label, bytes)

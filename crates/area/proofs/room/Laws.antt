@@ -47,7 +47,8 @@ module _ (w t n : ℕ) where
 
 -- 8 judged after the withdrawal, 9 with the bytes withdrawn
 pub queue-allowed : (z : Sizes) (st : Station) (c l : ℕ) (bs : List ℕ) → st .sender .waiting ≡ goes (st .queue)
-    → queueRefusal (length (st .sender .waiting) - length (messageBytes (superseded l bs (st .queue)))) (takenOf (st .sender) + st .withdrawn) (length bs) ≡ 0
+    → let left = length (st .sender .waiting) - length (messageBytes (superseded l bs (st .queue))) in
+    queueRefusal left (takenOf (st .sender) + st .withdrawn) (length bs) ≡ 0
     → Allowed z (queues c l bs) st
 queue-allowed z st c l bs sh e =
     let r = not-refused _ _ _ e in
