@@ -871,6 +871,28 @@ static void queue_taken_withdrawals(void) {
     given = usual_arguments();
 }
 
+/* Bulletins of 16,384 bytes, each superseding the last, on a link that sends nothing: 262,143 of them are taken and no more, ever. What room is
+ * left of the 2^32 - 1 is for shorter ones. */
+static void queue_for_ever(void) {
+    uint32_t accepted = 0;
+    replied = QUEUE;
+    memcpy(&subject, &open_one, sizeof subject);
+    given.message.label = OPEN_LABEL; /* the first withdraws the ten bytes that wait */
+    given.bytes_len = 16384;
+    while (accepted < 300000 && make_call(QUEUE, &subject, &given) == 0) accepted++;
+    checks++;
+    if (accepted != 262143 || subject.record.messages.withdrawn != 10 + 262142u * 16384) {
+        printf("fields: %u bulletins of 16,384 bytes were taken\n", (unsigned)accepted);
+        failures++;
+    }
+    reply_check("a bulletin of 16,384 bytes more", 9);
+    given.bytes_len = 16384 - 10;
+    reply_check("2^32 bytes would be taken", 9);
+    given.bytes_len = 16384 - 11;
+    reply_check("2^32 - 1 bytes would be taken", 0);
+    given = usual_arguments();
+}
+
 /* 12 by what stays: 256 messages wait, those from `from` up to `to` with the label. */
 static void queue_many_withdrawals(void) {
     static const struct { size_t from, to; } some[] = {{0, 1}, {1, 2}, {100, 101}, {255, 256}, {3, 9}, {0, 256}, {256, 256}};
@@ -1060,6 +1082,7 @@ int main(void) {
     queue_labels_of_none();
     queue_full_withdrawals();
     queue_taken_withdrawals();
+    queue_for_ever();
     queue_many_withdrawals();
     queue_label_values();
     output_lengths();
