@@ -13,6 +13,7 @@ use lib.Dec.{ltb, leb, eqb}
 use lib.ListN.{length, replicate, length-replicate}
 use borrow.Author.Tests.{eqb-true, ne-eqb, le-ltb, leb-true, leb-false, le-leb}
 use Rattle.laws.proofs.Picks.{by, by₂, test, and-first, and-second, and-yes, or-right}
+use Rattle.laws.proofs.Tests.{all-at}
 use Rattle.limits.specs.Limits.{maxTaken, maxClass, maxMessages}
 use Rattle.config.specs.declared.Profile.{Profile}
 use Rattle.config.specs.Ranged.{Ranged}
@@ -37,6 +38,7 @@ use Rattle.record.specs.View.{view, store, storeArea}
 use Rattle.record.specs.declared.Sender.{Sender}
 use Rattle.record.proofs.View.{Arrays, Counted}
 use Rattle.soundness.specs.Soundness.{soundOk}
+use Rattle.soundness.proofs.fields.Counts.{taken-few}
 use Rattle.soundness.proofs.fields.Sound.{sound-counted}
 use Rattle.replies.specs.declared.Heard.{Heard}
 use Rattle.refusals.specs.declared.Verdict.{Verdict}
@@ -61,7 +63,7 @@ use Rattle.demand.specs.Single.{BaseCall, plain, Said, justVerdict, Base
 use Rattle.laws.specs.Bytes.{Bytes}
 use Rattle.messages.specs.SoundCode.{SoundMessages}
 use Rattle.sender.proofs.Refused.{queue-verdict, receive-verdict, burst-verdict}
-use Rattle.verdicts.proofs.Passed.{sound-taken, queue-passed, queue-room}
+use Rattle.verdicts.proofs.Passed.{queue-passed, queue-room}
 use Rattle.replies.specs.declared.LongAck as B
 use Rattle.demand.proofs.Answers.{queue-no, hear-no, burst-no}
 use Rattle.demand.proofs.OneClass.{AllOf, single, superseded-none as superseded-nothing, enqueue-all, flies-all}
@@ -78,13 +80,18 @@ Listed c = (messagesOk (c .0 .sender .counts .waiting) (c .0 .messages) ≡ true
 -- ---- the verdicts agree
 
 module _ (p : Profile) (c : State) (ok : Listed c) where
-  -- with nothing withdrawn the limit of the bytes taken is document 01's
+  -- document 01's limit of the bytes taken
+  sound-taken : soundOk p (c .0 .sender) (c .1) ≡ true → c .0 .sender .counts .«next_offset» + c .0 .sender .counts .waiting ≤ maxTaken
+  unfolding soundOk
+  sound-taken e = taken-few (c .0 .sender) (all-at _ 1 e)
+
+  -- with nothing withdrawn there is no other
   sound-same : stationOk p (c .0) (c .1) ≡ soundOk p (c .0 .sender) (c .1)
   sound-same =
       rw (ok .0)
       (test (soundOk p (c .0 .sender) (c .1))
       (λ e.
-      let few : takenBy (c .0 .sender .counts) (c .0 .messages) ≤ maxTaken = omega (arith, sound-taken p (c .0 .sender) (c .1) e, ok .1) in
+      let few : takenBy (c .0 .sender .counts) (c .0 .messages) ≤ maxTaken = omega (arith, sound-taken e, ok .1) in
       rw e (le-leb _ _ few))
       (λ e. rw e refl))
 

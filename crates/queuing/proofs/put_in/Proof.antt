@@ -76,11 +76,11 @@ returns c =
     let from : Position → ℕ = λ x. s .counts .flying + x .bytes in
     let e : s .counts .flying + s .counts .waiting - from (p .place .result) ≡ s .counts .waiting - p .place .result .bytes = omega arith in (
       (λ j.
-      record {
-        sender = queuedTo s (s .counts .waiting + length bs);
-        messages = (i .insert .ensures
-        ∙ ap (λ (x : Position). storeEntries (begunIn m) (insertRow (x .row) (entryOf (length bs) (a .class) (a .label)) (entriesIn m)) m) (p .place .ensures)) j;
-      }),
+          record {
+            sender = queuedTo s (s .counts .waiting + length bs);
+            messages = (i .insert .ensures
+                ∙ ap (λ (x : Position). storeEntries (begunIn m) (insertRow (x .row) (entryOf (length bs) (a .class) (a .label)) (entriesIn m)) m) (p .place .ensures)) j;
+          }),
       q .insert-in .ensures ∙ ap (λ (k : ℕ). overwrite (now (a .a)) (from (p .place .result)) (bs ++ part (now (a .a)) (from (p .place .result)) k)) e
           ∙ ap (λ (x : Position). overwrite (now (a .a)) (from x) (bs ++ part (now (a .a)) (from x) (s .counts .waiting - x .bytes))) (p .place .ensures),
     )
