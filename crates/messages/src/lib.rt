@@ -151,8 +151,8 @@ pub fn superseded(m: Messages, label: u16, n: usize) -> Withdrawal
     let mut begun = m.begun;
     let mut i = 0;
     while i < rows {
-        let b = m.label[i];
-        if !begun & withdraws(label, b) {
+        let of = m.label[i];
+        if !begun & withdraws(label, of) {
             gone = gone + 1;
             bytes = bytes + wide(m.left[i]);
         }
@@ -167,12 +167,12 @@ pub fn withdraw(m: Messages, label: u16) -> Messages
     requires { ⌜ (m .n ≤ maxMessages) × (m .withdrawn + total (entriesIn m) ≤ maxTaken) ⌝ }
     ensures { λ r. ⌜ r ≡ withdrawn label m ⌝ }
 {
-    let n = m.n;
+    let rows = m.n;
     let mut out = m;
     let mut begun = m.begun;
     let mut to = 0;
     let mut i = 0;
-    while i < n {
+    while i < rows {
         let l = m.left[i];
         let c = m.class[i];
         let b = m.label[i];
@@ -188,7 +188,7 @@ pub fn withdraw(m: Messages, label: u16) -> Messages
         i += 1;
     }
     out.n = to;
-    out.begun = m.begun & (0 < n);
+    out.begun = m.begun & (0 < rows);
     out
 }
 

@@ -71,10 +71,10 @@ fn withdrawn(t: Station, a: &mut [u8], label: u16) -> Station
     let first = t.sender.counts.flying as usize;
     let n = close_gaps(m, a, first, label);
     let after = withdraw(m, label);
-    let w = n as u32;
+    let stay = n as u32;
     let mut next = t;
     next.messages = after;
-    next.sender.counts.waiting = w;
+    next.sender.counts.waiting = stay;
     next
 }
 

@@ -37,11 +37,11 @@ returns c = let a = c .before .args in sym (superseded-none (a .label) (a .n) (a
 loop-holds : tie.Need-loop-holds Inv-loop μ-loop
 loop-holds c = (omega arith, omega arith, omega arith, simp sub-zero (omega arith), simp sub-zero (omega arith))
 
-mul-b : tie.Need-mul-b Inv-loop μ-loop
-mul-b c = search needs
+mul-of : tie.Need-mul-of Inv-loop μ-loop
+mul-of c = search needs
 
-element-copy-out-b : tie.Need-element-copy-out-b Inv-loop μ-loop
-element-copy-out-b c = search needs
+element-copy-out-of : tie.Need-element-copy-out-of Inv-loop μ-loop
+element-copy-out-of c = search needs
 
 withdraws-requires : tie.Need-withdraws-requires Inv-loop μ-loop
 withdraws-requires c κs = search needs
@@ -118,8 +118,8 @@ superseded-spec =
     μ-loop
     returns
     loop-holds
-    mul-b
-    element-copy-out-b
+    mul-of
+    element-copy-out-of
     withdraws-requires
     add-gone
     mul-wide

@@ -20,11 +20,11 @@ use Rattle.messages.proofs.withdraw.Statement.{statement}
 use Rattle.messages.proofs.withdraw.Tie as tie
 
 abbrev Inv-loop : tie.InvT-loop
-Inv-loop label m n out₀ begun₀ to₀ i₀ out begun to i =
-    (to ≤ i) × (i ≤ n) × (out .withdrawn + total (rest m n i) ≤ maxTaken) × (withdrawn label m ≡ leaves out to label begun (rest m n i) (begunIn m))
+Inv-loop label m rows out₀ begun₀ to₀ i₀ out begun to i =
+    (to ≤ i) × (i ≤ rows) × (out .withdrawn + total (rest m rows i) ≤ maxTaken) × (withdrawn label m ≡ leaves out to label begun (rest m rows i) (begunIn m))
 
 abbrev μ-loop : tie.MeasureT-loop
-μ-loop label m n out₀ begun₀ to₀ i₀ out begun to i = n - i
+μ-loop label m rows out₀ begun₀ to₀ i₀ out begun to i = rows - i
 
 loop-holds : tie.Need-loop-holds Inv-loop μ-loop
 loop-holds c = let a = c .args in (omega arith, omega arith, simp sub-zero (c .pre .1), simp sub-zero (leaves-start (a .label) (a .t1)))

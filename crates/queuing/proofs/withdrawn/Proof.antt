@@ -19,8 +19,8 @@ close-gaps-requires c κs = search needs
 withdraw-requires : tie.Need-withdraw-requires
 withdraw-requires c κs = search needs
 
-cast-w : tie.Need-cast-w
-cast-w c =
+cast-stay : tie.Need-cast-stay
+cast-stay c =
     let g = c .before .before .before in
     let s = g .before .before .before .before .before in
     let m = s .args .t .messages in
@@ -39,4 +39,4 @@ returns c =
 pub withdrawn-spec : {M : Type 1} → statement M
 withdrawn-spec =
     tie.close
-    (tie.spec cast-first close-gaps-requires withdraw-requires cast-w same-length returns)
+    (tie.spec cast-first close-gaps-requires withdraw-requires cast-stay same-length returns)
