@@ -1,6 +1,6 @@
 -- What of the ledger's sender a record and a work area need to hold it: it comes out of a sound sender whose bytes are bytes, and every call keeps it.
 -- Assumes nothing.
-use mathlib.Core.Path.{_≡_, _∙_}
+use mathlib.Core.Path.{_∙_}
 use mathlib.Core.List.{List, [], _∷_, _++_}
 use mathlib.Core.Bool.{Bool}
 use Prim.Native.Nat.{ℕ, _+_, zero, suc, _/_, _≤_}
