@@ -121,22 +121,24 @@ static inline void list_connect(struct call_list l, struct vanitycrow_heard h, s
     list_answer(l, "connect", refusal);
 }
 
-/* A queuing; class 3 needs no word. */
+/* A queuing; class 3 needs no word where there is no label. */
 static inline void list_queue(struct call_list l, struct vanitycrow_message m, const uint8_t *bytes, size_t n, uint8_t refusal) {
     if (!l.calls) return;
     fputs("queue", l.calls);
     word_hex(l.calls, bytes, n);
-    if (m.class_ != VANITYCROW_ROUTINE) fprintf(l.calls, " %u", (unsigned)m.class_);
+    if (m.class_ != VANITYCROW_ROUTINE || m.label) fprintf(l.calls, " %u", (unsigned)m.class_);
+    if (m.label) fprintf(l.calls, " %u", (unsigned)m.label);
     fputc('\n', l.calls);
     list_answer(l, "queue", refusal);
 }
 
-/* The line of `messages`; labels and withdrawn bytes are 0. */
+/* The line of `messages`. */
 static inline void list_messages(struct call_list l, const struct vanitycrow_messages *m) {
     if (!l.calls) return;
     fputs("messages\n", l.calls);
-    fprintf(l.transcript, "messages %zu %d 0", m->n, m->n && m->begun);
-    for (size_t i = 0; i < m->n; i++) fprintf(l.transcript, " %u:0:%u", (unsigned)m->class_[i], (unsigned)m->left[i]);
+    fprintf(l.transcript, "messages %zu %d %u", m->n, m->n && m->begun, (unsigned)m->withdrawn);
+    for (size_t i = 0; i < m->n; i++)
+        fprintf(l.transcript, " %u:%u:%u", (unsigned)m->class_[i], (unsigned)m->label[i], (unsigned)m->left[i]);
     fputc('\n', l.transcript);
 }
 
@@ -244,10 +246,17 @@ static inline void lines_lists(FILE *f, const struct vanitycrow_sender *s, const
     fputc('\n', f);
 }
 
+/* TAKEN WAITING FLYING ACKED; withdrawn bytes are taken. */
+static inline void words_counts(FILE *f, const struct vanitycrow_station *t) {
+    const struct vanitycrow_counts *c = &t->sender.counts;
+    fprintf(f, " %u %u %u %u", (unsigned)(c->next_offset + c->waiting + t->messages.withdrawn), (unsigned)c->waiting, (unsigned)c->flying,
+            (unsigned)c->bytes_acked);
+}
+
 /* The lines of `state`, field by field out of the record; burst seconds of 0 stand for the profile's. */
-static inline void list_state(struct call_list l, const struct vanitycrow_profile *p, const struct vanitycrow_sender *s, const uint8_t *area) {
+static inline void list_state(struct call_list l, const struct vanitycrow_profile *p, const struct vanitycrow_station *t, const uint8_t *area) {
+    const struct vanitycrow_sender *s = &t->sender;
     const struct vanitycrow_link *k = &s->link;
-    const struct vanitycrow_counts *c = &s->counts;
     FILE *f = l.transcript;
     if (!l.calls) return;
     fputs("state\n", l.calls);
@@ -262,16 +271,17 @@ static inline void list_state(struct call_list l, const struct vanitycrow_profil
     word_f32(f, true, k->peer_doppler_hz);
     fprintf(f, " %d\n", s->gear.cue);
     lines_gear(f, &s->gear);
-    fprintf(f, "counts %u %u %u %u %llu\n", (unsigned)(c->next_offset + c->waiting), (unsigned)c->waiting, (unsigned)c->flying,
-            (unsigned)c->bytes_acked, (unsigned long long)c->airtime_ms);
+    fputs("counts", f);
+    words_counts(f, t);
+    fprintf(f, " %llu\n", (unsigned long long)s->counts.airtime_ms);
     lines_lists(f, s, area);
 }
 
 /* What closes the transcript of a sender's calls. */
-static inline void list_end(struct call_list l, const struct vanitycrow_sender *s) {
-    const struct vanitycrow_counts *c = &s->counts;
+static inline void list_end(struct call_list l, const struct vanitycrow_station *t) {
     if (!l.calls) return;
-    fprintf(l.transcript, "end %u %u %u %u\n", (unsigned)(c->next_offset + c->waiting), (unsigned)c->waiting, (unsigned)c->flying,
-            (unsigned)c->bytes_acked);
+    fputs("end", l.transcript);
+    words_counts(l.transcript, t);
+    fputc('\n', l.transcript);
 }
 #endif

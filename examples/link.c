@@ -1,7 +1,8 @@
 /* A mail of two messages over a simulated lossy link: link CALLS TRANSCRIPT.
  *
- * The flash message is queued last and goes first. A far station loses every third frame or so and answers with short and long acks
- * until the whole mail is there; it puts the mail together from the frames and compares it. What was called goes to CALLS and what was
+ * The routine message supersedes an older one of its label, which never goes on the air; the flash message is queued last and goes first.
+ * A far station loses every third frame or so and answers with short and long acks until the whole mail is there; it puts the mail together
+ * from the frames and compares it. What was called goes to CALLS and what was
  * answered to TRANSCRIPT, for a comparison with `replay` (docs/CALLS.md); a station leaves the list_ lines out. Build, after
  * `rt staticlib station`:
  *
@@ -13,6 +14,8 @@
 
 #define MAIL_BYTES 9000 /* in the order in which they go */
 #define FLASH_BYTES 200 /* of these */
+#define OLD_BYTES 300 /* of the message that is superseded */
+#define BULLETIN 1 /* its label */
 #define OUT_BYTES (VANITYCROW_MAX_SLOTS * 180) /* 64 long frames */
 
 static struct vanitycrow_profile p;
@@ -58,24 +61,26 @@ static uint8_t long_ack(struct vanitycrow_heard h, uint8_t number, uint64_t bitm
     return refusal;
 }
 
-static uint8_t queue(uint8_t class_, const uint8_t *bytes, size_t n) {
-    struct vanitycrow_message m = {.class_ = class_};
+static uint8_t queue(uint8_t class_, uint16_t label, const uint8_t *bytes, size_t n) {
+    struct vanitycrow_message m = {.class_ = class_, .label = label};
     uint8_t refusal = vanitycrow_queue(&p, &station, area, sizeof area, m, bytes, n);
     list_queue(list, m, bytes, n, refusal);
     list_messages(list, &station.messages);
     return refusal;
 }
 
-/* The called station answers, and the mail is queued: a routine message, then a flash message. */
+/* The called station answers, and the mail is queued: a routine message, a newer one of its label, then a flash message. */
 static uint8_t begin(void) {
+    static const uint8_t old[OLD_BYTES];
     struct vanitycrow_heard h = {.time = 1, .wave = 1, .snr_db = 2};
     struct vanitycrow_conn_ack c = {.session = 7, .snr_db = 5, .cue = true};
     vanitycrow_fresh(&station);
     uint8_t refusal = vanitycrow_connect(&p, &station, area, sizeof area, h, c);
     list_connect(list, h, c, refusal);
     if (refusal) return refusal;
-    refusal = queue(VANITYCROW_ROUTINE, mail + FLASH_BYTES, MAIL_BYTES - FLASH_BYTES);
-    return refusal ? refusal : queue(VANITYCROW_FLASH, mail, FLASH_BYTES);
+    refusal = queue(VANITYCROW_ROUTINE, BULLETIN, old, OLD_BYTES);
+    if (!refusal) refusal = queue(VANITYCROW_ROUTINE, BULLETIN, mail + FLASH_BYTES, MAIL_BYTES - FLASH_BYTES);
+    return refusal ? refusal : queue(VANITYCROW_FLASH, 0, mail, FLASH_BYTES);
 }
 
 /* A burst and its ack. */
@@ -86,11 +91,11 @@ static uint8_t exchange(double time) {
     size_t size = b.outgoing.code <= 4 ? p.short_bytes : p.long_bytes;
     list_burst(list, &b, out, size);
     list_messages(list, &station.messages);
-    list_state(list, &p, &station.sender, area);
+    list_state(list, &p, &station, area);
     if (b.refusal) return b.refusal;
     uint64_t bitmap = arrive(&b.outgoing, size);
     uint8_t refusal = b.outgoing.frames.n <= 6 ? short_ack(h, b.outgoing.number, bitmap, db) : long_ack(h, b.outgoing.number, bitmap, db);
-    list_state(list, &p, &station.sender, area);
+    list_state(list, &p, &station, area);
     return refusal;
 }
 
@@ -105,7 +110,7 @@ int main(int argc, char **argv) {
     unsigned bursts = 0;
     uint8_t refusal = begin();
     while (!refusal && station.sender.counts.bytes_acked < MAIL_BYTES && bursts < 1000) refusal = exchange(10 + 10 * bursts++);
-    list_end(list, &station.sender);
+    list_end(list, &station);
     fclose(list.calls);
     fclose(list.transcript);
     if (refusal || memcmp(mail, got, MAIL_BYTES) || memchr(here, 0, MAIL_BYTES)) {

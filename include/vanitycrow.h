@@ -18,9 +18,9 @@ extern "C" {
 #endif
 
 /* The version of this interface (CHANGELOG.md). */
-#define VANITYCROW_VERSION "0.7.0"
+#define VANITYCROW_VERSION "0.8.0"
 #define VANITYCROW_VERSION_MAJOR 0
-#define VANITYCROW_VERSION_MINOR 6
+#define VANITYCROW_VERSION_MINOR 8
 #define VANITYCROW_VERSION_PATCH 0
 
 #define VANITYCROW_AREA_BYTES 49152
@@ -205,11 +205,13 @@ struct vanitycrow_sender {
 };
 
 /* The n messages of which bytes wait, in the order in which they will go; the bytes left of them sum to counts.waiting. A message is there until its last
- * byte begins to fly. begun: bytes of the first have begun to fly; it says nothing with no message. */
+ * byte begins to fly or it is withdrawn. begun: bytes of the first have begun to fly; it says nothing with no message. */
 struct vanitycrow_messages {
     uint16_t left[VANITYCROW_MAX_MESSAGES]; /* bytes that wait, 1 or more */
     uint8_t class_[VANITYCROW_MAX_MESSAGES];
+    uint16_t label[VANITYCROW_MAX_MESSAGES]; /* 0: none */
     size_t n;
+    uint32_t withdrawn; /* bytes of messages withdrawn, in all; with counts.next_offset and counts.waiting the bytes taken, at most 2^32 - 1 */
     bool begun;
 };
 
@@ -225,8 +227,10 @@ struct vanitycrow_station {
 /* Precedence classes. A message once begun is finished; then the lowest class waiting goes, the earliest of it first. */
 enum { VANITYCROW_FLASH = 0, VANITYCROW_IMMEDIATE = 1, VANITYCROW_PRIORITY = 2, VANITYCROW_ROUTINE = 3 };
 
-/* What a queuing says of its message. */
-struct vanitycrow_message { uint8_t class_; };
+/* What a queuing says of its message. label: 1 to 65,535, or 0 for none. A message with a label supersedes those of its label, of any class, that have
+ * not begun: they are withdrawn, and never go on the air. A begun one goes on. What is withdrawn still counts among the 2^32 - 1 bytes that a sender takes
+ * in all: an hourly bulletin that is always superseded uses them up too. */
+struct vanitycrow_message { uint8_t class_; uint16_t label; };
 
 /* ---- replies */
 
@@ -299,7 +303,8 @@ struct vanitycrow_listing { uint8_t refusal; size_t n; uint8_t level[VANITYCROW_
 /* Makes *t the record of a new sender, whatever it was. */
 void vanitycrow_fresh(struct vanitycrow_station *t);
 
-/* Queues n bytes to send as one message; 0 are accepted, make none and change nothing. Refusals 1 2 3 4 11 8 9 12, in this order. */
+/* Queues n bytes to send as one message, and withdraws those that its label supersedes; 0 bytes are accepted, make no message and change nothing. Refusals
+ * 1 2 3 4 11 8 9 12, in this order: 8 and 12 are judged after the withdrawal, and a refused queuing withdraws nothing. */
 uint8_t vanitycrow_queue(const struct vanitycrow_profile *p, struct vanitycrow_station *t, uint8_t *a, size_t a_len, struct vanitycrow_message m,
                          const uint8_t *bytes, size_t n);
 

@@ -40,8 +40,11 @@ into=$vectors/changes
 vectors levels 180 12
 vectors classes 40 2 5 12 14 15 21 32 33 41 51
 vectors classes 70 9 18 42 53
+vectors labels 40 4 7 15 39 59
+vectors labels 70 5 13 30 36 41 50 54
 
 examples=$here/../examples
-for list in "$vectors"/*.calls "$vectors"/changes/levels-*.calls "$vectors"/changes/classes-*.calls "$examples/levels.calls" "$examples/classes.calls"; do
+for list in "$vectors"/*.calls "$vectors"/changes/levels-*.calls "$vectors"/changes/classes-*.calls "$vectors"/changes/labels-*.calls \
+    "$examples/levels.calls" "$examples/classes.calls" "$examples/bulletin.calls"; do
     "$here/run" transcript "$list" >"${list%.calls}.transcript"
 done

@@ -63,9 +63,11 @@ static void no_memory(void) {
     memcpy(t, &open_one, sizeof *t);
     no_area(t, &given);
     same("record and buffers, no area", (unsigned)memcmp(t, &open_one, sizeof *t), 0);
+    given.message.label = OPEN_LABEL; /* as the message that waits */
     same("queue of nothing", vanitycrow_queue(&t->p, &t->record, t->area, n, given.message, NULL, 0), 0);
     same("bytes that wait after it", t->record.sender.counts.waiting, open_one.record.sender.counts.waiting);
     same("messages that wait after it", (unsigned)t->record.messages.n, (unsigned)open_one.record.messages.n);
+    same("bytes withdrawn after it", t->record.messages.withdrawn, 0);
     same("a long ack of nothing", vanitycrow_long_ack(&t->p, &t->record, t->area, n, given.h, given.long_ack, NULL, 0), 7);
     same("a burst into nothing", vanitycrow_data_burst(&t->p, &t->record, t->area, n, NULL, 0).refusal, 10);
     same("a burst into an empty output", vanitycrow_data_burst(&t->p, &t->record, t->area, n, t->out, 0).refusal, 10);

@@ -22,8 +22,8 @@ struct seen {
     unsigned long long answers[VANITYCROW_TOO_MANY_MESSAGES + 1];
     unsigned long long acked;
     unsigned long long frames;
-    unsigned long long overtaking; /* queuings */
-    unsigned long long latest;     /* calls with a hold as late as it may be */
+    unsigned long long overtaking, withdrawing; /* queuings */
+    unsigned long long latest;                  /* calls with a hold as late as it may be */
     size_t most_pieces, most_flying, most_held, most_frames, most_messages;
 };
 
@@ -145,7 +145,7 @@ static void after(struct run *r, enum kind k, uint8_t answer, uint8_t expected, 
     most(&r->seen.most_flying, r->s->counts.flying);
     most(&r->seen.most_held, r->s->at_peer.n);
     most(&r->seen.most_messages, r->station->messages.n);
-    list_state(r->list, r->p, r->s, r->area.bytes);
+    list_state(r->list, r->p, r->station, r->area.bytes);
     list_messages(r->list, &r->station->messages);
 }
 
@@ -163,11 +163,17 @@ static void connect_call(struct run *r, uint32_t wild) {
     after(r, CONNECT, answer, expected, 0);
 }
 
-/* Refusals 11, 8 and 12 of a queuing of n bytes; 9 comes never, as fewer are taken. */
+/* Refusals 11, 8 and 12 of a queuing of n bytes, the last two by what stays; 9 comes never, as fewer are taken. */
 static uint8_t expect_room(const struct run *r, struct vanitycrow_message m, size_t n) {
+    size_t count = r->t.count, waiting = r->t.waiting;
+    for (size_t i = 0; n && i < r->t.count; i++) {
+        if (!tally_withdraws(m, r->t.messages + i)) continue;
+        count--;
+        waiting -= r->t.messages[i].n;
+    }
     if (m.class_ > VANITYCROW_MAX_CLASS) return 11;
-    if (r->t.waiting + n > VANITYCROW_MAX_WAITING) return 8;
-    return n && r->t.count == VANITYCROW_MAX_MESSAGES ? 12 : 0;
+    if (waiting + n > VANITYCROW_MAX_WAITING) return 8;
+    return n && count == VANITYCROW_MAX_MESSAGES ? 12 : 0;
 }
 
 /* Queues n bytes as a message, out of a buffer of that length. */
@@ -183,7 +189,9 @@ static void queue_call(struct run *r, struct vanitycrow_message m, size_t n) {
     if (!kept(&bytes)) differ(r, QUEUE, "the queued bytes changed");
     if (!answer) {
         const struct vanitycrow_messages *w = &r->station->messages;
+        uint64_t withdrawn = r->t.withdrawn;
         tally_queue(&r->t, m, bytes.bytes, n);
+        r->seen.withdrawing += r->t.withdrawn != withdrawn;
         r->seen.overtaking += n && w->n && w->class_[w->n - 1] > m.class_;
     }
     give_back(&bytes);

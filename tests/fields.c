@@ -10,22 +10,23 @@
 
 /* ---- fields by name, place and range */
 
-enum kind { U8, U32, SIZE, F32, F64 };
+enum kind { U8, U16, U32, SIZE, F32, F64 };
 enum sides { BOTH, HIGH_ONLY, OR_NAN }; /* which limits there are; whether not a number is in range */
 
 struct field { const char *name; void *at; enum kind kind; size_t count; double low, high; enum sides sides; };
 
 static size_t size_of(enum kind k) {
-    static const size_t sizes[] = {sizeof(uint8_t), sizeof(uint32_t), sizeof(size_t), sizeof(float), sizeof(double)};
+    static const size_t sizes[] = {sizeof(uint8_t), sizeof(uint16_t), sizeof(uint32_t), sizeof(size_t), sizeof(float), sizeof(double)};
     return sizes[k];
 }
 
 static void put(void *at, enum kind k, double x) {
     uint8_t u8 = (uint8_t)(k == U8 ? x : 0);
+    uint16_t u16 = (uint16_t)(k == U16 ? x : 0);
     uint32_t u32 = (uint32_t)(k == U32 ? x : 0);
     size_t size = (size_t)(k == SIZE ? x : 0);
     float f32 = (float)x;
-    const void *from[] = {&u8, &u32, &size, &f32, &x};
+    const void *from[] = {&u8, &u16, &u32, &size, &f32, &x};
     memcpy(at, from[k], size_of(k));
 }
 
@@ -37,7 +38,7 @@ static double step(enum kind k, double x, int up) {
 }
 
 static double largest(enum kind k) {
-    return k == U8 ? UINT8_MAX : k == U32 ? UINT32_MAX : k == SIZE ? 0x1p63 : INFINITY;
+    return k == U8 ? UINT8_MAX : k == U16 ? UINT16_MAX : k == U32 ? UINT32_MAX : k == SIZE ? 0x1p63 : INFINITY;
 }
 
 typedef void check_fn(const char *what, uint8_t number);
@@ -324,12 +325,13 @@ static void record_counts(void) {
     record_check("2^32 taken", 3);
 }
 
-/* n messages of routine class with these bytes left each, and as many bytes that wait. */
+/* n messages of routine class without a label, with these bytes left each, and as many bytes that wait. */
 static void put_messages(size_t n, uint16_t left) {
     struct vanitycrow_messages *m = &subject.record.messages;
     for (size_t i = 0; i < n; i++) {
         m->left[i] = left;
         m->class_[i] = VANITYCROW_ROUTINE;
+        m->label[i] = 0;
     }
     m->n = n;
     subject.record.sender.counts.waiting = (uint32_t)n * left;
@@ -352,14 +354,52 @@ static void record_waiting(void) {
     }
 }
 
-/* Each of 256 messages: its class, its bytes left, and the sum of these. */
+/* Bytes withdrawn, where next offset and waiting bytes leave so much room: up to 2^32 - 1 are taken in all. */
+static void withdrawn_check(uint32_t room) {
+    uint32_t *withdrawn = &subject.record.messages.withdrawn;
+    for (uint32_t less = 0; less < 3 && less <= room; less++) {
+        *withdrawn = room - less;
+        record_check("withdrawn bytes within 2^32 - 1 taken", 0);
+    }
+    for (uint32_t more = 1; more < 3 && room <= UINT32_MAX - more; more++) {
+        *withdrawn = room + more;
+        record_check("withdrawn bytes past 2^32 - 1 taken", 3);
+    }
+    *withdrawn = UINT32_MAX;
+    record_check("2^32 - 1 withdrawn bytes", room == UINT32_MAX ? 0 : 3);
+}
+
+static void record_withdrawn(void) {
+    struct vanitycrow_counts *c = &subject.record.sender.counts;
+    const struct station *const stations[] = {&fresh_one, &open_one, &flown_one};
+    for (size_t i = 0; i < COUNT(stations); i++) {
+        memcpy(&subject, stations[i], sizeof subject);
+        withdrawn_check(UINT32_MAX - c->next_offset - c->waiting);
+    }
+    for (uint32_t room = 0; room < 4; room++) {
+        memcpy(&subject, &open_one, sizeof subject);
+        c->next_offset = c->bytes_acked = UINT32_MAX - room - c->waiting;
+        withdrawn_check(room);
+    }
+    /* before 4, behind 2 */
+    memcpy(&subject, &fresh_one, sizeof subject);
+    c->next_offset = c->bytes_acked = 1;
+    subject.record.messages.withdrawn = UINT32_MAX;
+    record_check("2^32 taken, not connected", 3);
+    subject.p.short_bytes = 181;
+    record_check("2^32 taken, short over long", 2);
+}
+
+/* Each of 256 messages: its class, its label, its bytes left, and the sum of these. */
 static void record_each_message(void) {
     struct vanitycrow_messages *m = &subject.record.messages;
     uint32_t *waiting = &subject.record.sender.counts.waiting;
     const struct field classes = {"messages.class", m->class_, U8, VANITYCROW_MAX_MESSAGES, 0, 3, BOTH};
+    const struct field labels = {"messages.label", m->label, U16, VANITYCROW_MAX_MESSAGES, 0, UINT16_MAX, BOTH};
     memcpy(&subject, &flown_one, sizeof subject);
     put_messages(VANITYCROW_MAX_MESSAGES, 2);
     check_field(&classes, 3, record_check);
+    check_field(&labels, 3, record_check);
     for (size_t i = 0; i < VANITYCROW_MAX_MESSAGES; i++) {
         m->left[i] = 1;
         record_check("a byte too few left", 3);
@@ -399,12 +439,15 @@ static void record_messages(void) {
     put_messages(2, 9);
     for (size_t i = 2; i < VANITYCROW_MAX_MESSAGES; i++) {
         m->class_[i] = 255;
+        m->label[i] = UINT16_MAX;
         m->left[i] = i % 2 ? 0 : UINT16_MAX;
     }
     record_check("messages that are not there", 0);
     m->class_[0] = 3;
     m->class_[1] = 0;
     record_check("a lower class behind a higher one that has not begun", 0);
+    m->label[0] = m->label[1] = 5;
+    record_check("two messages of one label", 0);
     m->left[0] = UINT16_MAX;
     m->left[1] = 11;
     *waiting = 10;
@@ -650,8 +693,9 @@ static void place_check(const char *name, bool begun, uint8_t class_, size_t row
     uint8_t refusal = make_call(QUEUE, &subject, &given);
     checks++;
     if (!refusal && m->n == want.n && m->begun == begun && memcmp(m->class_, want.class_, want.n) == 0 &&
-        memcmp(m->left, want.left, want.n * sizeof *want.left) == 0 && memcmp(subject.area, waiting, 20 + n) == 0 &&
-        subject.record.sender.counts.waiting == 20 + n)
+        memcmp(m->left, want.left, want.n * sizeof *want.left) == 0 &&
+        memcmp(m->label, want.label, want.n * sizeof *want.label) == 0 &&
+        memcmp(subject.area, waiting, 20 + n) == 0 && subject.record.sender.counts.waiting == 20 + n && m->withdrawn == 0)
         return;
     printf("fields: %s of %zu bytes: refusal %u, or at another place\n", name, n, (unsigned)refusal);
     failures++;
@@ -668,6 +712,237 @@ static void queue_places(void) {
         place_check("priority behind a begun one", true, 2, 2, n);
         place_check("routine behind a begun one", true, 3, 4, n);
     }
+    given = usual_arguments();
+}
+
+/* Five messages wait: message i has i + 1 bytes, all of them 10 i + 1; classes 0 1 1 3 3 and these labels. */
+static void put_five(const uint16_t labels[5]) {
+    struct vanitycrow_messages *m = &subject.record.messages;
+    size_t at = 0;
+    memcpy(&subject, &open_one, sizeof subject);
+    put_messages(5, 3);
+    memcpy(m->class_, "\0\1\1\3\3", 5);
+    for (size_t i = 0; i < 5; i++) {
+        m->label[i] = labels[i];
+        m->left[i] = (uint16_t)(i + 1);
+        for (size_t k = 0; k <= i; k++) subject.area[at++] = (uint8_t)(10 * i + 1);
+    }
+    m->withdrawn = 1000;
+}
+
+/* What a queuing leaves of the five: the messages with these numbers, in order, 9 for the new one. */
+struct withdrawal { const char *name; uint16_t labels[5]; bool begun; uint8_t class_; uint16_t label; const char *leaves; };
+
+/* Whether messages, bytes and counts are those of the withdrawal's `leaves`, n bytes having been queued, all of them 0. */
+static bool leaves_these(const struct withdrawal *w, size_t n) {
+    const struct vanitycrow_messages *m = &subject.record.messages;
+    size_t at = 0, rows = strlen(w->leaves);
+    if (m->n != rows || m->begun != w->begun) return false;
+    for (size_t row = 0; row < rows; row++) {
+        size_t i = (size_t)(w->leaves[row] - '0'), left = i == 9 ? n : i + 1;
+        uint8_t class_ = i == 9 ? w->class_ : (uint8_t)"\0\1\1\3\3"[i];
+        if (m->left[row] != left || m->class_[row] != class_ || m->label[row] != (i == 9 ? w->label : w->labels[i])) return false;
+        for (size_t k = 0; k < left; k++)
+            if (subject.area[at++] != (i == 9 ? 0 : 10 * i + 1)) return false;
+    }
+    return subject.record.sender.counts.waiting == at && m->withdrawn == 1000 + 15 + n - at;
+}
+
+/* Which messages a label withdraws, several at once too, and where the new one goes. No list of calls makes the records with several of one
+ * label. */
+static void queue_withdrawals(void) {
+    static const struct withdrawal withdrawals[] = {
+        {"none of its label", {1, 2, 3, 4, 5}, false, 3, 6, "012349"},  {"no label", {1, 0, 1, 0, 1}, false, 3, 0, "012349"},
+        {"the first", {7, 2, 3, 4, 5}, false, 3, 7, "12349"},           {"the first, by flash", {7, 2, 3, 4, 5}, false, 0, 7, "91234"},
+        {"the middle", {1, 2, 7, 4, 5}, false, 1, 7, "01934"},          {"the last", {1, 2, 3, 4, 7}, false, 2, 7, "01293"},
+        {"two", {1, 7, 3, 7, 5}, false, 0, 7, "0924"},                  {"two side by side", {1, 7, 7, 4, 5}, false, 3, 7, "0349"},
+        {"first and last", {7, 2, 3, 4, 7}, false, 1, 7, "1293"},       {"all", {7, 7, 7, 7, 7}, false, 2, 7, "9"},
+        {"all but one", {7, 7, 0, 7, 7}, false, 0, 7, "92"},            {"all but the begun one", {7, 7, 7, 7, 7}, true, 0, 7, "09"},
+        {"the begun one's alone", {7, 2, 3, 4, 5}, true, 0, 7, "091234"}, {"behind a begun one", {1, 7, 3, 7, 5}, true, 3, 7, "0249"},
+        {"65,535", {65535, 1, 255, 65535, 0}, false, 3, 65535, "1249"}, {"256", {256, 1, 0, 512, 65280}, false, 3, 256, "12349"},
+    };
+    for (size_t i = 0; i < COUNT(withdrawals); i++)
+        for (size_t n = 1; n <= 17; n += 8) {
+            const struct withdrawal *w = withdrawals + i;
+            put_five(w->labels);
+            subject.record.messages.begun = w->begun;
+            given.message = (struct vanitycrow_message){w->class_, w->label};
+            given.bytes_len = n;
+            uint8_t refusal = make_call(QUEUE, &subject, &given);
+            checks++;
+            if (!refusal && leaves_these(w, n)) continue;
+            printf("fields: withdrawal, %s, %zu bytes: refusal %u, or another is left\n", w->name, n, (unsigned)refusal);
+            failures++;
+        }
+    given = usual_arguments();
+}
+
+/* Every field; the bytes between them may have changed. */
+static bool same_messages(const struct vanitycrow_messages *a, const struct vanitycrow_messages *b) {
+    return memcmp(a->left, b->left, sizeof a->left) == 0 && memcmp(a->class_, b->class_, sizeof a->class_) == 0 &&
+           memcmp(a->label, b->label, sizeof a->label) == 0 && a->n == b->n && a->withdrawn == b->withdrawn && a->begun == b->begun;
+}
+
+/* No bytes withdraw nothing, whatever the label; messages and work area stay. */
+static void queue_labels_of_none(void) {
+    static const uint16_t labels[5] = {7, 7, 0, 65535, 1};
+    static const uint16_t asked[] = {0, 1, 7, 9, 65535};
+    put_five(labels);
+    memcpy(&tried, &subject, sizeof tried);
+    for (size_t i = 0; i < COUNT(asked); i++)
+        for (uint8_t class_ = 0; class_ < 5; class_++) {
+            given.message = (struct vanitycrow_message){class_, asked[i]};
+            given.bytes_len = 0;
+            uint8_t refusal = make_call(QUEUE, &tried, &given);
+            checks++;
+            if (refusal == (class_ > 3 ? 11 : 0) && same_messages(&tried.record.messages, &subject.record.messages) &&
+                tried.record.sender.counts.waiting == 15 && memcmp(tried.area, subject.area, sizeof subject.area) == 0)
+                continue;
+            printf("fields: no bytes with label %u and class %u: refusal %u, or something changed\n", (unsigned)asked[i], (unsigned)class_,
+                (unsigned)refusal);
+            failures++;
+        }
+    given = usual_arguments();
+}
+
+/* 8 by what stays: of 16,384 waiting bytes the first message has `gone`. Refused queuings keep every byte: `expect`. */
+static void queue_full_withdrawals(void) {
+    static const uint32_t sizes[] = {1, 2, 100, 8192, 16383, 16384};
+    struct vanitycrow_messages *m = &subject.record.messages;
+    replied = QUEUE;
+    for (size_t i = 0; i < COUNT(sizes); i++) {
+        uint32_t gone = sizes[i];
+        memcpy(&subject, &open_one, sizeof subject);
+        put_messages(1 + (gone < 16384), 1);
+        m->left[0] = (uint16_t)gone;
+        if (m->n == 2) m->left[1] = (uint16_t)(16384 - gone);
+        subject.record.sender.counts.waiting = 16384;
+        m->label[0] = 7;
+        for (uint8_t class_ = 0; class_ < 4; class_++) {
+            given.message = (struct vanitycrow_message){class_, 7};
+            given.bytes_len = gone;
+            reply_check("as many bytes as are withdrawn", 0);
+            given.bytes_len = gone + 1;
+            reply_check("a byte more than is withdrawn", 8);
+            given.bytes_len = 1;
+            reply_check("a byte with the label of a message that goes", 0);
+            m->begun = true;
+            reply_check("a byte with the label of the begun message", 8);
+            m->begun = false;
+            given.message.label = 0;
+            reply_check("a byte without a label", 8);
+            given.message.label = 8;
+            reply_check("a byte with another label", 8);
+            given.message = (struct vanitycrow_message){4, 7};
+            reply_check("a class too many with the label of a message that goes", 11);
+        }
+    }
+    given = usual_arguments();
+}
+
+/* 9 by all that was taken: what is withdrawn makes no room for it. 8 comes before it. */
+static void queue_taken_withdrawals(void) {
+    struct vanitycrow_messages *m = &subject.record.messages;
+    struct vanitycrow_counts *c = &subject.record.sender.counts;
+    replied = QUEUE;
+    for (int by_offset = 0; by_offset < 2; by_offset++)
+        for (uint32_t room = 0; room < 4; room++) {
+            memcpy(&subject, &open_one, sizeof subject);
+            put_messages(2, 8192);
+            m->label[0] = 7;
+            uint32_t taken = UINT32_MAX - room - 16384;
+            if (by_offset) c->next_offset = c->bytes_acked = taken - 5;
+            m->withdrawn = by_offset ? 5 : taken;
+            for (uint16_t label = 0; label < 10; label++) {
+                given.message.label = label;
+                given.bytes_len = 0;
+                reply_check("none more is taken", 0);
+                given.bytes_len = 8193;
+                reply_check("too many would wait, though a message goes, and be taken", 8);
+                if (label != 7) continue;
+                given.bytes_len = room;
+                reply_check("2^32 - 1 bytes would be taken", 0);
+                given.bytes_len = room + 1;
+                reply_check("2^32 bytes would be taken, though as many go", 9);
+                given.bytes_len = 8192;
+                reply_check("2^32 bytes and more would be taken, though as many go", 9);
+            }
+        }
+    given = usual_arguments();
+}
+
+/* Bulletins of 16,384 bytes, each superseding the last, on a link that sends nothing: 262,143 of them are taken and no more, ever. What room is
+ * left of the 2^32 - 1 is for shorter ones. */
+static void queue_for_ever(void) {
+    uint32_t accepted = 0;
+    replied = QUEUE;
+    memcpy(&subject, &open_one, sizeof subject);
+    given.message.label = OPEN_LABEL; /* the first withdraws the ten bytes that wait */
+    given.bytes_len = 16384;
+    while (accepted < 300000 && make_call(QUEUE, &subject, &given) == 0) accepted++;
+    checks++;
+    if (accepted != 262143 || subject.record.messages.withdrawn != 10 + 262142u * 16384) {
+        printf("fields: %u bulletins of 16,384 bytes were taken\n", (unsigned)accepted);
+        failures++;
+    }
+    reply_check("a bulletin of 16,384 bytes more", 9);
+    given.bytes_len = 16384 - 10;
+    reply_check("2^32 bytes would be taken", 9);
+    given.bytes_len = 16384 - 11;
+    reply_check("2^32 - 1 bytes would be taken", 0);
+    given = usual_arguments();
+}
+
+/* 12 by what stays: 256 messages wait, those from `from` up to `to` with the label. */
+static void queue_many_withdrawals(void) {
+    static const struct { size_t from, to; } some[] = {{0, 1}, {1, 2}, {100, 101}, {255, 256}, {3, 9}, {0, 256}, {256, 256}};
+    struct vanitycrow_messages *m = &subject.record.messages;
+    struct vanitycrow_counts *c = &subject.record.sender.counts;
+    replied = QUEUE;
+    for (size_t i = 0; i < COUNT(some); i++)
+        for (int begun = 0; begun < 2; begun++) {
+            size_t gone = some[i].to - some[i].from - (begun && some[i].from == 0);
+            memcpy(&subject, &open_one, sizeof subject);
+            put_messages(256, 2);
+            for (size_t k = some[i].from; k < some[i].to; k++) m->label[k] = 7;
+            m->begun = begun;
+            given.message = (struct vanitycrow_message){2, 7};
+            given.bytes_len = 1;
+            reply_check("a message more, where others may go", gone ? 0 : 12);
+            given.bytes_len = 16384 - 512 + 2 * gone;
+            reply_check("a message more, and all that fits", gone ? 0 : 12);
+            given.bytes_len++;
+            reply_check("a message more, and a byte too many", 8);
+            given.bytes_len = 1;
+            given.message.label = 8;
+            reply_check("a message more, of another label", 12);
+            given.message.label = 0;
+            reply_check("a message more, without a label", 12);
+            given.message.label = 7;
+            c->next_offset = c->bytes_acked = UINT32_MAX - 512;
+            reply_check("a message more, and 2^32 bytes taken", 9);
+        }
+    given = usual_arguments();
+}
+
+/* A message of one label, a queuing with another: it goes where they are the same and not 0. */
+static void queue_label_values(void) {
+    static const uint16_t values[] = {0, 1, 2, 127, 128, 255, 256, 257, 32767, 32768, 65534, 65535};
+    for (size_t i = 0; i < COUNT(values); i++)
+        for (size_t k = 0; k < COUNT(values); k++) {
+            size_t stay = i != k || values[i] == 0;
+            memcpy(&subject, &open_one, sizeof subject);
+            subject.record.messages.label[0] = values[i];
+            given.message.label = values[k];
+            given.bytes_len = 3;
+            uint8_t refusal = make_call(QUEUE, &subject, &given);
+            const struct vanitycrow_messages *m = &subject.record.messages;
+            checks++;
+            if (!refusal && m->n == 1 + stay && m->label[stay] == values[k] && m->withdrawn == (stay ? 0 : 10)) continue;
+            printf("fields: label %u where %u waits: refusal %u, %zu messages, %u withdrawn\n", (unsigned)values[k], (unsigned)values[i],
+                (unsigned)refusal, m->n, (unsigned)m->withdrawn);
+            failures++;
+        }
     given = usual_arguments();
 }
 
@@ -723,8 +998,11 @@ static void order_of_queue_refusals(void) {
     struct vanitycrow_counts *c = &subject.record.sender.counts;
     replied = QUEUE;
     memcpy(&subject, &fresh_one, sizeof subject);
-    given = (struct arguments){.area_len = 49151, .message = {4}, .bytes_len = 16385};
+    given = (struct arguments){.area_len = 49151, .message = {4, 7}, .bytes_len = 16385};
     put_messages(256, 1);
+    subject.record.messages.label[9] = 7; /* it would go */
+    subject.record.messages.label[0] = 8;
+    subject.record.messages.begun = true;
     c->next_offset = c->bytes_acked = UINT32_MAX - 256;
     subject.p.power = 3;
     subject.p.short_bytes = 181;
@@ -742,6 +1020,8 @@ static void order_of_queue_refusals(void) {
     given.bytes_len = 1;
     reply_check("taken, messages", 9);
     c->next_offset = c->bytes_acked = 0;
+    reply_check("a message goes", 0);
+    given.message.label = 8;
     reply_check("messages", 12);
     put_messages(255, 1);
     reply_check("all right", 0);
@@ -784,6 +1064,7 @@ int main(void) {
     record_rest();
     record_counts();
     record_waiting();
+    record_withdrawn();
     record_each_message();
     record_messages();
     messages_in_turn();
@@ -797,6 +1078,13 @@ int main(void) {
     queue_classes();
     queue_messages();
     queue_places();
+    queue_withdrawals();
+    queue_labels_of_none();
+    queue_full_withdrawals();
+    queue_taken_withdrawals();
+    queue_for_ever();
+    queue_many_withdrawals();
+    queue_label_values();
     output_lengths();
     level_ranges();
     order_of_refusals();

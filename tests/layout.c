@@ -96,11 +96,11 @@ static void record_lines(void) {
     S(Sender);
     F(Sender, gear); F(Sender, link); F(Sender, counts); F(Sender, at_peer); F(Sender, last_burst);
     S(Messages);
-    F(Messages, left); FIELD_CLASS(Messages); F(Messages, n); F(Messages, begun);
+    F(Messages, left); FIELD_CLASS(Messages); F(Messages, label); F(Messages, n); F(Messages, withdrawn); F(Messages, begun);
     S(Station);
     F(Station, sender); F(Station, messages);
     S(Message);
-    FIELD_CLASS(Message);
+    FIELD_CLASS(Message); F(Message, label);
 }
 
 static void reply_and_answer_lines(void) {

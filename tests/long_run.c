@@ -1,41 +1,52 @@
 /* Simulated traffic over a hostile link through the C interface: long_run [-s SEED] [-h HOURS] [-e SENDERS] [-x] [-l CALLS TRANSCRIPT]
  *
- * Mail is of all four classes. Each of six profiles has a fresh sender and HOURS of simulated time (24); then SENDERS more (20) have random
- * profiles in range and some hundred calls each. Every call is checked (checked.h), and the tally of document 01 is kept from arguments and
- * answers alone (tally.h); what a far station cannot force is checked by it (cannot_force.h). -x lends blocks of exact lengths, for
- * valgrind. -l writes the calls and what was answered, for `replay`. The status is 1 at the first difference. */
+ * Mail is of all four classes, some of it with labels. Each of six profiles has a fresh sender and HOURS of simulated time (24); then
+ * SENDERS more (20) have random profiles in range and some hundred calls each. Every call is checked (checked.h), and the tally of document
+ * 01 is kept from arguments and answers alone (tally.h); what a far station cannot force is checked by it (cannot_force.h). -x lends blocks
+ * of exact lengths, for valgrind. -l writes the calls and what was answered, for `replay`. The status is 1 at the first difference. */
 #include <stdio.h>
 #include <stdlib.h>
 #include "checked.h"
 #include "profiles.h"
 
-/* A class: routine as a rule, now and then one that there is not. */
-static struct vanitycrow_message some_class(void) {
-    struct vanitycrow_message m = {VANITYCROW_ROUTINE};
+/* A class: routine as a rule, now and then one that there is not. A label: none as a rule, then one of a few. */
+static struct vanitycrow_message some_message(void) {
+    struct vanitycrow_message m = {VANITYCROW_ROUTINE, 0};
     if (percent(60)) m.class_ = (uint8_t)below(VANITYCROW_MAX_CLASS + 1);
     if (percent(3)) m.class_ = (uint8_t)(percent(50) ? VANITYCROW_MAX_CLASS + 1 : below(256));
+    if (percent(30)) m.label = (uint16_t)(percent(90) ? 1 + below(6) : UINT16_MAX - below(3));
     return m;
 }
 
-/* Messages of a few bytes until no more may wait, and some that are refused. */
+/* Messages of a few bytes until no more may wait, and some that are refused or withdraw another. */
 static void many_queues(struct run *r) {
-    for (int i = 0; i < 300 && r->t.count < VANITYCROW_MAX_MESSAGES; i++) queue_call(r, some_class(), 1 + below(3));
-    for (int i = 0; i < 5; i++) queue_call(r, some_class(), below(3));
+    for (int i = 0; i < 500 && r->t.count < VANITYCROW_MAX_MESSAGES; i++) queue_call(r, some_message(), 1 + below(3));
+    for (int i = 0; i < 8; i++) queue_call(r, some_message(), below(3));
+}
+
+/* A queuing with a label that waits, if one does, of a length around what fits once that message is withdrawn. */
+static void superseding_queue(struct run *r) {
+    struct vanitycrow_message m = some_message();
+    size_t fits = VANITYCROW_MAX_WAITING - r->t.waiting, i = r->t.count ? below((uint32_t)r->t.count) : 0;
+    if (r->t.count) m.label = r->t.messages[i].said.label;
+    if (r->t.count && tally_withdraws(m, r->t.messages + i)) fits += r->t.messages[i].n;
+    queue_call(r, m, percent(30) ? fits + below(2) : below((uint32_t)fits + 1));
 }
 
 /* A queuing: letters of some kilobytes, and every length around what fits. */
 static void some_queue(struct run *r) {
     size_t room = VANITYCROW_MAX_WAITING - r->t.waiting;
     switch (below(10)) {
-    case 0: queue_call(r, some_class(), 0); break;
-    case 1: queue_call(r, some_class(), room); break;
-    case 2: queue_call(r, some_class(), room + 1); break;
-    case 3: queue_call(r, some_class(), below(20000)); break;
-    case 4: queue_call(r, some_class(), 1 + below(8)); break;
-    case 5: for (uint32_t i = below(6); i < 6; i++) queue_call(r, some_class(), below(600)); break;
-    default: queue_call(r, some_class(), below((uint32_t)(room < 4000 ? room : 4000) + 1)); break;
+    case 0: queue_call(r, some_message(), 0); break;
+    case 1: queue_call(r, some_message(), room); break;
+    case 2: queue_call(r, some_message(), room + 1); break;
+    case 3: queue_call(r, some_message(), below(20000)); break;
+    case 4: queue_call(r, some_message(), 1 + below(8)); break;
+    case 5: for (uint32_t i = below(6); i < 6; i++) queue_call(r, some_message(), below(600)); break;
+    default: queue_call(r, some_message(), below((uint32_t)(room < 4000 ? room : 4000) + 1)); break;
     }
     if (below(100) == 0) many_queues(r);
+    if (percent(15)) superseding_queue(r);
 }
 
 /* A call that has to be refused or to change little. */
@@ -52,7 +63,7 @@ static void nonsense(struct run *r) {
         r->area_len = below(3) ? VANITYCROW_AREA_BYTES - 1 : below(VANITYCROW_AREA_BYTES);
         switch (below(5)) {
         case 0: burst_call(r); break;
-        case 1: queue_call(r, some_class(), below(100)); break;
+        case 1: queue_call(r, some_message(), below(100)); break;
         case 2: short_call(r, 10); break;
         case 3: find_call(r); break;
         default: long_call(r, 10); break;
@@ -112,7 +123,7 @@ static void begin(struct run *r, const char *name, const struct vanitycrow_profi
 
 static void end(struct run *r) {
     r->seen.acked += r->t.acknowledged;
-    list_end(r->list, r->s);
+    list_end(r->list, r->station);
     give_back(&r->profile);
     give_back(&r->record);
     give_back(&r->area);
@@ -126,7 +137,7 @@ static void end(struct run *r) {
 
 /* Calls of a sender until `until` seconds and `cycles` bursts are over. */
 static void live(struct run *r, double until, unsigned cycles) {
-    if (percent(50)) queue_call(r, some_class(), 10);
+    if (percent(50)) queue_call(r, some_message(), 10);
     if (percent(50)) burst_call(r);
     if (percent(50)) short_call(r, 20);
     if (percent(50)) find_call(r);
@@ -138,6 +149,7 @@ static void add(struct seen *all, const struct seen *s) {
     for (int i = 0; i < KINDS; i++) all->calls[i] += s->calls[i];
     for (int i = 0; i <= VANITYCROW_TOO_MANY_MESSAGES; i++) all->answers[i] += s->answers[i];
     all->overtaking += s->overtaking;
+    all->withdrawing += s->withdrawing;
     all->latest += s->latest;
     all->acked += s->acked;
     all->frames += s->frames;
@@ -156,8 +168,9 @@ static void tell(const char *name, double hours, double air_hours, const struct 
     printf(" accepted %llu, refused", s->answers[0]);
     for (int i = 1; i <= VANITYCROW_TOO_MANY_MESSAGES; i++)
         if (s->answers[i]) printf(" %d: %llu,", i, s->answers[i]);
-    printf(" %llu bytes acknowledged in %llu frames, %llu messages overtook, %llu calls with a hold as late as it may be;", s->acked,
-           s->frames, s->overtaking, s->latest);
+    printf(" %llu bytes acknowledged in %llu frames, %llu messages overtook, %llu withdrew another, ", s->acked, s->frames, s->overtaking,
+           s->withdrawing);
+    printf("%llu calls with a hold as late as it may be;", s->latest);
     printf(" at most %zu pieces, %zu bytes flying, %zu held, %zu frames, %zu messages\n", s->most_pieces, s->most_flying, s->most_held,
            s->most_frames, s->most_messages);
 }

@@ -41,8 +41,9 @@ struct arguments {
     uint32_t off;
 };
 
-/* not connected; connected, ten bytes wait; with pieces, held ones, an outstanding burst, a begun message */
+/* not connected; connected, ten bytes wait, with a label; with pieces, held ones, an outstanding burst, a begun message of another label */
 static struct station fresh_one, open_one, flown_one;
+enum { OPEN_LABEL = 7, FLOWN_LABEL = 8 };
 static struct station subject; /* what the checks change */
 static struct arguments given; /* what the calls get */
 static struct station tried;
@@ -137,9 +138,11 @@ static int make_stations(void) {
     g.h.time = 1;
     g.connect.snr_db = 12;
     g.bytes_len = 10;
+    g.message.label = OPEN_LABEL;
     uint8_t wrong = make_call(CONNECT, t, &g) | make_call(QUEUE, t, &g);
     memcpy(&open_one, t, sizeof *t);
     g.bytes_len = 9000;
+    g.message.label = FLOWN_LABEL;
     wrong |= make_call(QUEUE, t, &g);
     wrong |= make_call(BURST, t, &g);
     g.ack.bitmap = 5;

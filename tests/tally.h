@@ -1,5 +1,6 @@
-/* Document 01's tally, fed with the arguments and answers of accepted calls only, and its comparison with record, work area and output. Messages are kept
- * in the order in which they were queued, and which goes next is chosen when it goes (document 02, Change 1). */
+/* Document 01's tally, fed with the arguments and answers of accepted calls only, and its comparison with record, work area and output.
+ * Messages are kept in the order in which they were queued; which goes next is chosen when it goes, and what a label withdraws by looking at
+ * each (document 02, Changes 1 and 6). */
 #ifndef TALLY_H
 #define TALLY_H
 #include <stdint.h>
@@ -8,7 +9,7 @@
 #include "call_list.h"
 #include "vanitycrow.h"
 
-struct tally_message { uint8_t class_; bool begun; uint8_t *bytes; size_t from, n; }; /* bytes[from] to bytes[n - 1] wait */
+struct tally_message { struct vanitycrow_message said; bool begun; uint8_t *bytes; size_t from, n; }; /* bytes[from] to bytes[n - 1] wait */
 
 struct tally {
     uint64_t taken;
@@ -19,6 +20,7 @@ struct tally {
     struct tally_message messages[VANITYCROW_MAX_MESSAGES]; /* that wait, in the order in which they were queued */
     size_t count;
     size_t waiting; /* bytes of them */
+    uint64_t withdrawn; /* bytes of messages that wait no longer and never flew */
     size_t acknowledged;
     int outstanding; /* whether a burst is */
     uint8_t number;
@@ -34,12 +36,28 @@ static inline void tally_drop(struct tally *t) {
     memset(t, 0, sizeof *t);
 }
 
-/* A queuing is one message; no bytes make none. */
+static inline void tally_gone(struct tally *t, size_t i) {
+    free(t->messages[i].bytes);
+    memmove(t->messages + i, t->messages + i + 1, (--t->count - i) * sizeof *t->messages);
+}
+
+/* Whether a queuing with what m says, not of no bytes, withdraws this message. */
+static inline bool tally_withdraws(struct vanitycrow_message m, const struct tally_message *x) {
+    return m.label && x->said.label == m.label && !x->begun;
+}
+
+/* A queuing is one message, and withdraws those that have its label and have not begun; no bytes make none and withdraw none. */
 static inline void tally_queue(struct tally *t, struct vanitycrow_message m, const uint8_t *bytes, size_t n) {
     if (n == 0) return;
+    for (size_t i = t->count; i-- > 0;) {
+        if (!tally_withdraws(m, t->messages + i)) continue;
+        t->withdrawn += t->messages[i].n;
+        t->waiting -= t->messages[i].n;
+        tally_gone(t, i);
+    }
     if (t->count == VANITYCROW_MAX_MESSAGES) abort();
     struct tally_message *new = t->messages + t->count++;
-    *new = (struct tally_message){.class_ = m.class_, .bytes = malloc(n), .n = n};
+    *new = (struct tally_message){.said = m, .bytes = malloc(n), .n = n};
     if (!new->bytes) abort();
     memcpy(new->bytes, bytes, n);
     t->taken += n;
@@ -53,12 +71,7 @@ static inline void tally_order(const struct tally *t, size_t order[VANITYCROW_MA
         if (t->messages[i].begun) order[n++] = i;
     for (uint8_t class_ = 0; class_ <= VANITYCROW_MAX_CLASS; class_++)
         for (size_t i = 0; i < t->count; i++)
-            if (!t->messages[i].begun && t->messages[i].class_ == class_) order[n++] = i;
-}
-
-static inline void tally_gone(struct tally *t, size_t i) {
-    free(t->messages[i].bytes);
-    memmove(t->messages + i, t->messages + i + 1, (--t->count - i) * sizeof *t->messages);
+            if (!t->messages[i].begun && t->messages[i].said.class_ == class_) order[n++] = i;
 }
 
 /* The next waiting bytes begin to fly, n of them. */
@@ -147,7 +160,7 @@ static inline const char *compare_pieces(const struct tally *t, const struct van
     return at == t->flown - t->acknowledged ? NULL : "a byte in flight is in no piece";
 }
 
-/* Classes, waiting bytes and order of the messages, and whether the first has begun. */
+/* Classes, labels, waiting bytes and order of the messages, whether the first has begun, and the bytes withdrawn. */
 static inline const char *compare_messages(const struct tally *t, const struct vanitycrow_messages *m, const uint8_t *waiting) {
     size_t order[VANITYCROW_MAX_MESSAGES], at = 0;
     tally_order(t, order);
@@ -155,11 +168,12 @@ static inline const char *compare_messages(const struct tally *t, const struct v
     if (m->n && m->begun != t->messages[order[0]].begun) return "another message has begun";
     for (size_t i = 0; i < m->n; i++) {
         const struct tally_message *x = t->messages + order[i];
-        if (m->class_[i] != x->class_ || m->left[i] != x->n - x->from) return "another message waits, or in another place";
+        if (m->class_[i] != x->said.class_ || m->left[i] != x->n - x->from) return "another message waits, or in another place";
+        if (m->label[i] != x->said.label) return "another label";
         if (memcmp(x->bytes + x->from, waiting + at, m->left[i])) return "other bytes of a message wait";
         at += m->left[i];
     }
-    return NULL;
+    return m->withdrawn == t->withdrawn ? NULL : "another count withdrawn";
 }
 
 /* What differs between the tally and the sender, or NULL. */
@@ -167,8 +181,9 @@ static inline const char *compare_tally(const struct tally *t, const struct vani
     const struct vanitycrow_counts *c = &s->sender.counts;
     const char *wrong;
     size_t flying = t->flown - t->acknowledged;
-    if (t->taken != t->waiting + flying + t->acknowledged) return "taken is not waiting, in flight and acknowledged";
-    if (t->taken != (uint64_t)c->next_offset + c->waiting) return "another count taken";
+    if (t->taken != t->waiting + flying + t->acknowledged + t->withdrawn)
+        return "taken is not waiting, in flight, acknowledged and withdrawn";
+    if (t->taken != (uint64_t)c->next_offset + c->waiting + s->messages.withdrawn) return "another count taken";
     if (t->waiting != c->waiting) return "another count waiting";
     if (flying != c->flying) return "another count in flight";
     if (t->acknowledged != c->bytes_acked) return "another count acknowledged";

@@ -2,7 +2,8 @@
 //! force (document 02, Change 14), held against the original after every call
 //! of generated lists. The tally is document 01's, kept from
 //! the calls and their answers alone. It puts each message at its place when it
-//! is queued; messages.rs, which orders the original's bytes, chooses at bursts.
+//! is queued, and withdraws from that list; messages.rs, which orders the
+//! original's bytes, chooses at bursts from those in the order of arrival.
 
 use std::collections::BTreeMap;
 use std::fmt::Write;
@@ -10,10 +11,10 @@ use std::ops::Range;
 use std::panic::{AssertUnwindSafe, catch_unwind};
 
 use crate::generate;
-use crate::harness::{Answer, Burst, Harness, LAST_SECOND, TAKEN_MOST, WAITING_MOST, class_of};
+use crate::harness::{Answer, Burst, Harness, LAST_SECOND, TAKEN_MOST, WAITING_MOST};
 use crate::link::frame::caps;
 use crate::link::station::{Station, wave_rank};
-use crate::list::{Call, Item, text};
+use crate::list::{Call, Item, Said, text};
 use crate::messages::{CLASS_MOST, MESSAGES_MOST, Message};
 use crate::profile::*;
 use crate::progress::Progress;
@@ -71,14 +72,26 @@ impl Reached {
     }
 }
 
+/// A message that waits, and which queuing it was.
+#[derive(Clone)]
+struct Queued {
+    number: usize,
+    message: Message,
+}
+
 /// Document 01's tally.
 #[derive(Default)]
 struct Tally {
     taken: u64,
+    /// Messages queued.
+    queuings: usize,
     /// In the order in which they will go; `begun`: bytes of the first have flown.
-    waiting: Vec<Message>,
+    waiting: Vec<Queued>,
     begun: bool,
+    withdrawn: Vec<Queued>,
     flown: Vec<u8>,
+    /// The messages of the flown bytes, in their order: each once if none is broken into.
+    began: Vec<usize>,
     acknowledged: Vec<bool>,
     acknowledged_count: u64,
     outstanding: Option<(u8, Vec<(usize, usize)>)>,
@@ -89,10 +102,14 @@ impl Tally {
         let frames: Vec<(usize, usize)> = b.frames.iter().map(|f| (f.offset as usize, f.len)).collect();
         let end = frames.iter().map(|f| f.0 + f.1).max().unwrap_or(0);
         while self.flown.len() < end && !self.waiting.is_empty() {
-            let first = &mut self.waiting[0].bytes;
+            let number = self.waiting[0].number;
+            let first = &mut self.waiting[0].message.bytes;
             let n = first.len().min(end - self.flown.len());
             self.flown.extend(first.drain(..n));
             self.begun = !first.is_empty();
+            if self.began.last() != Some(&number) {
+                self.began.push(number);
+            }
             if !self.begun {
                 self.waiting.remove(0);
             }
@@ -101,20 +118,62 @@ impl Tally {
         self.outstanding = Some((b.number(), frames));
     }
 
-    /// Behind the begun message, behind those of its class and of lower ones.
-    fn queue(&mut self, class: u8, bytes: &[u8]) {
+    /// Behind the begun message those with its label go, and it stands behind those of its class and of lower ones.
+    fn queue(&mut self, said: Said, bytes: &[u8]) {
         self.taken += bytes.len() as u64;
         if bytes.is_empty() {
             return;
         }
-        let from = self.begun as usize;
-        let before = self.waiting[from..].iter().take_while(|m| m.class <= class).count();
-        let bytes = bytes.to_vec();
-        self.waiting.insert(from + before, Message { class, bytes });
+        let (class, label) = (said.class(), said.label());
+        let behind = self.waiting.split_off(self.begun as usize);
+        let (gone, mut stay): (Vec<Queued>, Vec<Queued>) =
+            behind.into_iter().partition(|q| label > 0 && q.message.label == label);
+        self.withdrawn.extend(gone);
+        let before = stay.iter().take_while(|q| q.message.class <= class).count();
+        let new = Queued {
+            number: self.queuings,
+            message: Message {
+                class,
+                label,
+                bytes: bytes.to_vec(),
+            },
+        };
+        self.queuings += 1;
+        stay.insert(before, new);
+        self.waiting.extend(stay);
+    }
+
+    fn messages(&self) -> Vec<Message> {
+        self.waiting.iter().map(|q| q.message.clone()).collect()
+    }
+
+    fn withdrawn_bytes(&self) -> u64 {
+        self.withdrawn.iter().map(|q| q.message.bytes.len() as u64).sum()
+    }
+
+    /// Each message queued is in exactly one: begun, not begun, or withdrawn; of those not begun one at most bears a label.
+    fn parted(&self) -> Check {
+        let unbegun = &self.waiting[self.begun as usize..];
+        let mut numbers = self.began.clone();
+        numbers.extend(unbegun.iter().chain(&self.withdrawn).map(|q| q.number));
+        numbers.sort();
+        demand!(
+            numbers.into_iter().eq(0..self.queuings),
+            "a message is in none or in two of begun, not begun and withdrawn"
+        );
+        let mut labels: Vec<u16> = unbegun.iter().map(|q| q.message.label).filter(|&l| l > 0).collect();
+        let count = labels.len();
+        labels.sort();
+        labels.dedup();
+        demand!(labels.len() == count, "two messages with a label have not begun");
+        Ok(())
     }
 
     fn waits(&self) -> Vec<u8> {
-        self.waiting.iter().flat_map(|m| m.bytes.iter().copied()).collect()
+        self.waiting
+            .iter()
+            .flat_map(|q| q.message.bytes.iter().copied())
+            .collect()
     }
 
     fn ack(&mut self, number: u8, bitmap: u64, short: bool) {
@@ -139,7 +198,7 @@ impl Tally {
     fn feed(&mut self, call: &Call, answer: &Answer) {
         match (call, answer) {
             (_, Answer::Refused(_)) => {}
-            (Call::Queue(bytes, class), _) => self.queue(class_of(*class), bytes),
+            (Call::Queue(bytes, said), _) => self.queue(*said, bytes),
             (Call::Burst, Answer::Burst(b)) => self.burst(b),
             (Call::Short { burst, bitmap, .. }, _) => self.ack(*burst as u8, *bitmap, true),
             (Call::Long { payload, .. }, _) => {
@@ -151,7 +210,7 @@ impl Tally {
         }
     }
 
-    /// Every byte in exactly one of the three, with its value and in order.
+    /// Every byte in exactly one of the four, with its value and in order.
     fn agrees(&self, h: &Harness, answer: &Answer) -> Check {
         let s = &h.station;
         let flying = self.flown.len() as u64 - self.acknowledged_count;
@@ -163,15 +222,22 @@ impl Tally {
             self.taken
         );
         demand!(
-            self.taken == waiting.len() as u64 + flying + self.acknowledged_count,
-            "the tally's taken is not waiting + in flight + acknowledged"
+            self.taken == waiting.len() as u64 + flying + self.acknowledged_count + self.withdrawn_bytes(),
+            "the tally's taken is not waiting + in flight + acknowledged + withdrawn"
         );
         demand!(
-            h.messages.in_order() == self.waiting && h.messages.begun() == self.begun,
+            h.messages.in_order() == self.messages() && h.messages.begun() == self.begun,
             "other messages wait than by the tally"
         );
+        demand!(
+            h.messages.withdrawn() == self.withdrawn_bytes(),
+            "withdrawn {}, by the tally {}",
+            h.messages.withdrawn(),
+            self.withdrawn_bytes()
+        );
+        self.parted()?;
         // The original's bytes of several classes are laid in order by a burst.
-        let in_order = h.single_class() || matches!(answer, Answer::Burst(_));
+        let in_order = h.own_order() || matches!(answer, Answer::Burst(_));
         demand!(
             s.out.len() == waiting.len() && (!in_order || s.out == waiting),
             "the waiting bytes are {}, by the tally {}, or others",
@@ -277,16 +343,17 @@ pub fn sound(h: &Harness) -> Check {
         );
     }
     demand!(h.taken <= TAKEN_MOST, "{} bytes are taken", h.taken);
+    let withdrawn = h.messages.withdrawn();
     demand!(
-        h.taken == s.next_offset as u64 + s.out.len() as u64,
-        "taken {} is not the next offset {} plus waiting {}",
+        h.taken == s.next_offset as u64 + s.out.len() as u64 + withdrawn,
+        "taken {} is not the next offset {} plus waiting {} plus withdrawn {withdrawn}",
         h.taken,
         s.next_offset,
         s.out.len()
     );
     demand!(
-        h.taken == (s.out.len() + flying) as u64 + h.acked(),
-        "taken {} is not waiting {} plus flying {flying} plus acknowledged {}",
+        h.taken == (s.out.len() + flying) as u64 + h.acked() + withdrawn,
+        "taken {} is not waiting {} plus flying {flying} plus acknowledged {} plus withdrawn {withdrawn}",
         h.taken,
         s.out.len(),
         h.acked()
@@ -558,7 +625,7 @@ fn window_open(p: &Profile, s: &Station, before: &Allowance, b: &Burst) -> Check
 }
 
 /// How a burst cuts the messages that waited before it; `new` are the offsets that begin to fly.
-fn reach_messages(reached: &mut Reached, waiting: &[Message], b: &Burst, new: Range<usize>) {
+fn reach_burst(reached: &mut Reached, waiting: &[Message], b: &Burst, new: Range<usize>) {
     let mut end = new.start;
     let ends: Vec<usize> = waiting
         .iter()
@@ -575,6 +642,53 @@ fn reach_messages(reached: &mut Reached, waiting: &[Message], b: &Burst, new: Ra
     let left = !new.is_empty() && ends.last().is_some_and(|&e| e > new.end);
     reached.count("bursts that end where a message does", left && ends.contains(&new.end));
     reached.count("bursts that end inside a message", left && !ends.contains(&new.end));
+}
+
+/// What a queuing meets among the messages that waited before it: whom it overtakes, whom it withdraws, and what is judged after that.
+fn reach_queuing(
+    reached: &mut Reached,
+    waited: &[Message],
+    begun: bool,
+    (said, n): (Said, usize),
+    refused: Option<u8>,
+) {
+    let (first, others) = waited.split_at(begun as usize);
+    let (class, label) = (said.class(), said.label());
+    let over = |m: &Message| class < m.class && n > 0;
+    let same = |m: &Message| label > 0 && m.label == label;
+    let waiting: usize = waited.iter().map(|m| m.bytes.len()).sum();
+    let gone: Vec<&Message> = others.iter().filter(|m| same(m)).collect();
+    if refused.is_some() {
+        let late = matches!(refused, Some(8 | 9 | 12));
+        reached.count("queuings refused where a message would go", late && !gone.is_empty());
+        return;
+    }
+    reached.count("queuings that overtake", others.iter().any(over));
+    reached.count(
+        "queuings of a lower class than the begun message's",
+        first.iter().any(over),
+    );
+    let withdraws = n > 0 && !gone.is_empty();
+    let begun = first.iter().any(same);
+    reached.count(
+        "queuings of no bytes with a label that waits",
+        n == 0 && !gone.is_empty(),
+    );
+    reached.count("queuings that withdraw", withdraws);
+    reached.count(
+        "queuings that withdraw of another class",
+        withdraws && gone.iter().any(|m| m.class != class),
+    );
+    reached.count("queuings with the begun message's label", n > 0 && begun);
+    reached.count("queuings with it that withdraw another", withdraws && begun);
+    reached.count(
+        "queuings whose bytes fit after a withdrawal only",
+        withdraws && waiting + n > WAITING_MOST,
+    );
+    reached.count(
+        "queuings whose message fits after a withdrawal only",
+        withdraws && waited.len() == MESSAGES_MOST,
+    );
 }
 
 struct Auditor {
@@ -607,7 +721,7 @@ impl Auditor {
         let before = Allowance::new(&h.profile, &h.station);
         let first_new = h.station.next_offset as usize;
         let pieces = h.station.inflight.len();
-        let (waited, begun) = (self.tally.waiting.clone(), self.tally.begun);
+        let (waited, begun) = (self.tally.messages(), self.tally.begun);
         let numbered = self.tally.outstanding.as_ref().map(|o| (o.0, o.1.len()));
         let answer = catch_unwind(AssertUnwindSafe(|| h.call(call))).map_err(|e| {
             let why = e
@@ -674,19 +788,13 @@ impl Auditor {
                 !b.frames.is_empty() && d > h.profile.f64(BURST, 0),
             );
             reached.most("frames in a burst", b.frames.len());
-            reach_messages(reached, &waited, b, first_new..s.next_offset as usize);
+            reach_burst(reached, &waited, b, first_new..s.next_offset as usize);
         }
-        if let (Call::Queue(bytes, class), Answer::Ok) = (call, &answer) {
-            let class = class_of(*class);
-            let (first, others) = waited.split_at(begun as usize);
-            let over = |m: &Message| class < m.class && !bytes.is_empty();
-            reached.count("queuings that overtake", others.iter().any(over));
-            reached.count(
-                "queuings of a lower class than the begun message's",
-                first.iter().any(over),
-            );
+        if let Call::Queue(bytes, said) = call {
+            reach_queuing(reached, &waited, begun, (*said, bytes.len()), refused);
         }
         reached.count("calls with a begun message", self.tally.begun);
+        reached.most("bytes withdrawn", self.tally.withdrawn_bytes() as usize);
         reached.most("messages", self.tally.waiting.len());
         let all = matches!((call, &answer, numbered), (Call::Short { burst, bitmap: 63, .. }, Answer::Ok, Some((n, 7..)))
             if *burst == n as u64);
@@ -754,7 +862,7 @@ fn smallest(items: &[Item], at: usize) -> (Vec<Item>, String) {
     (small, why)
 }
 
-/// Lists of `kind`, or of all but `lines`, `levels` and `classes`.
+/// Lists of `kind`, or of all but `lines`, `levels`, `classes` and `labels`.
 pub fn audit(seed: u64, lists: u64, calls: usize, kind: Option<&'static str>) -> Result<(), String> {
     std::panic::set_hook(Box::new(|_| {}));
     let mut reached = Reached::default();
@@ -852,5 +960,47 @@ mod tests {
             assert!(reached.counts[what] > 0, "{what}");
         }
         assert!(reached.refused[11] > 0 && reached.refused[12] > 0);
+    }
+
+    #[test]
+    fn lists_of_labels_hold() {
+        let mut reached = Reached::default();
+        for index in 0..60 {
+            let items = generate::list(11, index, 60, "labels");
+            if let Err((at, why)) = check(&items, &mut reached) {
+                panic!("list {index}, item {at}: {why}");
+            }
+        }
+        assert_eq!(reached.most["messages"], 256);
+        for what in [
+            "queuings refused where a message would go",
+            "queuings of no bytes with a label that waits",
+            "queuings that withdraw of another class",
+            "queuings with it that withdraw another",
+            "queuings whose bytes fit after a withdrawal only",
+            "queuings whose message fits after a withdrawal only",
+        ] {
+            assert!(reached.counts[what] > 0, "{what}");
+        }
+        assert!(reached.refused[8] > 0 && reached.refused[12] > 0);
+    }
+
+    /// Each of the tally's own checks about labels fails where it should.
+    #[test]
+    fn messages_in_two_places() {
+        let mut t = Tally::default();
+        t.queue(Said::Label(3, 5), &[1, 2]);
+        t.queue(Said::Label(3, 6), &[3]);
+        t.queue(Said::Label(0, 5), &[4]);
+        assert!(t.parted().is_ok());
+        assert_eq!((t.withdrawn_bytes(), t.waits()), (2, vec![4, 3]));
+        // One withdrawn that was on the air, one in neither, two of one label.
+        t.began = vec![0];
+        assert!(t.parted().is_err());
+        t.began = Vec::new();
+        let gone = t.withdrawn.pop().unwrap();
+        assert!(t.parted().is_err());
+        t.waiting.push(gone);
+        assert!(t.parted().is_err());
     }
 }

@@ -5,17 +5,17 @@ use std::cell::RefCell;
 
 use crate::harness::{AREA_BYTES, Answer, Burst, Harness, LAST_SECOND, WAITING_MOST};
 use crate::levels;
-use crate::list::{AREA_MOST, Call, Item, LONGEST_LINE, OUT_MOST, text};
+use crate::list::{AREA_MOST, Call, Item, LONGEST_LINE, OUT_MOST, Said, text};
 use crate::messages::MESSAGES_MOST;
 use crate::profile::{DBS, EFF_THRESHOLDS, FRAME_BYTES, LEVELS, ON, POWER, Profile, THRESHOLDS, Value, on, payload_of};
 use crate::profiles;
 use crate::rng::Rng;
 
-/// What a list is about. Lists of `lines` may end in an error. `levels` and `classes` are mixed with no other. In all but `classes` every
-/// message is of class 3, by default.
-pub const KINDS: [&str; 12] = [
+/// What a list is about. Lists of `lines` may end in an error. `levels`, `classes` and `labels` are mixed with no other. In all but `classes`
+/// and `labels` every message is of class 3, by default; in all but `labels` none has a label.
+pub const KINDS: [&str; 13] = [
     "usual", "ladder", "harq", "merge", "many", "extreme", "hostile", "limits", "profiles", "lines", "levels",
-    "classes",
+    "classes", "labels",
 ];
 
 /// How the far station answers.
@@ -638,8 +638,11 @@ impl<'a> Driver<'a> {
                     return;
                 }
                 let bytes = self.r.bytes(n);
-                let class = self.mail.map(|mail| self.r.pick(mail.classes));
-                self.call(Call::Queue(bytes, class));
+                let said = match self.mail {
+                    None => Said::Nothing,
+                    Some(mail) => self.said(mail),
+                };
+                self.call(Call::Queue(bytes, said));
             }
             8 => {
                 let n = self.r.pick(&[AREA_BYTES - 1, AREA_BYTES + 1, AREA_BYTES, AREA_MOST, 0]);
@@ -840,6 +843,8 @@ fn profiles_list(r: &mut Rng, index: u64, calls: usize) {
 struct Mail {
     /// Classes that are drawn from.
     classes: &'static [u64],
+    /// Labels that are drawn from; none: no message has one.
+    labels: &'static [u64],
     /// Most bytes of most messages.
     most: u64,
 }
@@ -862,12 +867,34 @@ impl Driver<'_> {
         n.min(room)
     }
 
+    /// A label: as a rule one of the list's, now and then one that is as wide as a word may be, or none.
+    fn label(&mut self, mail: Mail) -> u64 {
+        let label = self.r.pick(mail.labels);
+        match self.r.below(12) {
+            0 => 65_536 + label,
+            1 => self.r.pick(&[0, 65_536, 1 << 32, u64::MAX]),
+            _ => label,
+        }
+    }
+
+    /// A class, and a label where the list has some.
+    fn said(&mut self, mail: Mail) -> Said {
+        let class = self.r.pick(mail.classes);
+        if mail.labels.is_empty() || self.r.once_in(5) {
+            Said::Class(class)
+        } else {
+            Said::Label(class, self.label(mail))
+        }
+    }
+
     fn message(&mut self, mail: Mail) {
         let n = self.message_len(mail);
         let bytes = self.r.bytes(n);
-        let class = self.r.pick(mail.classes);
-        let given = class < 3 || !self.r.once_in(4);
-        self.call(Call::Queue(bytes, given.then_some(class)));
+        let said = match self.said(mail) {
+            Said::Class(3) if self.r.once_in(4) => Said::Nothing,
+            said => said,
+        };
+        self.call(Call::Queue(bytes, said));
         if self.r.once_in(3) {
             self.call(Call::Messages);
         }
@@ -882,7 +909,31 @@ impl Driver<'_> {
         };
         let n = self.r.pick(&[0, 1, 1, 20, WAITING_MOST + 1, room + 1]);
         let bytes = self.r.bytes(n);
-        self.call(Call::Queue(bytes, Some(class)));
+        let said = if mail.labels.is_empty() {
+            Said::Class(class)
+        } else {
+            Said::Label(class, self.label(mail))
+        };
+        self.call(Call::Queue(bytes, said));
+        self.call(Call::Messages);
+    }
+
+    /// A queuing with a label that waits, of as many bytes as there is room for once what it withdraws is gone, or without that, or one more or
+    /// less.
+    fn label_limit(&mut self, mail: Mail) {
+        let label = self.r.pick(mail.labels);
+        let (_, gone) = self.h.messages.gone(label as u16, 1);
+        let room = WAITING_MOST - self.h.station.out.len();
+        let n = self
+            .r
+            .pick(&[room + gone, room + gone + 1, room + gone + 1, room, room + 1]);
+        // A full queue makes long lists, so the accepted ones are rare.
+        if n <= room + gone && n > 2000 && !self.r.once_in(4) {
+            return;
+        }
+        let bytes = self.r.bytes(n);
+        let class = self.r.pick(mail.classes);
+        self.call(Call::Queue(bytes, Said::Label(class, label)));
         self.call(Call::Messages);
     }
 
@@ -901,7 +952,13 @@ impl Driver<'_> {
             }
             let bytes = self.r.bytes(n);
             let class = self.r.pick(mail.classes);
-            self.call(Call::Queue(bytes, Some(class)));
+            // A label once in a while, since another of it would withdraw the first.
+            let said = if !mail.labels.is_empty() && self.r.once_in(40) {
+                Said::Label(class, self.label(mail))
+            } else {
+                Said::Class(class)
+            };
+            self.call(Call::Queue(bytes, said));
         }
         self.call(Call::Messages);
         for _ in 0..self.r.within(2, 5) {
@@ -910,12 +967,12 @@ impl Driver<'_> {
             // A full queue makes a long list.
             let n = if n == room && !self.r.once_in(6) { 2 } else { n };
             let bytes = self.r.bytes(n);
-            let class = if self.r.once_in(5) {
-                4
+            let said = if self.r.once_in(5) {
+                Said::Class(4)
             } else {
-                self.r.pick(mail.classes)
+                self.said(mail)
             };
-            self.call(Call::Queue(bytes, Some(class)));
+            self.call(Call::Queue(bytes, said));
         }
         self.call(Call::Messages);
         self.burst();
@@ -923,8 +980,8 @@ impl Driver<'_> {
     }
 }
 
-/// Messages of all classes, or of one, between bursts and replies.
-fn classes_list(r: &mut Rng, calls: usize) {
+/// Messages of all classes, or of one, between bursts and replies; with labels where `labelled` says so.
+fn messages_list(r: &mut Rng, calls: usize, labelled: bool) {
     let profile = match r.below(8) {
         0 => profiles::extreme(r),
         1 => profiles::merge(r),
@@ -938,10 +995,15 @@ fn classes_list(r: &mut Rng, calls: usize) {
         2 => &[0],
         _ => &[0, 1, 2, 3],
     };
-    let mail = Mail {
+    let mut mail = Mail {
         classes,
+        labels: &[],
         most: r.pick(&[3, 40, 40, 400]),
     };
+    if labelled {
+        let labels: [&[u64]; 4] = [&[1], &[1, 2], &[1, 2, 3, 65_535], &[1, 255, 256, 257, 4_660, 65_535]];
+        mail.labels = r.pick(&labels);
+    }
     let mut d = Driver::new(r, profile, far);
     d.mail = Some(mail);
     d.tip_in = 20;
@@ -951,6 +1013,7 @@ fn classes_list(r: &mut Rng, calls: usize) {
     while d.calls() + 2 < calls {
         match d.r.below(16) {
             0..=6 => d.message(mail),
+            7 if labelled && d.r.flag() => d.label_limit(mail),
             7 => d.class_limit(mail),
             8 if d.r.once_in(4) => {
                 d.call(Call::Messages);
@@ -1083,7 +1146,7 @@ fn lines(r: &mut Rng, calls: usize) -> Vec<Item> {
         "queue  00\n".to_string(),
         "queue 0\n".to_string(),
         "queue 0A\n".to_string(),
-        "queue 00 0 0\n".to_string(),
+        "queue 00 0 0 0\n".to_string(),
         "queue --\n".to_string(),
         "queue 0x00\n".to_string(),
         "queue 0g\n".to_string(),
@@ -1218,8 +1281,8 @@ pub fn list(seed: u64, index: u64, calls: usize, kind: &str) -> Vec<Item> {
             levels_list(r, calls);
             return made();
         }
-        "classes" => {
-            classes_list(r, calls);
+        "classes" | "labels" => {
+            messages_list(r, calls, kind == "labels");
             return made();
         }
         _ => unreachable!("kinds are checked"),

@@ -6,7 +6,7 @@ use crate::link::frame::{AckInfo, Frame, Kind, Tiny, caps, flags};
 use crate::link::report::ChanClass;
 use crate::link::station::{Awaiting, Station, wave_rank};
 use crate::list::{AREA_MOST, Call, OUT_MOST};
-use crate::messages::{CLASS_MOST, MESSAGES_MOST, Messages, ROUTINE};
+use crate::messages::{CLASS_MOST, MESSAGES_MOST, Messages};
 use crate::profile::{FRAME_BYTES, Profile};
 
 pub const AREA_BYTES: u64 = 49_152;
@@ -55,11 +55,6 @@ fn report(n: u64) -> u8 {
     n.min(255) as u8
 }
 
-/// The class of a queuing: what is too wide is 255.
-pub fn class_of(class: Option<u64>) -> u8 {
-    class.map_or(ROUTINE, |n| n.min(255) as u8)
-}
-
 #[derive(Clone)]
 pub struct Harness {
     pub profile: Profile,
@@ -67,10 +62,12 @@ pub struct Harness {
     numbers: Numbers,
     pub station: Station,
     pub messages: Messages,
-    /// The first class of which bytes were taken, and whether others were.
+    /// The first class of which bytes were taken.
     class: Option<u8>,
-    mixed: bool,
+    /// Bytes of another were taken, or a message was withdrawn: the original's waiting bytes are laid by messages.rs.
+    laid: bool,
     pub last_time: Option<f64>,
+    /// With those withdrawn.
     pub taken: u64,
     pub airtime_ms: u64,
     area: u64,
@@ -87,7 +84,7 @@ impl Harness {
             profile,
             messages: Messages::default(),
             class: None,
-            mixed: false,
+            laid: false,
             last_time: None,
             taken: 0,
             airtime_ms: 0,
@@ -190,17 +187,18 @@ impl Harness {
                     return Some(6);
                 }
             }
-            Call::Queue(ref bytes, class) => {
-                if class_of(class) > CLASS_MOST {
+            Call::Queue(ref bytes, said) => {
+                if said.class() > CLASS_MOST {
                     return Some(11);
                 }
-                if self.station.out.len() + bytes.len() > WAITING_MOST {
+                let (messages, waiting) = self.messages.gone(said.label(), bytes.len());
+                if self.station.out.len() - waiting + bytes.len() > WAITING_MOST {
                     return Some(8);
                 }
                 if self.taken + bytes.len() as u64 > TAKEN_MOST {
                     return Some(9);
                 }
-                if !bytes.is_empty() && self.messages.len() == MESSAGES_MOST {
+                if !bytes.is_empty() && self.messages.len() - messages == MESSAGES_MOST {
                     return Some(12);
                 }
             }
@@ -243,13 +241,17 @@ impl Harness {
                 s.hear_tiny(wave as usize, here, answer, t);
                 self.last_time = Some(t);
             }
-            Call::Queue(ref bytes, class) => {
+            Call::Queue(ref bytes, said) => {
                 s.out.extend(bytes);
                 self.taken += bytes.len() as u64;
-                let class = class_of(class);
-                self.messages.queue(class, bytes);
+                let class = said.class();
+                let gone = self.messages.queue(class, said.label(), bytes);
                 if !bytes.is_empty() {
-                    self.mixed |= *self.class.get_or_insert(class) != class;
+                    self.laid |= *self.class.get_or_insert(class) != class;
+                }
+                if gone > 0 {
+                    self.laid = true;
+                    s.out = self.messages.bytes();
                 }
             }
             Call::Short {
@@ -328,16 +330,16 @@ impl Harness {
         Answer::Ok
     }
 
-    /// Whether the order of the waiting bytes is the original's own: all bytes taken so far are of one class.
-    pub fn single_class(&self) -> bool {
-        !self.mixed
+    /// Whether the order of the waiting bytes is the original's own: all bytes taken so far are of one class, and none were withdrawn.
+    pub fn own_order(&self) -> bool {
+        !self.laid
     }
 
     fn burst(&mut self) -> Burst {
         let s = &mut self.station;
-        // With a single class the original's queue is left as its own `queue` filled it. With several its waiting bytes are laid in the order
-        // that messages.rs chooses; the original cuts them.
-        if self.mixed {
+        // With a single class, and nothing withdrawn, the original's queue is left as its own `queue` filled it. Else its waiting bytes are laid
+        // in the order that messages.rs chooses; the original cuts them.
+        if self.laid {
             s.out = self.messages.bytes();
         }
         let waiting = s.out.len();

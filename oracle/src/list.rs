@@ -2,11 +2,39 @@
 
 use std::fmt;
 
+use crate::messages::ROUTINE;
 use crate::profile::{LINES, Profile};
 
 pub const LONGEST_LINE: usize = 65_536;
 pub const AREA_MOST: u64 = 65_536;
 pub const OUT_MOST: u64 = 32_768;
+
+/// What a queuing says of its message.
+#[derive(Clone, Copy, Debug)]
+pub enum Said {
+    Nothing,
+    Class(u64),
+    /// A class and a label.
+    Label(u64, u64),
+}
+
+impl Said {
+    /// The class: what is too wide is 255.
+    pub fn class(self) -> u8 {
+        match self {
+            Said::Nothing => ROUTINE,
+            Said::Class(class) | Said::Label(class, _) => class.min(255) as u8,
+        }
+    }
+
+    /// The label, which counts modulo 65,536; 0: none.
+    pub fn label(self) -> u16 {
+        match self {
+            Said::Nothing | Said::Class(_) => 0,
+            Said::Label(_, label) => (label % 65_536) as u16,
+        }
+    }
+}
 
 #[derive(Clone, Debug)]
 pub enum Call {
@@ -21,8 +49,7 @@ pub enum Call {
         slot: u64,
         cue: bool,
     },
-    /// Bytes, and the class where one is given.
-    Queue(Vec<u8>, Option<u64>),
+    Queue(Vec<u8>, Said),
     Short {
         t: f64,
         wave: u64,
@@ -67,9 +94,9 @@ pub enum Call {
 }
 
 impl Call {
-    /// A queuing that gives no class.
+    /// A queuing that gives no class and no label.
     pub fn queue(bytes: Vec<u8>) -> Self {
-        Call::Queue(bytes, None)
+        Call::Queue(bytes, Said::Nothing)
     }
 }
 
@@ -175,6 +202,17 @@ impl<'a> Words<'a> {
     fn hex(&mut self) -> Option<Vec<u8>> {
         read_hex(self.word()?)
     }
+    /// Up to two words more.
+    fn said(&mut self) -> Option<Said> {
+        let Some(class) = self.word() else {
+            return Some(Said::Nothing);
+        };
+        let class = read_whole(class)?;
+        let Some(label) = self.word() else {
+            return Some(Said::Class(class));
+        };
+        Some(Said::Label(class, read_whole(label)?))
+    }
 }
 
 fn read_call(words: &[&[u8]]) -> Option<Call> {
@@ -191,13 +229,7 @@ fn read_call(words: &[&[u8]]) -> Option<Call> {
             slot: w.n()?,
             cue: w.flag()?,
         },
-        b"queue" => Call::Queue(
-            w.hex()?,
-            match w.word() {
-                None => None,
-                Some(word) => Some(read_whole(word)?),
-            },
-        ),
+        b"queue" => Call::Queue(w.hex()?, w.said()?),
         b"short" => Call::Short {
             t: w.f64()?,
             wave: w.n()?,
@@ -387,8 +419,9 @@ impl fmt::Display for Call {
                 *doppler as u8,
                 *cue as u8
             ),
-            Call::Queue(bytes, None) => write!(f, "queue {}", hex(bytes)),
-            Call::Queue(bytes, Some(class)) => write!(f, "queue {} {class}", hex(bytes)),
+            Call::Queue(bytes, Said::Nothing) => write!(f, "queue {}", hex(bytes)),
+            Call::Queue(bytes, Said::Class(class)) => write!(f, "queue {} {class}", hex(bytes)),
+            Call::Queue(bytes, Said::Label(class, label)) => write!(f, "queue {} {class} {label}", hex(bytes)),
             Call::Short {
                 t,
                 wave,

@@ -78,7 +78,7 @@ pub fn shrink(mut items: Vec<Item>, shows: &mut dyn FnMut(&[Item]) -> bool) -> V
             if Instant::now() > until {
                 return items;
             }
-            let Item::Call(Call::Queue(bytes, class)) = &items[i] else {
+            let Item::Call(Call::Queue(bytes, said)) = &items[i] else {
                 break;
             };
             let n = bytes.len();
@@ -88,7 +88,7 @@ pub fn shrink(mut items: Vec<Item>, shows: &mut dyn FnMut(&[Item]) -> bool) -> V
                     continue;
                 }
                 let mut other = items.clone();
-                other[i] = Item::Call(Call::Queue(bytes[..less].to_vec(), *class));
+                other[i] = Item::Call(Call::Queue(bytes[..less].to_vec(), *said));
                 if shows(&other) {
                     shorter = Some(other);
                     break;

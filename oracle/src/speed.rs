@@ -17,6 +17,8 @@ use pair::Sent;
 const WORST_NS: f64 = 200_000.0;
 /// A queuing before 16,383 bytes, ns.
 const FIRST_NS: f64 = 2_000.0;
+/// A queuing that withdraws, where 256 messages and 16,384 bytes wait, ns.
+const WITHDRAWAL_NS: f64 = 3_000.0;
 
 /// How many times as fast as the original a call must be.
 fn wanted(kind: Kind) -> f64 {
@@ -124,6 +126,17 @@ impl Report {
             "  it takes {:.2} us (target: 2 or less): {}",
             first / 1000.0,
             judged(first <= FIRST_NS)
+        );
+        self.port("queue, no label, messages: 255", &scenarios::unlabelled_times(), Kind::Queue);
+        let withdraws = [("goes last", false), ("goes first", true)].map(|(word, first)| {
+            let clock = scenarios::superseding_times(first);
+            self.port(&format!("queue that withdraws, {word}"), &clock, Kind::Queue)
+        });
+        let slower = withdraws[0].max(withdraws[1]);
+        println!(
+            "  a withdrawal takes {:.2} us at most (target: 3 or less): {}",
+            slower / 1000.0,
+            judged(slower <= WITHDRAWAL_NS)
         );
     }
 

@@ -5,7 +5,7 @@ use std::path::Path;
 
 use crate::generate;
 use crate::harness::{Answer, Harness};
-use crate::list::{Call, Item, Reader, text};
+use crate::list::{Call, Item, Reader, Said, text};
 use crate::profile::*;
 use crate::profiles;
 use crate::transcript::transcript;
@@ -436,7 +436,13 @@ fn lines_that_break_the_rules() {
         "queue 00 x",
         "queue 00 0x1",
         "queue 00 18446744073709551616",
-        "queue 00 1 0",
+        "queue 00 1 0 0",
+        "queue 00 1 -1",
+        "queue 00 1 x",
+        "queue 00 1 0x1",
+        "queue 00 1 18446744073709551616",
+        "queue 00 x 1",
+        "queue 00 1  1",
         "messages 0",
         "piece",
         "piece -1",
@@ -462,7 +468,7 @@ fn lines_that_break_the_rules() {
 /// Refusals 11 and 12, and what `messages` says.
 #[test]
 fn refused_messages() {
-    let queue = |n: usize, class: u64| Call::Queue(vec![7; n], Some(class));
+    let queue = |n: usize, class: u64| Call::Queue(vec![7; n], Said::Class(class));
     let mut h = Harness::new(Profile::usual());
     assert_eq!(number(&mut h, queue(1, 4)), 4);
     let mut h = connected();
@@ -500,6 +506,57 @@ fn refused_messages() {
     assert_eq!(number(&mut h, queue(1, 0)), 12);
 }
 
+/// Refusals 8, 9 and 12 of a queuing that withdraws.
+#[test]
+fn refused_after_a_withdrawal() {
+    let queue = |n: usize, label: u64| Call::Queue(vec![7; n], Said::Label(3, label));
+    let counts = |h: &Harness| (h.taken, h.station.out.len(), h.messages.len(), h.messages.withdrawn());
+    // Full by bytes: 8 is judged by what stays.
+    let mut h = connected();
+    assert_eq!(number(&mut h, queue(6_000, 1)), 0);
+    assert_eq!(number(&mut h, queue(10_384, 2)), 0);
+    for label in [0, 3, 65_536] {
+        assert_eq!(number(&mut h, queue(1, label)), 8);
+    }
+    assert_eq!(number(&mut h, queue(6_001, 1)), 8);
+    assert_eq!(counts(&h), (16_384, 16_384, 2, 0));
+    assert_eq!(number(&mut h, queue(6_000, 65_537)), 0);
+    assert_eq!(counts(&h), (22_384, 16_384, 2, 6_000));
+    assert_eq!(number(&mut h, queue(0, 2)), 0);
+    assert_eq!(counts(&h), (22_384, 16_384, 2, 6_000));
+    assert_eq!(h.messages.bytes(), h.station.out);
+    // 9 counts what is withdrawn as taken.
+    h.taken = 0xFFFF_FFFF - 5;
+    assert_eq!(number(&mut h, queue(6, 1)), 9);
+    assert_eq!(number(&mut h, queue(6_001, 1)), 8);
+    assert_eq!(number(&mut h, queue(5, 1)), 0);
+    assert_eq!(number(&mut h, queue(1, 1)), 9);
+    assert_eq!((h.taken, h.messages.withdrawn()), (0xFFFF_FFFF, 12_000));
+    // Full by messages: 12 is judged by those that stay.
+    let mut h = connected();
+    for label in 0..256 {
+        assert_eq!(number(&mut h, queue(1, label)), 0);
+    }
+    for label in [0, 256, 65_535] {
+        assert_eq!(number(&mut h, queue(1, label)), 12);
+        assert_eq!(number(&mut h, queue(0, label)), 0);
+    }
+    assert_eq!(counts(&h), (256, 256, 256, 0));
+    assert_eq!(number(&mut h, queue(1, 255)), 0);
+    assert_eq!(counts(&h), (257, 256, 256, 1));
+    // The begun one is not withdrawn, and counts.
+    let mut h = connected();
+    h.call(&queue(10_000, 9));
+    h.call(&Call::Burst);
+    assert!(h.messages.begun());
+    for label in 1..=255 {
+        assert_eq!(number(&mut h, queue(1, 100 + label)), 0);
+    }
+    assert_eq!(number(&mut h, queue(1, 9)), 12);
+    assert_eq!(number(&mut h, queue(2, 355)), 0);
+    assert_eq!((h.messages.len(), h.messages.withdrawn()), (256, 1));
+}
+
 #[test]
 fn messages_in_the_order_of_going() {
     let list = |calls: &str| answers(&format!("{}\n{calls}", connect(0.0, -20.0)));
@@ -516,6 +573,16 @@ fn messages_in_the_order_of_going() {
     let lines = list(&calls);
     let of_messages = lines.iter().find(|l| l.starts_with("messages")).unwrap();
     assert!(of_messages.starts_with("messages 2 1 0 3:0:") && of_messages.ends_with(" 0:0:1"));
+    // Labels: what is withdrawn is taken, and 65,536 is no label.
+    let calls =
+        "queue 0102 3 1\nqueue 03 3\nqueue 04 0 65535\nqueue 05 2 65537\nqueue 06 1 65536\nqueue - 1 65535\nmessages\n";
+    let lines = list(calls);
+    assert_eq!(lines[7], "messages 4 0 2 0:65535:1 1:0:1 2:1:1 3:0:1");
+    assert_eq!(lines[8], "end 6 4 0 0");
+    assert_eq!(
+        list("queue 00 3 18446744073709551615\nmessages\n")[2],
+        "messages 1 0 0 3:65535:1"
+    );
 }
 
 #[test]

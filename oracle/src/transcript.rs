@@ -121,12 +121,18 @@ pub fn state(out: &mut String, h: &Harness) {
     out.push('\n');
 }
 
-/// The line of `messages`. Labels and withdrawn bytes are those of a later change: 0.
+/// The line of `messages`.
 pub fn messages(out: &mut String, h: &Harness) {
     let order = h.messages.in_order();
-    let _ = write!(out, "messages {} {} 0", order.len(), h.messages.begun() as u8);
+    let _ = write!(
+        out,
+        "messages {} {} {}",
+        order.len(),
+        h.messages.begun() as u8,
+        h.messages.withdrawn()
+    );
     for m in order {
-        let _ = write!(out, " {}:0:{}", m.class, m.bytes.len());
+        let _ = write!(out, " {}:{}:{}", m.class, m.label, m.bytes.len());
     }
     out.push('\n');
 }

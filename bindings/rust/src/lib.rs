@@ -99,16 +99,22 @@ pub fn levels(profile: &Profile, class: ChanClass, low: u8, high: u8) -> Result<
 
 /// The four classes. A message once begun is finished; then the lowest class waiting goes, the earliest of it first.
 impl Message {
-    pub const FLASH: Message = Message { class: 0 };
-    pub const IMMEDIATE: Message = Message { class: 1 };
-    pub const PRIORITY: Message = Message { class: 2 };
-    pub const ROUTINE: Message = Message { class: 3 };
+    pub const FLASH: Message = Message { class: 0, label: 0 };
+    pub const IMMEDIATE: Message = Message { class: 1, label: 0 };
+    pub const PRIORITY: Message = Message { class: 2, label: 0 };
+    pub const ROUTINE: Message = Message { class: 3, label: 0 };
+
+    /// The same with a label, 1 to 65,535 (0: none): it supersedes those of its label that have not begun, of any class. Withdrawn bytes still count among
+    /// the 2^32 - 1 that a sender takes in all.
+    pub const fn labelled(self, label: u16) -> Message {
+        Message { class: self.class, label }
+    }
 }
 
 impl Messages {
-    /// Class and waiting bytes of each message, in the order in which they will go.
-    pub fn entries(&self) -> impl Iterator<Item = (u8, u16)> + '_ {
-        self.class.iter().copied().zip(self.left.iter().copied()).take(self.n)
+    /// Class, label and waiting bytes of each message, in the order in which they will go.
+    pub fn entries(&self) -> impl Iterator<Item = (u8, u16, u16)> + '_ {
+        (0..self.n.min(MAX_MESSAGES)).map(|i| (self.class[i], self.label[i], self.left[i]))
     }
 }
 
@@ -146,7 +152,7 @@ impl Station {
         &self.record.messages
     }
 
-    /// Queues bytes to send as one message; none make no message.
+    /// Queues bytes to send as one message, and withdraws those that its label supersedes; no bytes make no message and withdraw none.
     pub fn queue(&mut self, message: Message, bytes: &[u8]) -> Result<(), Refusal> {
         // SAFETY: pointers and lengths are those of live borrows that don't overlap.
         told(unsafe {

@@ -116,9 +116,9 @@ plain! {
     struct AtPeer { off: [u32; 64], bits: [u32; 64], n: usize, rest: usize, }
     struct LastBurst { off: [u32; 64], bits: [u32; 64], held: [u32; 64], n: usize, }
     struct Sender { gear: Gear, link: Link, counts: Counts, at_peer: AtPeer, last_burst: LastBurst, }
-    struct Messages { left: [u16; 256], class: [u8; 256], n: usize, begun: bool, }
+    struct Messages { left: [u16; 256], class: [u8; 256], label: [u16; 256], n: usize, withdrawn: u32, begun: bool, }
     struct Station { sender: Sender, messages: Messages, }
-    struct Message { class: u8, }
+    struct Message { class: u8, label: u16, }
     struct Heard { time: f64, wave: u8, snr_db: f32, }
     struct ConnAck { session: u8, snr_db: f32, class: ChanClass, slot: u8, cue: bool, }
     struct Ack {

@@ -131,13 +131,21 @@ longLine room chars r =
       ok = isDone chars payload;
     }
 
--- `queue` HEX [CLASS], with room for so many bytes of HEX: "without it class 3. A CLASS too wide reads as 255"
+-- `queue` HEX [CLASS [LABEL]], with room for so many bytes of HEX: "without it class 3. A CLASS too wide reads as 255"; "LABEL counts modulo
+-- 65,536", and without it there is none
 unfoldable pub queueLine : ℕ → List ℕ → Read → QueueLine
 queueLine room chars r =
     let bytes : Read = readAs (hexCount room) chars r in
     let class : Read = readAs decimalOf chars bytes in
-    let named : Bool = isDone chars class in
-    record { len = bytes .value; class = cond named (fieldByte (class .value)) 3; ok = named || isDone chars bytes }
+    let label : Read = readAs decimalOf chars class in
+    let labelled : Bool = isDone chars label in
+    let named : Bool = labelled || isDone chars class in
+    record {
+      len = bytes .value;
+      class = cond named (fieldByte (class .value)) 3;
+      label = cond labelled (label .value % 65536) 0;
+      ok = named || isDone chars bytes;
+    }
 
 -- `log` CALL START END ACKED, with room for so many bytes of CALL; ACKED above 2^32 - 1 breaks the rules
 unfoldable pub logLineRead : ℕ → List ℕ → Read → LinkLine

@@ -18,6 +18,7 @@ use words::single;
 use words::whole;
 ghost use mathlib.Core.Path.{_≡_};
 ghost use mathlib.Core.Bool.{cond};
+ghost use Prim.Native.Nat.{_%_};
 ghost use lib.ListN.{length};
 ghost use Rattle.words.specs.Words.{hexInto};
 ghost use Rattle.words.specs.Lines.{charsOf, nextWord};
@@ -252,10 +253,21 @@ fn class_of(named: bool, n: u64) -> u8
     ROUTINE
 }
 
-// A queuing's line: how many bytes it has, their class, and whether the line was right. The bytes are put at the start of `bytes`.
+// LABEL, where there is one.
+fn label_of(labelled: bool, n: u64) -> u16
+    ensures { λ r. ⌜ r ≡ cond labelled (n % 65536) 0 ⌝ }
+{
+    if labelled {
+        return (n % 65536) as u16;
+    }
+    0
+}
+
+// A queuing's line: how many bytes it has, their class and label, and whether the line was right. The bytes are put at the start of `bytes`.
 pub struct QueueLine {
     pub len: usize,
     pub class: u8,
+    pub label: u16,
     pub ok: bool,
 }
 
@@ -265,10 +277,13 @@ pub fn queue_words(line: &[u8], r: Read, bytes: &mut [u8]) -> QueueLine
 {
     let text = hex(line, r, bytes);
     let class = whole(line, text);
-    let named = done(line, class);
+    let label = whole(line, class);
+    let labelled = done(line, label);
+    let named = labelled | done(line, class);
     QueueLine {
         len: text.value as usize,
         class: class_of(named, class.value),
+        label: label_of(labelled, label.value),
         ok: named | done(line, text),
     }
 }

@@ -83,10 +83,11 @@ module _ (p : Profile) (t : Station) (a : List ℕ) where
 -- ---- all calls
 
 -- a queuing that is accepted leaves the link as it is
-queued-on : (t : Station) (a : List ℕ) (k : ℕ) (bs : List ℕ) → t .sender .link .connected ≡ true → queuedIn k bs t a .0 .sender .link .connected ≡ true
+queued-on : (t : Station) (a : List ℕ) (k l : ℕ) (bs : List ℕ) → t .sender .link .connected ≡ true
+    → queuedIn k l bs t a .0 .sender .link .connected ≡ true
 unfolding queuedIn storeStation store storeLink
-queued-on t a k [] e = e
-queued-on t a k (b ∷ bs) e = e
+queued-on t a k l [] e = e
+queued-on t a k l (b ∷ bs) e = e
 
 burst-on : (p : Profile) (s : Sender) (a out : List ℕ) → s .link .connected ≡ true → burstOf p s a out .0 .1 .link .connected ≡ true
 unfolding burstOf store storeLink
@@ -94,11 +95,13 @@ burst-on p s a out e = e
 
 pub quiet-next : (p : Profile) (i : Call) (c : State) → Quiet c → Quiet (next p i c)
 unfolding queueVerdict receiveVerdict burstVerdict
-quiet-next p (queues k bs) c q =
-    test (passed (queueVerdict p (c .0) (c .1) k (length bs)))
-    (λ e. subst Quiet (sym (queue-yes p c k bs e))
-    (λ f. absurd (false≢true (sym f ∙ queued-on (c .0) (c .1) k bs (stands-on p (c .0) (c .1) (first-passed (standing p (c .0) (c .1) false) _ e))))))
-    (λ e. subst Quiet (sym (queue-no p c k bs e)) q)
+quiet-next p (queues k l bs) c q =
+    test (passed (queueVerdict p (c .0) (c .1) k l (length bs)))
+    (λ e. subst Quiet (sym (queue-yes p c k l bs e))
+    (λ f.
+    let on = stands-on p (c .0) (c .1) (first-passed (standing p (c .0) (c .1) false) _ e) in
+    absurd (false≢true (sym f ∙ queued-on (c .0) (c .1) k l bs on))))
+    (λ e. subst Quiet (sym (queue-no p c k l bs e)) q)
 quiet-next p (hears h r b) c q =
     test (passed (receiveVerdict p (c .0) (c .1) h r (length b)))
     (λ e. subst Quiet (sym (hear-yes p c h r b e))

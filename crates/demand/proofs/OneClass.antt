@@ -1,16 +1,17 @@
--- Messages of a single class: a new one goes last, and queuings and bursts keep the class.
+-- Messages of a single class: a new one without a label goes last and withdraws none, and queuings and bursts keep the class.
 -- Assumes nothing.
 use Prim.Native.Nat.{ℕ, _-_}
 use mathlib.Core.Path.{_≡_, refl, sym, ap, _∙_}
-use mathlib.Core.Bool.{Bool, true, false}
+use mathlib.Core.Bool.{Bool, true, false, not}
 use mathlib.Core.List.{List, [], _∷_, _++_, append-assoc, append-nil}
 use native.Mathlib.Omega.{arith}
 use lib.Dec.{leb, eqb}
 use lib.ListN.{length}
 use borrow.Author.Tests.{le-leb}
 use Rattle.laws.proofs.Picks.{by}
-use Rattle.ledger.specs.Queue.{Message, Queue, messageBytes, goes, insert, first, behind, enqueue, fliesFrom, flies}
-use Rattle.ledger.proofs.Queue.{bytes-append}
+use Rattle.ledger.specs.Queue.{Message, Queue, messageBytes, goes, insert, first, behind, those, withdraws, enqueue, superseded}
+use Rattle.ledger.specs.Queue.{fliesFrom, flies}
+use Rattle.ledger.proofs.Queue.{bytes-append, first-behind}
 
 abbrev pub AllOf : ℕ → List Message → Type 0
 AllOf c [] = Unit {0}
@@ -25,20 +26,30 @@ behind-all c false ms h = h
 behind-all c true [] h = tt
 behind-all c true (x ∷ xs) h = h .1
 
-first-behind : (b : Bool) (ms : List Message) → first b ms ++ behind b ms ≡ ms
-first-behind false ms = refl
-first-behind true [] = refl
-first-behind true (x ∷ xs) = refl
+-- "0 is no label"
+stays-all : (ms : List Message) → those (λ (m : Message). not (withdraws 0 (m .label))) ms ≡ ms
+stays-all [] = refl
+stays-all (x ∷ xs) = ap (λ (ms : List Message). x ∷ ms) (stays-all xs)
 
-pub single : (c : ℕ) (bs : List ℕ) (q : Queue) → AllOf c (q .messages) → goes (enqueue c bs q) ≡ goes q ++ bs
+withdrawn-none : (ms : List Message) → those (λ (m : Message). withdraws 0 (m .label)) ms ≡ []
+withdrawn-none [] = refl
+withdrawn-none (x ∷ xs) = withdrawn-none xs
+
+pub superseded-none : (bs : List ℕ) (q : Queue) → superseded 0 bs q ≡ []
+unfolding superseded
+superseded-none [] q = refl
+superseded-none (b ∷ bs) q = withdrawn-none (behind (q .begun) (q .messages))
+
+pub single : (c : ℕ) (bs : List ℕ) (q : Queue) → AllOf c (q .messages) → goes (enqueue c 0 bs q) ≡ goes q ++ bs
 unfolding enqueue
 single c [] q h = sym (append-nil (goes q))
 single c (b ∷ bs) q h =
-    let m : Message = record { class = c; bytes = b ∷ bs } in
+    let m : Message = record { class = c; label = 0; bytes = b ∷ bs } in
     let f = first (q .begun) (q .messages) in
     let r = behind (q .begun) (q .messages) in
-    rw (insert-last c m r refl (behind-all c (q .begun) (q .messages) h), bytes-append f (r ++ (m ∷ [])), bytes-append r (m ∷ []))
-    (sym (append-assoc (messageBytes f) (messageBytes r) (messageBytes (m ∷ []))) ∙ rw (← bytes-append f r, first-behind (q .begun) (q .messages), append-nil (b ∷ bs)))
+    rw (stays-all r, insert-last c m r refl (behind-all c (q .begun) (q .messages) h))
+    (rw (bytes-append f (r ++ (m ∷ [])), bytes-append r (m ∷ []))
+    (sym (append-assoc (messageBytes f) (messageBytes r) (messageBytes (m ∷ []))) ∙ rw (← bytes-append f r, first-behind (q .begun) (q .messages), append-nil (b ∷ bs))))
 
 -- ---- a single class stays one
 
@@ -55,13 +66,15 @@ first-all c false ms h = tt
 first-all c true [] h = tt
 first-all c true (x ∷ xs) h = (h .0, tt)
 
-pub enqueue-all : (c : ℕ) (bs : List ℕ) (q : Queue) → AllOf c (q .messages) → AllOf c (enqueue c bs q .messages)
+pub enqueue-all : (c : ℕ) (bs : List ℕ) (q : Queue) → AllOf c (q .messages) → AllOf c (enqueue c 0 bs q .messages)
 unfolding enqueue
 enqueue-all c [] q h = h
 enqueue-all c (b ∷ bs) q h =
-    let m : Message = record { class = c; bytes = b ∷ bs } in
+    let m : Message = record { class = c; label = 0; bytes = b ∷ bs } in
     let late = behind (q .begun) (q .messages) in
-    all-append c (first (q .begun) (q .messages)) (insert m late) (first-all c (q .begun) (q .messages) h) (insert-all c m late refl (behind-all c (q .begun) (q .messages) h))
+    rw (stays-all late)
+    (all-append c (first (q .begun) (q .messages)) (insert m late) (first-all c (q .begun) (q .messages) h)
+    (insert-all c m late refl (behind-all c (q .begun) (q .messages) h)))
 
 flies-from-all : (c k : ℕ) (b : Bool) (ms : List Message) → AllOf c ms → AllOf c (fliesFrom k b ms .messages)
 flies-from-all c k b [] h = tt

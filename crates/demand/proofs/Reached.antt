@@ -7,7 +7,7 @@ use Prim.Native.Nat.{ℕ, zero, suc, _≤_, _<_}
 use native.Mathlib.Omega.{arith}
 use lib.Dec.{leb, eqb}
 use lib.ListN.{length, getD, replicate, length-replicate}
-use borrow.Author.Tests.{leb-true, leb-false}
+use borrow.Author.Tests.{leb-true, leb-false, le-leb}
 use Rattle.laws.proofs.Picks.{test, and-yes, and-first, and-second}
 use Rattle.laws.proofs.Tests.{all-at}
 use Rattle.config.specs.declared.Profile.{Profile}
@@ -17,12 +17,13 @@ use Rattle.config.proofs.ranges.Ranged.{ranged}
 use Rattle.ledger.specs.Calls.{Along}
 use Rattle.ledger.specs.ClaimCode.{LedgerClaim}
 use Rattle.ledger.specs.Tally.{silent}
-use Rattle.ledger.proofs.Refine.{Refines, refined, ok-after}
+use Rattle.ledger.proofs.Refine.{Refines, refined, sound-after, ok-after}
 use Rattle.area.specs.Layout.{areaBytes}
-use Rattle.queuing.specs.Station.{freshStation}
+use Rattle.queuing.specs.Station.{freshStation, viewStation}
 use Rattle.queuing.proofs.Shown.{fresh-shows}
 use Rattle.messages.proofs.Kept.{sound-ok, sound-none, sized-none}
 use Rattle.record.specs.Profiles.{sizesOf}
+use Rattle.record.specs.View.{view}
 use Rattle.record.proofs.View.{view-fresh}
 use Rattle.soundness.specs.Soundness.{soundOk}
 use Rattle.soundness.proofs.fields.Sound.{sound-test, profile-sizes}
@@ -30,16 +31,16 @@ use Rattle.laws.specs.Bytes.{Bytes}
 use Rattle.invariant.proofs.Well.{Well, fresh-well}
 use Rattle.refusals.specs.declared.Verdict.{Verdict}
 use Rattle.refusals.specs.Refusals.{kindOf}
-use Rattle.verdicts.specs.Verdicts.{passed, standing, firstOf, queueVerdict, receiveVerdict, burstVerdict}
+use Rattle.verdicts.specs.Verdicts.{passed, takenBy, standing, firstOf, queueVerdict, receiveVerdict, burstVerdict}
 use Rattle.verdicts.proofs.Passed.{standing-three}
 use Rattle.demand.specs.Lists.{Call, queues, hears, bursts, State, Given, freshStart, shown, next, told}
 use Rattle.demand.specs.Page.{messages, c, s, t}
 use Rattle.demand.specs.PageCode.{sizesFor, Reached}
 use Rattle.demand.proofs.Answers.{queue-no, queue-told, hear-no, hear-told, burst-no, burst-silent, burst-verdict}
-use Rattle.demand.proofs.Steps.{sizes, Ok, call, does}
+use Rattle.demand.proofs.Steps.{sizes, Ok, waiting-length, call, does}
 use Rattle.demand.proofs.Connected.{Quiet, quiet-next}
 use Rattle.demand.proofs.Sends.{sends}
-use Rattle.limits.specs.Limits.{minPayload}
+use Rattle.limits.specs.Limits.{minPayload, maxTaken}
 use Rattle.ledger.specs.Sizes.{Sizes}
 use Rattle.ledger.specs.CallsCode.{idle}
 use Rattle.ledger.specs.SizesCode.{SizeRange}
@@ -73,12 +74,21 @@ module _ (p : Profile) (rg : Ranged p) (io : inOrder p ≡ true) (six : length (
 
   module _ (n : ℕ) (large : areaBytes ≤ n) (is : List Call) (gs : Along (next p) Given is (freshStart n)) where
     through : (i : Call) → Given i (c p n is)
-        → LedgerClaim (sizesOf p) (messages p n is) (s p n is .sender) (s p n is .queue) (t p n is) (told p i (c p n is)) (shown (next p i (c p n is)) .sender)
+        → LedgerClaim (sizesOf p) (messages p n is) (s p n is) (t p n is) (told p i (c p n is)) (shown (next p i (c p n is)) .sender)
     through i g =
         refined (sizesOf p) (sizes p rg io six) State Call Given Fit (next p) shown (call p rg io six) (told p) refines (freshStart n) (fresh-shows (replicate n 0)) (fresh-fit n large) is gs i g
 
     pub well : Ok p rg io six (c p n is)
     well = ok-after (sizesOf p) (sizes p rg io six) State Call Given Fit (next p) shown (call p rg io six) (told p) refines (freshStart n) (fresh-shows (replicate n 0)) (fresh-fit n large) is gs .0
+
+    -- the bytes taken, those withdrawn among them, are within their limit
+    few-taken : takenBy (c p n is .0 .sender .counts) (c p n is .0 .messages) ≤ maxTaken
+    unfolding viewStation view
+    few-taken =
+        let so =
+        sound-after (sizesOf p) (sizes p rg io six) State Call Given Fit (next p) shown (call p rg io six) (told p) refines (freshStart n)
+        (fresh-shows (replicate n 0)) (fresh-fit n large) is gs in
+        omega (arith, so .taken, waiting-length p rg io six (c p n is .0 .sender) (c p n is .1) (well .well))
 
 -- ---- every call is refused
 
@@ -88,9 +98,9 @@ first-no v w e = ap (λ (t : Bool). passed (cond t w v)) e ∙ e
 module _ (p : Profile) (n : ℕ) (refused : (connect : Bool) → passed (standing p freshStation (replicate n 0) connect) ≡ false) where
   pub stays : (i : Call) → (next p i (freshStart n) ≡ freshStart n) × (told p i (freshStart n) ≡ silent)
   unfolding queueVerdict receiveVerdict burstVerdict
-  stays (queues k bs) =
+  stays (queues k l bs) =
       let e = first-no (standing p freshStation (replicate n 0) false) _ (refused false) in
-      (queue-no p (freshStart n) k bs e, queue-told p (freshStart n) k bs false e)
+      (queue-no p (freshStart n) k l bs e, queue-told p (freshStart n) k l bs false e)
   stays (hears h r b) =
       let e = first-no (standing p freshStation (replicate n 0) (eqb (kindOf r) 0)) _ (refused (eqb (kindOf r) 0)) in
       (hear-no p (freshStart n) h r b e, hear-told p (freshStart n) h r b false e)
@@ -110,7 +120,7 @@ module _ (p : Profile) (n : ℕ) (refused : (connect : Bool) → passed (standin
 
     module _ (is : List Call) (gs : Along (next p) Given is (freshStart n)) where
       refused-all : (i : Call) → Given i (c p n is)
-          → LedgerClaim z (messages p n is) (s p n is .sender) (s p n is .queue) (t p n is) (told p i (c p n is)) (shown (next p i (c p n is)) .sender)
+          → LedgerClaim z (messages p n is) (s p n is) (t p n is) (told p i (c p n is)) (shown (next p i (c p n is)) .sender)
       refused-all i g =
           refined z zr State Call Given (λ (c : State). c ≡ freshStart n) (next p) shown (λ (j : Call) (c : State). idle) (told p) idles (freshStart n) (fresh-shows (replicate n 0)) refl is gs i g
 
@@ -137,7 +147,7 @@ least-sizes = record { least = omega arith; order = omega arith; most = omega ar
 
 module _ (p : Profile) (six : length (p .codes .ends) ≤ 6) (n : ℕ) (is : List Call) (gs : Along (next p) Given is (freshStart n)) where
   abbrev Claimed : Sizes → Call → Type 0
-  Claimed z i = LedgerClaim z (messages p n is) (s p n is .sender) (s p n is .queue) (t p n is) (told p i (c p n is)) (shown (next p i (c p n is)) .sender)
+  Claimed z i = LedgerClaim z (messages p n is) (s p n is) (t p n is) (told p i (c p n is)) (shown (next p i (c p n is)) .sender)
 
   sizes-for : (b : Bool) → (inRange p && inOrder p) ≡ b → sizesFor p ≡ cond b (sizesOf p) (record { short = minPayload; long = minPayload; top = 0 })
   sizes-for b e = ap (λ (x : Bool). cond x (sizesOf p) (record { short = minPayload; long = minPayload; top = 0 })) e
@@ -163,7 +173,9 @@ module _ (p : Profile) (six : length (p .codes .ends) ≤ 6) (n : ℕ) (is : Lis
       let w = well p rg io six n l is gs in
       record {
         ledger = subst (λ (x : Sizes). Claimed x i) (sym (sizes-for true v)) (through p rg io six n l is gs i g);
-        sound = λ x y. and-yes _ _ (sound-ok _ _ (w .listed)) (sound-test p (c p n is .0 .sender) (c p n is .1) (w .well .sound) (w .well .arrays));
+        sound = λ x y.
+            let so = sound-test p (c p n is .0 .sender) (c p n is .1) (w .well .sound) (w .well .arrays) in
+            and-yes _ _ (sound-ok _ _ (w .listed)) (and-yes _ _ so (le-leb _ _ (few-taken p rg io six n l is gs)));
         sends = λ out ok. sends p rg io six n is w out (through p rg io six n l is gs (bursts out) tt) ok;
       }
 

@@ -2,14 +2,14 @@
 -- Assumes nothing.
 use Prim.Native.Nat.{ℕ, _+_}
 use mathlib.Core.Path.{_≡_, refl, ap}
-use lib.ListN.{drop, getD}
+use lib.ListN.{length, drop, getD}
 use mathlib.Core.Bool.{Bool, true, false}
 use mathlib.Core.List.{List, [], _∷_, _++_}
 use native.Mathlib.Omega.{arith}
 use Rattle.ledger.specs.Sizes.{Sizes}
 use Rattle.ledger.specs.Reply.{Reply, shortAck}
 use Rattle.ledger.specs.Ledger.{Piece, Sender, Plan, requeue, dataBurst, hearAck, settleBurst, clearBurst}
-use Rattle.ledger.specs.Queue.{enqueue, flies, begins, message}
+use Rattle.ledger.specs.Queue.{enqueue, superseded, flies, begins, message}
 use Rattle.ledger.specs.Station.{Station}
 use Rattle.ledger.specs.Tally.{Event, start, queued, sentOut, heard}
 use Rattle.ledger.specs.Calls.{run, history, tally}
@@ -24,7 +24,7 @@ all n = record { number = n; bit = λ frames i. true }
 
 -- the ledger's station after a call, its sender changed
 abbrev with : (Sender → Sender) → Station → Station
-with f s = record { sender = f (s .sender); queue = s .queue }
+with f s = record { sender = f (s .sender); queue = s .queue; withdrawn = s .withdrawn }
 
 -- bytes of no piece fly, and so many more are said to be acknowledged
 abbrev invented : Sender → Sender
@@ -42,7 +42,7 @@ other-byte x = record { waiting = x .waiting; next = x .next; acked = x .acked; 
 abbrev nothing-settled : Move → Station → Station
 nothing-settled (hears r keep) s = with clearBurst s
 nothing-settled idle s = s
-nothing-settled (queues c bs) s = step sizes (queues c bs) s
+nothing-settled (queues c l bs) s = step sizes (queues c l bs) s
 nothing-settled turns s = step sizes turns s
 nothing-settled (bursts g) s = step sizes (bursts g) s
 
@@ -50,7 +50,7 @@ nothing-settled (bursts g) s = step sizes (bursts g) s
 abbrev all-settled : Move → Station → Station
 all-settled (hears r keep) s = with (hearAck 2 (all (r .number)) keep) s
 all-settled idle s = s
-all-settled (queues c bs) s = step sizes (queues c bs) s
+all-settled (queues c l bs) s = step sizes (queues c l bs) s
 all-settled turns s = step sizes turns s
 all-settled (bursts g) s = step sizes (bursts g) s
 
@@ -58,28 +58,57 @@ all-settled (bursts g) s = step sizes (bursts g) s
 abbrev count-invented : Move → Station → Station
 count-invented (hears r keep) s = with invented (step sizes (hears r keep) s)
 count-invented idle s = s
-count-invented (queues c bs) s = step sizes (queues c bs) s
+count-invented (queues c l bs) s = step sizes (queues c l bs) s
 count-invented turns s = step sizes turns s
 count-invented (bursts g) s = step sizes (bursts g) s
 
 abbrev byte-altered : Move → Station → Station
 byte-altered (bursts g) s = with other-byte (step sizes (bursts g) s)
 byte-altered idle s = s
-byte-altered (queues c bs) s = step sizes (queues c bs) s
+byte-altered (queues c l bs) s = step sizes (queues c l bs) s
 byte-altered (hears r keep) s = step sizes (hears r keep) s
 byte-altered turns s = step sizes turns s
 
 -- a new message goes last, whatever its class
 abbrev in-order-of-arrival : Move → Station → Station
-in-order-of-arrival (queues c bs) s =
+in-order-of-arrival (queues c l bs) s =
     record {
       sender = requeue (s .sender .waiting ++ bs) (s .sender);
-      queue = record { begun = s .queue .begun; messages = s .queue .messages ++ message c bs };
+      queue = record { begun = s .queue .begun; messages = s .queue .messages ++ message c l bs };
+      withdrawn = s .withdrawn;
     }
 in-order-of-arrival idle s = s
 in-order-of-arrival (hears r keep) s = step sizes (hears r keep) s
 in-order-of-arrival turns s = step sizes turns s
 in-order-of-arrival (bursts g) s = step sizes (bursts g) s
+
+-- the older bulletin is not withdrawn
+abbrev older-stays : Move → Station → Station
+older-stays (queues c l bs) s = step sizes (queues c 0 bs) s
+older-stays idle s = s
+older-stays (hears r keep) s = step sizes (hears r keep) s
+older-stays turns s = step sizes turns s
+older-stays (bursts g) s = step sizes (bursts g) s
+
+-- a queuing withdraws the begun message too
+abbrev begun-withdrawn : Move → Station → Station
+begun-withdrawn (queues c l bs) s =
+    step sizes (queues c l bs)
+    (record { sender = s .sender; queue = record { begun = false; messages = s .queue .messages }; withdrawn = s .withdrawn })
+begun-withdrawn idle s = s
+begun-withdrawn (hears r keep) s = step sizes (hears r keep) s
+begun-withdrawn turns s = step sizes turns s
+begun-withdrawn (bursts g) s = step sizes (bursts g) s
+
+-- the bytes withdrawn are not counted
+abbrev uncounted : Move → Station → Station
+uncounted (queues c l bs) s =
+    let x = step sizes (queues c l bs) s in
+    record { sender = x .sender; queue = x .queue; withdrawn = s .withdrawn }
+uncounted idle s = s
+uncounted (hears r keep) s = step sizes (hears r keep) s
+uncounted turns s = step sizes turns s
+uncounted (bursts g) s = step sizes (bursts g) s
 
 module _ (wrong : Move → Station → Station) where
   abbrev says : Move → Station → Event
@@ -88,35 +117,66 @@ module _ (wrong : Move → Station → Station) where
   abbrev Holds : List Move → Type 0
   Holds cs = Accounts (history wrong says cs freshStation) (tally wrong says cs freshStation start) (run wrong cs freshStation)
 
-abbrev two : Plan
-two = record { payload = 8; merging = false; parity = 0; room = 2; slot = 1; increment = λ h. 1; number = 1 }
+-- bursts of one frame and of two
+abbrev frames : ℕ → Plan
+frames n = record { payload = 8; merging = false; parity = 0; room = n; slot = 1; increment = λ h. 1; number = 1 }
+
+abbrev nine : List ℕ
+nine = 1 ∷ 2 ∷ 3 ∷ 4 ∷ 5 ∷ 6 ∷ 7 ∷ 8 ∷ 9 ∷ []
 
 -- nine bytes in two frames, and an ack with this bitmap
 abbrev calls : ℕ → List Move
-calls bitmap = queues 3 (1 ∷ 2 ∷ 3 ∷ 4 ∷ 5 ∷ 6 ∷ 7 ∷ 8 ∷ 9 ∷ []) ∷ bursts two ∷ hears (shortAck 1 bitmap) false ∷ []
+calls bitmap = queues 3 0 nine ∷ bursts (frames 2) ∷ hears (shortAck 1 bitmap) false ∷ []
 
 pub right-first : run (step sizes) (calls 1) freshStation .sender .acked ≡ 8
 unfolding requeue enqueue flies begins dataBurst hearAck settleBurst clearBurst
 right-first = refl
 
 pub no-settling : Holds nothing-settled (calls 1) → ⊥
-unfolding requeue enqueue flies begins dataBurst hearAck settleBurst clearBurst queued sentOut heard
+unfolding requeue enqueue superseded flies begins dataBurst hearAck settleBurst clearBurst queued sentOut heard
 no-settling d = omega (arith, d .covers 0)
 
 pub no-settling-all : Holds all-settled (calls 1) → ⊥
-unfolding requeue enqueue flies begins dataBurst hearAck settleBurst clearBurst queued sentOut heard
+unfolding requeue enqueue superseded flies begins dataBurst hearAck settleBurst clearBurst queued sentOut heard
 no-settling-all d = omega (arith, d .covers 8)
 
 pub no-inventing : Holds count-invented (calls 0) → ⊥
-unfolding requeue enqueue flies begins dataBurst hearAck settleBurst clearBurst queued sentOut heard
+unfolding requeue enqueue superseded flies begins dataBurst hearAck settleBurst clearBurst queued sentOut heard
 no-inventing d = omega (arith, d .acked)
 
 -- the first byte is 1
-pub no-altering : Holds byte-altered (queues 3 (1 ∷ 2 ∷ 3 ∷ []) ∷ bursts two ∷ []) → ⊥
-unfolding requeue enqueue flies begins dataBurst hearAck settleBurst clearBurst queued sentOut heard
+pub no-altering : Holds byte-altered (queues 3 0 (1 ∷ 2 ∷ 3 ∷ []) ∷ bursts (frames 2) ∷ []) → ⊥
+unfolding requeue enqueue superseded flies begins dataBurst hearAck settleBurst clearBurst queued sentOut heard
 no-altering d = omega (arith, ap (λ (l : List ℕ). getD l 0 0) (d .holds .1))
 
 -- routine and then flash: the flash message waits first
-pub no-arrival-order : Holds in-order-of-arrival (queues 3 (1 ∷ []) ∷ queues 0 (2 ∷ []) ∷ []) → ⊥
+pub no-arrival-order : Holds in-order-of-arrival (queues 3 0 (1 ∷ []) ∷ queues 0 0 (2 ∷ []) ∷ []) → ⊥
 unfolding requeue enqueue queued
 no-arrival-order d = omega (arith, ap (λ (l : List ℕ). getD l 0 0) (d .waiting))
+
+-- two bulletins with the label 7
+abbrev bulletins : List Move
+bulletins = queues 3 7 (1 ∷ []) ∷ queues 3 7 (2 ∷ []) ∷ []
+
+pub right-withdrawn : run (step sizes) bulletins freshStation .withdrawn ≡ 1
+unfolding requeue enqueue superseded
+right-withdrawn = refl
+
+-- a message withdrawn never flies
+pub no-withdrawn-flying : Holds older-stays (queues 3 7 (1 ∷ []) ∷ queues 3 7 (2 ∷ []) ∷ bursts (frames 2) ∷ []) → ⊥
+unfolding requeue enqueue superseded flies begins dataBurst queued sentOut
+no-withdrawn-flying d = omega (arith, ap length (d .holds .1))
+
+-- nor is it said to wait
+pub no-older : Holds older-stays bulletins → ⊥
+unfolding requeue enqueue superseded queued
+no-older d = omega (arith, ap length (d .waiting))
+
+pub no-uncounted : Holds uncounted bulletins → ⊥
+unfolding requeue enqueue superseded queued
+no-uncounted d = omega (arith, d .withdrawn)
+
+-- eight of nine bytes fly, and the ninth still waits when a newer bulletin comes
+pub no-begun-withdrawn : Holds begun-withdrawn (queues 3 7 nine ∷ bursts (frames 1) ∷ queues 3 7 (10 ∷ []) ∷ []) → ⊥
+unfolding requeue enqueue superseded flies begins dataBurst queued sentOut
+no-begun-withdrawn d = omega (arith, ap length (d .waiting))

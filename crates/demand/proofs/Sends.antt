@@ -45,7 +45,7 @@ use Rattle.demand.proofs.OnTime.{on-time, sum-bits}
 
 module _ (p : Profile) (rg : Ranged p) (io : inOrder p ≡ true) (six : length (p .codes .ends) ≤ 6) (n : ℕ) (is : List Call)
     (w : Ok p rg io six (c p n is)) (out : List ℕ)
-    (q : LedgerClaim (sizesOf p) (messages p n is) (s p n is .sender) (s p n is .queue) (t p n is) (told p (bursts out) (c p n is)) (shown (next p (bursts out) (c p n is)) .sender))
+    (q : LedgerClaim (sizesOf p) (messages p n is) (s p n is) (t p n is) (told p (bursts out) (c p n is)) (shown (next p (bursts out) (c p n is)) .sender))
     (ok : passed (burstCall p (c p n is .0) (c p n is .1) out .0 .verdict) ≡ true) where
   go : passed (burstVerdict p (c p n is .0) (c p n is .1) (length out)) ≡ true
   go = ap passed (sym (burst-verdict p (c p n is) out)) ∙ ok

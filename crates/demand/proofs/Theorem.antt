@@ -40,7 +40,7 @@ hold bs ys m k n (q ∷ ps) a f =
 pub demand3 : DemandThree
 demand3 p six n is gs =
     let d : (i : Call) → Given i (c p n is) → Reached p n is i = reached p six n is gs in
-    let q = d (queues 0 []) (λ i. omega arith) in
+    let q = d (queues 0 0 []) (λ i. omega arith) in
     let l = q .ledger in (
       record {
         sum = l .sum;
@@ -49,7 +49,9 @@ demand3 p six n is gs =
         whole = l .history;
         ascend = l .order;
         earliest = l .earliest;
+        newest = l .newest;
         queue = l .queue;
+        withdrawn = l .withdrawn;
         waiting = l .waiting;
         covers = l .covers;
         holds = hold _ (waits (t p n is)) _ 0 (s p n is .sender .next) (s p n is .sender .pieces) (l .ascends) (λ o k h. l .holds o h);

@@ -23,7 +23,7 @@ use Rattle.gear.specs.declared.Gear.{Gear}
 use Rattle.ledger.specs.Calls.{Along, run, history, tally}
 use Rattle.ledger.specs.Claim.{covering, flyingAt, ackedAt, settledBy}
 use Rattle.ledger.specs.Ledger.{Sender, Piece, Frame, Sent, len, find, heldOffs}
-use Rattle.ledger.specs.Queue.{Message, messageBytes, behind, rest, count, ofClass, Ascending}
+use Rattle.ledger.specs.Queue.{Message, messageBytes, behind, rest, count, withdraws, ofClass, Ascending, Sublist}
 use Rattle.ledger.specs.Station as L
 use Rattle.ledger.specs.Tally as T
 use Rattle.ledger.specs.Tally.{Tally, Event, byteOf, inFlight, acknowledged, waits, feed}
@@ -48,21 +48,25 @@ unbegun t = behind (t .queue .begun) (t .queue .messages)
 
 -- After a list of calls: ms are the messages queued, in order; t is the tally; s is what record and work area show.
 pub record Accounts (ms : List Message) (t : Tally) (s : L.Station) : Type 0 where
-  -- Of the tally alone: taken = waiting + in flight + acknowledged
-  pub sum : t .taken ≡ length (waits t) + inFlight (t .flown) + acknowledged (t .flown)
+  -- Of the tally alone: taken = waiting + in flight + acknowledged + withdrawn
+  pub sum : t .taken ≡ length (waits t) + inFlight (t .flown) + acknowledged (t .flown) + length (messageBytes (t .withdrawn))
   pub taken : t .taken ≡ length (messageBytes ms)
-  -- each message queued is in exactly one: begun, or not begun
-  pub each : (q : Message → Bool) → count q ms ≡ count q (t .began) + count q (unbegun t)
+  -- each message queued is in exactly one: begun, not begun, or withdrawn; so "a message withdrawn has never been on the air"
+  pub each : (q : Message → Bool) → count q ms ≡ count q (t .began) + count q (unbegun t) + count q (t .withdrawn)
   -- "A message once begun is finished": the flown bytes, acknowledged or not, with what is left of the begun message, are the begun messages one
   -- after the other
   pub whole : map byteOf (t .flown) ++ rest (t .queue) ≡ messageBytes (t .began)
   -- "Then the lowest class waiting goes": classes ascend behind the begun message; "the earliest of it first": those of a class began, and
-  -- wait, in the order in which they were queued
+  -- wait, in the order in which they were queued, the withdrawn ones left out
   pub ascend : Ascending 0 (unbegun t)
-  pub earliest : (c : ℕ) → ofClass c ms ≡ ofClass c (t .began) ++ ofClass c (unbegun t)
+  pub earliest : (c : ℕ) → Sublist (ofClass c (t .began) ++ ofClass c (unbegun t)) (ofClass c ms)
+  -- "A newer bulletin supersedes the older": of those that have not begun one at most bears a label
+  pub newest : (l : ℕ) → count (λ (m : Message). withdraws l (m .label)) (unbegun t) ≤ 1
   -- Of the sender: the messages, and the waiting bytes in their order; each offset in flight in one piece and no other in any; in the pieces
   -- the bytes taken; the count acknowledged; the next offset
   pub queue : s .queue ≡ t .queue
+  -- the bytes withdrawn
+  pub withdrawn : s .withdrawn ≡ length (messageBytes (t .withdrawn))
   pub waiting : s .sender .waiting ≡ waits t
   pub covers : (o : ℕ) → covering o (s .sender .pieces) ≡ flyingAt o (t .flown)
   pub holds : Hold (byOffset t) (s .sender .pieces)

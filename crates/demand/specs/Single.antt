@@ -1,5 +1,5 @@
--- "WITH A SINGLE CLASS THE RUST IS STILL EQUALLED" (document 02, Change 1): over every list of calls that queues with one class, record, work area
--- and answers are those of the base, the queuings refused by 12 left out. Definitions only.
+-- "WITH A SINGLE CLASS AND NO LABELS THE RUST IS STILL EQUALLED" (document 02, Changes 1 and 6): over every list of calls that queues with one class
+-- and no label, record, work area and answers are those of the base, the queuings refused by 12 left out. Definitions only.
 -- To believe beside it: Lists.antt; of crates/sender Base.antt (the base's calls).
 use mathlib.Core.Path.{_≡_}
 use mathlib.Core.List.{List, [], _∷_}
@@ -27,9 +27,9 @@ pub data BaseCall : Type 0 where
   hearsReply : Heard → Reply → List ℕ → BaseCall
   burstsInto : List ℕ → BaseCall
 
--- the class left off
+-- class and label left off
 abbrev pub plain : Call → BaseCall
-plain (queues k bs) = queuesBytes bs
+plain (queues k l bs) = queuesBytes bs
 plain (hears h r b) = hearsReply h r b
 plain (bursts out) = burstsInto out
 
@@ -65,7 +65,7 @@ module _ (p : Profile) where
   -- ---- the station
 
   abbrev pub said : Call → State → Said
-  said (queues k bs) c = justVerdict (queueOf p (c .0) (c .1) k bs .0 .verdict)
+  said (queues k l bs) c = justVerdict (queueOf p (c .0) (c .1) k l bs .0 .verdict)
   said (hears h r b) c = justVerdict (receiveOf p (c .0) (c .1) h r b .0 .verdict)
   said (bursts out) c = let x = burstCall p (c .0) (c .1) out in record { verdict = x .0 .verdict; outgoing = x .0 .outgoing; out = x .1 .1 }
 
@@ -73,7 +73,7 @@ module _ (p : Profile) where
   abbrev pub tooMany : Call → State → Bool
   tooMany i c = eqb (numberOf (said i c .verdict)) 12
 
-  -- the calls that are not refused by 12, their classes left off, and what they answer
+  -- the calls that are not refused by 12, their classes and labels left off, and what they answer
   abbrev pub erased : List Call → State → List BaseCall
   erased [] c = []
   erased (i ∷ is) c = cond (tooMany i c) (erased is (next p i c)) (plain i ∷ erased is (next p i c))
@@ -82,9 +82,9 @@ module _ (p : Profile) where
   allSaid [] c = []
   allSaid (i ∷ is) c = cond (tooMany i c) (allSaid is (next p i c)) (said i c ∷ allSaid is (next p i c))
 
--- all that is queued has class k
+-- all that is queued has class k and no label
 abbrev pub OneClass : ℕ → Call → State → Type 0
-OneClass k (queues j bs) c = j ≡ k
+OneClass k (queues j l bs) c = (j ≡ k) × (l ≡ 0)
 OneClass k (hears h r b) c = Unit {0}
 OneClass k (bursts out) c = Unit {0}
 

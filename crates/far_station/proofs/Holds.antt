@@ -84,7 +84,7 @@ Idle s = s .awaited ≡ false → s .sent ≡ []
 idle-step : (z : Sizes) (k : C.Move) (q : Queue) (s : L.Sender) → Idle s → Idle (C.senderAfter z k q s)
 unfolding hearAck requeue clearBurst settleBurst dataBurst
 idle-step z C.idle q s i = i
-idle-step z (C.queues c bs) q s i = i
+idle-step z (C.queues c l bs) q s i = i
 idle-step z (C.hears r keep) q s i = by Idle (s .awaited) (λ w. either Idle (settles r s) _ _ (λ e. refl) (λ e. refl)) (λ w. i)
 idle-step z C.turns q s i = λ e. refl
 idle-step z (C.bursts g) q s i = λ e. absurd (false≢true (sym e))
@@ -227,16 +227,16 @@ module _ (p : Profile) (rg : Ranged p) (io : inOrder p ≡ true) (six : length (
   same-bounded : (j : Option Float) (s d : Sender) → Same s d → Bounded j s → Bounded j d
   same-bounded j s d e b = (subst (Each (EndsBy p j)) (sym (e .0)) (b .0), subst (Since j) (sym (e .1)) (b .1))
 
-  queued-same : (k : ℕ) (bs : List ℕ) (u : Station) (a : List ℕ) → Same (u .sender) (queuedIn k bs u a .0 .sender)
+  queued-same : (k l : ℕ) (bs : List ℕ) (u : Station) (a : List ℕ) → Same (u .sender) (queuedIn k l bs u a .0 .sender)
   unfolding queuedIn storeStation store storeLink
-  queued-same k [] u a = (refl, refl)
-  queued-same k (b ∷ bs) u a = (refl, refl)
+  queued-same k l [] u a = (refl, refl)
+  queued-same k l (b ∷ bs) u a = (refl, refl)
 
-  queue-same : (k : ℕ) (bs : List ℕ) (c : State) → Same (c .0 .sender) (next p (queues k bs) c .0 .sender)
-  queue-same k bs c =
-      test (passed (queueVerdict p (c .0) (c .1) k (length bs)))
-      (λ e. subst (λ (d : State). Same (c .0 .sender) (d .0 .sender)) (sym (queue-yes p c k bs e)) (queued-same k bs (c .0) (c .1)))
-      (λ e. subst (λ (d : State). Same (c .0 .sender) (d .0 .sender)) (sym (queue-no p c k bs e)) (refl, refl))
+  queue-same : (k l : ℕ) (bs : List ℕ) (c : State) → Same (c .0 .sender) (next p (queues k l bs) c .0 .sender)
+  queue-same k l bs c =
+      test (passed (queueVerdict p (c .0) (c .1) k l (length bs)))
+      (λ e. subst (λ (d : State). Same (c .0 .sender) (d .0 .sender)) (sym (queue-yes p c k l bs e)) (queued-same k l bs (c .0) (c .1)))
+      (λ e. subst (λ (d : State). Same (c .0 .sender) (d .0 .sender)) (sym (queue-no p c k l bs e)) (refl, refl))
 
   sent-same : (s : Sender) (a out : List ℕ) → Same s (burstOf p s a out .0 .1)
   unfolding burstOf store storeLink
@@ -278,7 +278,8 @@ module _ (p : Profile) (rg : Ranged p) (io : inOrder p ≡ true) (six : length (
 
   call-bounded : (i : Call) (c : State) (t : Tally) (j : Option Float) → Carried c t j
       → Bounded (judgedBy i (told p i c) (t .out) j) (next p i c .0 .sender)
-  call-bounded (queues k bs) c t j b = same-bounded j (c .0 .sender) (next p (queues k bs) c .0 .sender) (queue-same k bs c) (b .bounded)
+  call-bounded (queues k l bs) c t j b =
+      same-bounded j (c .0 .sender) (next p (queues k l bs) c .0 .sender) (queue-same k l bs c) (b .bounded)
   call-bounded (bursts out) c t j b = same-bounded j (c .0 .sender) (next p (bursts out) c .0 .sender) (burst-same out c) (b .bounded)
   call-bounded (hears h r pl) c t j b = hear-bounded h r pl c t j b
 

@@ -45,7 +45,7 @@ never-held p k h = go k 17 h
 
 module _ (p : Profile) (n : ℕ) (refused : (connect : Bool) → passed (standing p freshStation (replicate n 0) connect) ≡ false) where
   unjudged : (i : Call) (t : Tally) → judgedBy i (told p i (freshStart n)) (t .out) none ≡ none
-  unjudged (queues k bs) t = refl
+  unjudged (queues k l bs) t = refl
   unjudged (bursts out) t = refl
   unjudged (hears h r b) t = ap (λ (e : Event). judgedBy (hears h r b) e (t .out) none) (stays p n refused (hears h r b) .1)
 

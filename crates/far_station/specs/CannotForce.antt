@@ -57,7 +57,7 @@ chunksWithin n (suc k) m o (x ∷ w) =
 -- whether a call that is told as e is a judged reply: "an awaited ack, or a turn that ends an outstanding burst with a frame"
 abbrev pub judges : Event → Outstanding → Bool
 judges silent out = false
-judges (took k bs) out = false
+judges (took k l bs) out = false
 judges (reply r) nothing = false
 judges (reply r) (outstanding n fs) = true
 judges turn nothing = false
@@ -67,7 +67,7 @@ judges (went n fs) out = false
 
 -- the time of the last judged reply, where it was j before the call
 abbrev pub judgedBy : Call → Event → Outstanding → Option Float → Option Float
-judgedBy (queues k bs) e out j = j
+judgedBy (queues k l bs) e out j = j
 judgedBy (hears h r payload) e out j = cond (judges e out) (some (h .time)) j
 judgedBy (bursts o) e out j = j
 

@@ -1,6 +1,6 @@
 -- What of the ledger's sender a record and a work area need to hold it: it comes out of a sound sender whose bytes are bytes, and every call keeps it.
 -- Assumes nothing.
-use mathlib.Core.Path.{_≡_, _∙_}
+use mathlib.Core.Path.{_∙_}
 use mathlib.Core.List.{List, [], _∷_, _++_}
 use mathlib.Core.Bool.{Bool}
 use Prim.Native.Nat.{ℕ, _+_, zero, suc, _/_, _≤_}
@@ -12,6 +12,7 @@ use Rattle.laws.specs.Little.{le}
 use Rattle.laws.proofs.Bytes.{length-over}
 use Rattle.laws.proofs.Little.{bytes-take, bytes-drop, bytes-part}
 use Rattle.laws.proofs.Picks.{either}
+use Rattle.limits.specs.Limits.{maxWaiting, maxTaken}
 use Rattle.ledger.specs.Reply.{Reply}
 use Rattle.ledger.specs.Ledger as L
 use Rattle.ledger.specs.Ledger.{Piece, Sent, bytesOf, remove, remaining, settles, settleBurst, clearBurst, requeue, hearAck}
@@ -28,7 +29,6 @@ use Rattle.record.specs.View.{view, rowsOf, storeArea, storeHeld, storeSent, st
 use Rattle.record.specs.declared.Sender.{Sender}
 use Rattle.record.proofs.View.{Fits, Holds, Arrays}
 use Rattle.ledger.specs.Sizes.{Sizes}
-use Rattle.ledger.specs.CallsCode.{Allowed, queues}
 use Rattle.ledger.specs.SizesCode.{SizeRange}
 
 -- ---- room
@@ -139,6 +139,6 @@ module _ (z : Sizes) (zr : SizeRange z) (l : L.Sender) (k : Kept z l) where
   unfolding clearBurst
   clear-kept = record { sound = clear-sound z l (k .sound); pieces = k .pieces; waiting = k .waiting }
 
-  pub queue-kept : (c : ℕ) (bs w : List ℕ) → Bytes w → Allowed z (queues c bs) l → length w ≡ length (l .waiting) + length bs → Kept z (requeue w l)
+  pub queue-kept : (w : List ℕ) → Bytes w → length w ≤ maxWaiting → l .next + length w ≤ maxTaken → Kept z (requeue w l)
   unfolding requeue
-  queue-kept c bs w by al e = record { sound = queue-sound z c bs w l al e (k .sound); pieces = k .pieces; waiting = by }
+  queue-kept w by h h′ = record { sound = queue-sound z w l h h′ (k .sound); pieces = k .pieces; waiting = by }

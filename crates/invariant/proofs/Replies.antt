@@ -43,8 +43,7 @@ use Rattle.invariant.proofs.Gears.{class-well, ack-gear-well, connected
 use Rattle.invariant.proofs.Outcomes.{outcome-counts}
 use Rattle.invariant.proofs.Ledgers.{on-ack-kept, clear-kept, queue-kept}
 use Rattle.invariant.proofs.Well.{Well, well-gear, well-kept, given-well, stored-well}
-use Rattle.limits.specs.Limits.{maxNumber}
-use Rattle.ledger.specs.CallsCode.{Allowed, queues}
+use Rattle.limits.specs.Limits.{maxNumber, maxWaiting, maxTaken}
 use Rattle.ledger.specs.SizesCode.{SizeRange}
 use Rattle.soundness.specs.SoundnessCode.{SoundLink}
 
@@ -119,11 +118,11 @@ module _ (p : Profile) (rg : Ranged p) (io : inOrder p ≡ true) where
       (record { time = i .time .high; number = k .number; heard = k .heard; notBelow = k .notBelow; notAbove = k .notAbove })
 
   -- w waits then
-  pub queued-well : (c : ℕ) (bs w : List ℕ) (s : Sender) (a : List ℕ) → Bytes w → Allowed (sizesOf p) (queues c bs) (view s a) → length w ≡ length (view s a .waiting) + length bs
+  pub queued-well : (w : List ℕ) (s : Sender) (a : List ℕ) → Bytes w → length w ≤ maxWaiting → view s a .next + length w ≤ maxTaken
       → Well p s a → Well p (store (requeue w (view s a)) s) (storeArea (requeue w (view s a)) a)
-  queued-well c bs w s a by al e wl =
-      stored-well p zr (requeue w (view s a)) s a (s .gear) (s .link) wl (queue-kept (sizesOf p) zr (view s a) (well-kept p s a wl) c bs w by al e)
-      (well-gear p s a wl) (wl .sound .link)
+  queued-well w s a by h h′ wl =
+      stored-well p zr (requeue w (view s a)) s a (s .gear) (s .link) wl
+      (queue-kept (sizesOf p) zr (view s a) (well-kept p s a wl) w by h h′) (well-gear p s a wl) (wl .sound .link)
 
 -- ---- what `AckInfo::from_bytes` reads is in range
 

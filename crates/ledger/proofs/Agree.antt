@@ -6,17 +6,16 @@ use mathlib.Core.List.{map}
 use Rattle.ledger.specs.Ledger.{Sender}
 use Rattle.ledger.specs.Tally.{Outstanding, outstanding, nothing, Tally, waits, start}
 use Rattle.ledger.specs.CoverCode.{flyingByte, byOffset}
-use Rattle.ledger.specs.LedgerCode.{frames, takenOf, freshLedger}
+use Rattle.ledger.specs.LedgerCode.{frames, freshLedger}
 
 -- the outstanding burst as the tally has it
 abbrev pub outOf : Sender → Outstanding
 outOf s = cond (s .awaited) (outstanding (s .number) (frames (s .pieces) (s .sent))) nothing
 
 pub record Agree (s : Sender) (t : Tally) : Type 0 where
-  pub taken : t .taken ≡ takenOf s
   pub waiting : waits t ≡ s .waiting
   pub flown : map flyingByte (t .flown) ≡ byOffset 0 (s .next) (s .pieces)
   pub out : t .out ≡ outOf s
 
 pub start-agree : Agree freshLedger start
-start-agree = record { taken = refl; waiting = refl; flown = refl; out = refl }
+start-agree = record { waiting = refl; flown = refl; out = refl }

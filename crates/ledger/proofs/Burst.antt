@@ -29,7 +29,7 @@ use Rattle.ledger.proofs.ShortFrames.{size-few, shortFrames-few, shortF
 use Rattle.limits.specs.Limits.{maxTop, maxBits, maxSlots, maxFlying, longestPayload, minPayload, maxPieces}
 use Rattle.ledger.specs.Sizes.{Sizes}
 use Rattle.ledger.specs.CoverCode.{flyingByte, Ascend, shortFrames, byOffset}
-use Rattle.ledger.specs.LedgerCode.{frames}
+use Rattle.ledger.specs.LedgerCode.{frames, takenOf}
 use Rattle.ledger.specs.SizesCode.{SizeRange}
 
 size-append : (ps qs : List Piece) → size (ps ++ qs) ≡ size ps + size qs
@@ -232,6 +232,11 @@ module _ (z : Sizes) (zr : SizeRange z) (s : Sender) (g : Plan) (so : Sound z s)
   out-within : Within (sentOffs (slots g s) ++ heldOffs (drop (g .parity) (kept g s))) (recut g s ++ newPieces g s)
   out-within o = rw (occurs-append o (sentOffs (slots g s)) (heldOffs (drop (g .parity) (kept g s)))) (out-in o)
 
+  -- a burst takes no byte in
+  pub burst-taken : takenOf (dataBurst g s) ≡ takenOf s
+  unfolding dataBurst
+  burst-taken = omega (arith, length-drop (size (newPieces g s)) (s .waiting), new-le)
+
   pub burst-sound : Sound z (dataBurst g s)
   unfolding dataBurst
   burst-sound =
@@ -252,7 +257,7 @@ module _ (z : Sizes) (zr : SizeRange z) (s : Sender) (g : Plan) (so : Sound z s)
             (increments-bits g (z .top) (take (g .parity) (kept g s)) (zr .bits) (fi .increment) (heldBits-take (z .top) (g .parity) (kept g s) kept-bits))
             (wholes-bits g (oldOffs g s ++ offs (newPieces g s)) (fi .slot .0) (fi .slot .1));
         waitingFew = omega (arith, length-drop (size (newPieces g s)) (s .waiting), so .waitingFew);
-        takenFew = omega (arith, length-drop (size (newPieces g s)) (s .waiting), so .takenFew, new-le);
+        takenFew = omega (arith, burst-taken, so .takenFew);
         sum = omega (arith, size-append (recut g s) (newPieces g s), recut-size, so .sum);
         number = fi .number;
       }
@@ -273,7 +278,6 @@ module _ (z : Sizes) (zr : SizeRange z) (s : Sender) (g : Plan) (so : Sound z s)
   burst-agree t ti =
       let l = flown-length (z .long) (s .next) (s .pieces) (t .flown) (so .ascend) (ti .flown) in
       record {
-        taken = omega (arith, ti .taken, length-drop (size (newPieces g s)) (s .waiting), new-le);
         waiting = goes-flies (furthest (frames (recut g s ++ newPieces g s) (slots g s)) - length (t .flown)) (t .queue) ∙ rw (l, furthest-burst, ti .waiting);
         flown = rw (l, furthest-burst, ti .waiting, all-byOffset, map-append flyingByte (t .flown) (unacked (take (size (newPieces g s)) (s .waiting))), ti .flown, flying-unacked (take (size (newPieces g s)) (s .waiting)));
         out = refl;

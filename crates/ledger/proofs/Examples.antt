@@ -1,4 +1,5 @@
--- Document 01's reckoned examples of pieces, replies by their bits, a run of calls, and the limits, reached exactly; the order of messages.
+-- Document 01's reckoned examples of pieces, replies by their bits, a run of calls, and the limits, reached exactly; the order of messages,
+-- and their withdrawal.
 -- Assumes nothing.
 use Prim.Native.Nat.{ℕ, zero, suc}
 use mathlib.Core.Path.{_≡_, refl}
@@ -7,7 +8,7 @@ use mathlib.Core.List.{List, [], _∷_}
 use lib.ListN.{length, replicate}
 use Rattle.ledger.specs.Reply.{shortAck, longAck}
 use Rattle.ledger.specs.Ledger.{Piece, len, split, mergeInflight, requeue, dataBurst, hearAck, settleBurst, clearBurst, Held, Sent, Sender, sentOffs}
-use Rattle.ledger.specs.Queue.{noQueue, messageBytes, goes, enqueue, flies, begins}
+use Rattle.ledger.specs.Queue.{Queue, noQueue, messageBytes, goes, enqueue, superseded, flies, begins}
 use Rattle.ledger.specs.Tally.{Tally, waits, inFlight, acknowledged, start, queued, sentOut, heard, noneOutstanding}
 use Rattle.ledger.specs.Plan.{parity, room}
 use Rattle.ledger.specs.Calls.{run, tally}
@@ -69,7 +70,7 @@ plan payload parity room number =
 -- that is not awaited; a short level; a turn; an ack that is not awaited
 calls : List Move
 calls =
-    queues 3 (replicate 200 5) ∷ plan 30 0 4 1 ∷ hears (shortAck 1 10) true ∷ plan 30 2 2 2 ∷ hears (shortAck 2 7) true ∷ hears (shortAck 2 63) false
+    queues 3 0 (replicate 200 5) ∷ plan 30 0 4 1 ∷ hears (shortAck 1 10) true ∷ plan 30 2 2 2 ∷ hears (shortAck 2 7) true ∷ hears (shortAck 2 63) false
     ∷ plan 8 0 3 3 ∷ turns ∷ hears (shortAck 3 7) false ∷ []
 
 after-calls : spans (run (step sizes) calls freshStation .sender .pieces) ≡ 150 ∷ 8 ∷ 158 ∷ 8 ∷ 166 ∷ 8 ∷ 174 ∷ 6 ∷ []
@@ -77,10 +78,10 @@ unfolding calls dataBurst hearAck settleBurst clearBurst requeue enqueue flies
 after-calls = refl
 
 abbrev counts : Tally → List ℕ
-counts t = t .taken ∷ length (waits t) ∷ inFlight (t .flown) ∷ acknowledged (t .flown) ∷ []
+counts t = t .taken ∷ length (waits t) ∷ inFlight (t .flown) ∷ acknowledged (t .flown) ∷ length (messageBytes (t .withdrawn)) ∷ []
 
-after-tally : counts (tally (step sizes) (moveTold sizes) calls freshStation start) ≡ 200 ∷ 20 ∷ 30 ∷ 150 ∷ []
-unfolding calls dataBurst hearAck settleBurst clearBurst requeue enqueue flies begins queued sentOut heard noneOutstanding
+after-tally : counts (tally (step sizes) (moveTold sizes) calls freshStation start) ≡ 200 ∷ 20 ∷ 30 ∷ 150 ∷ 0 ∷ []
+unfolding calls dataBurst hearAck settleBurst clearBurst requeue enqueue superseded flies begins queued sentOut heard noneOutstanding
 after-tally = refl
 
 -- ---- a burst's frames, and the held list
@@ -95,7 +96,7 @@ sentRows (f ∷ fs) = f .off ∷ f .bits ∷ f .held ∷ sentRows fs
 
 -- four frames of 30, of which the second and fourth arrive, the others held or not; then a burst
 abbrev twice : Bool → Move → Sender
-twice keep c = run (step sizes) (queues 3 (replicate 200 5) ∷ plan 30 0 4 1 ∷ hears (shortAck 1 10) keep ∷ c ∷ []) freshStation .sender
+twice keep c = run (step sizes) (queues 3 0 (replicate 200 5) ∷ plan 30 0 4 1 ∷ hears (shortAck 1 10) keep ∷ c ∷ []) freshStation .sender
 
 -- parity first, then new pieces; of two held one goes, and the other is the unsent rest
 parity-first : sentRows (twice true (plan 30 1 2 2) .sent) ≡ 0 ∷ 1440 ∷ 4320 ∷ 120 ∷ 2880 ∷ 2880 ∷ 150 ∷ 2880 ∷ 2880 ∷ []
@@ -129,20 +130,60 @@ no-frame keep = refl
 
 -- ---- messages: "the lowest class waiting goes, the earliest of it first", "a message once begun is finished"
 
-earliest-first : goes (enqueue 1 (7 ∷ []) (enqueue 2 (6 ∷ []) (enqueue 1 (5 ∷ []) noQueue))) ≡ 5 ∷ 7 ∷ 6 ∷ []
+earliest-first : goes (enqueue 1 0 (7 ∷ []) (enqueue 2 0 (6 ∷ []) (enqueue 1 0 (5 ∷ []) noQueue))) ≡ 5 ∷ 7 ∷ 6 ∷ []
 unfolding enqueue
 earliest-first = refl
 
 -- class 0 behind a begun message of class 2; and ahead of one of class 3, where a burst ends with a message
-begun-first : goes (enqueue 0 (9 ∷ []) (flies 1 (enqueue 2 (5 ∷ 6 ∷ []) noQueue))) ≡ 6 ∷ 9 ∷ []
+begun-first : goes (enqueue 0 0 (9 ∷ []) (flies 1 (enqueue 2 0 (5 ∷ 6 ∷ []) noQueue))) ≡ 6 ∷ 9 ∷ []
 unfolding enqueue flies
 begun-first = refl
 
-exact-end : goes (enqueue 0 (9 ∷ []) (flies 2 (enqueue 3 (7 ∷ []) (enqueue 2 (5 ∷ 6 ∷ []) noQueue)))) ≡ 9 ∷ 7 ∷ []
+exact-end : goes (enqueue 0 0 (9 ∷ []) (flies 2 (enqueue 3 0 (7 ∷ []) (enqueue 2 0 (5 ∷ 6 ∷ []) noQueue)))) ≡ 9 ∷ 7 ∷ []
 unfolding enqueue flies
 exact-end = refl
 
 -- three bytes begin two messages
-begun-whole : messageBytes (begins 3 (enqueue 3 (7 ∷ 8 ∷ []) (enqueue 2 (5 ∷ 6 ∷ []) noQueue))) ≡ 5 ∷ 6 ∷ 7 ∷ 8 ∷ []
+begun-whole : messageBytes (begins 3 (enqueue 3 0 (7 ∷ 8 ∷ []) (enqueue 2 0 (5 ∷ 6 ∷ []) noQueue))) ≡ 5 ∷ 6 ∷ 7 ∷ 8 ∷ []
 unfolding enqueue begins
 begun-whole = refl
+
+-- ---- "Queuing a labelled message withdraws each waiting message with that label that hasn't begun"
+
+-- the bytes that wait after a queuing, and those that it withdraws
+abbrev leaves : ℕ → ℕ → List ℕ → Queue → List (List ℕ)
+leaves c l bs q = goes (enqueue c l bs q) ∷ messageBytes (superseded l bs q) ∷ []
+
+-- labels 0, 0, 7 and 8, one byte each
+abbrev four : Queue
+four = enqueue 3 8 (4 ∷ []) (enqueue 2 7 (3 ∷ []) (enqueue 1 0 (2 ∷ []) (enqueue 0 0 (1 ∷ []) noQueue)))
+
+-- one between others, of another class: the new one goes last of its own class
+superseded-between : leaves 0 7 (9 ∷ []) four ≡ (1 ∷ 9 ∷ 2 ∷ 4 ∷ []) ∷ (3 ∷ []) ∷ []
+unfolding enqueue superseded
+superseded-between = refl
+
+-- "0 is no label", and "A queuing of no bytes withdraws nothing"
+superseded-none : (leaves 0 0 (9 ∷ []) four ≡ (1 ∷ 9 ∷ 2 ∷ 3 ∷ 4 ∷ []) ∷ [] ∷ []) × (leaves 0 7 [] four ≡ (1 ∷ 2 ∷ 3 ∷ 4 ∷ []) ∷ [] ∷ [])
+unfolding enqueue superseded
+superseded-none = (refl, refl)
+
+-- "A begun one goes on", and the one behind it is withdrawn
+abbrev begunOne : Queue
+begunOne = enqueue 2 7 (8 ∷ []) (flies 1 (enqueue 3 7 (5 ∷ 6 ∷ []) noQueue))
+
+begun-goes-on : leaves 1 7 (9 ∷ []) begunOne ≡ (6 ∷ 9 ∷ []) ∷ (8 ∷ []) ∷ []
+unfolding enqueue superseded flies
+begun-goes-on = refl
+
+-- the same in a run: a bulletin of 100 bytes, of which 60 fly; a second, which waits behind it; and a third, which withdraws the second
+bulletins : List Move
+bulletins = queues 3 7 (replicate 100 5) ∷ plan 30 0 2 1 ∷ queues 2 7 (replicate 50 6) ∷ queues 1 7 (replicate 20 8) ∷ []
+
+after-bulletins : counts (tally (step sizes) (moveTold sizes) bulletins freshStation start) ≡ 170 ∷ 60 ∷ 60 ∷ 0 ∷ 50 ∷ []
+unfolding bulletins dataBurst requeue enqueue superseded flies begins queued sentOut
+after-bulletins = refl
+
+withdrawn-counted : run (step sizes) bulletins freshStation .withdrawn ≡ 50
+unfolding bulletins dataBurst requeue enqueue superseded flies
+withdrawn-counted = refl

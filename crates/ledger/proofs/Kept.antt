@@ -13,21 +13,21 @@ use Rattle.laws.proofs.Picks.{by, and-second, either, and-yes, and-first}
 use Rattle.laws.proofs.Lists.{occurs-append}
 use Rattle.ledger.specs.Reply.{Reply}
 use Rattle.ledger.specs.Ledger.{Held, missed, Sent, Piece, Sender, sentOffs, heldOffs, offs, remaining, settleBurst, clearBurst, requeue, hearAck, settles, Plan, dataBurst, find, size, newPieces}
-use Rattle.ledger.specs.Queue.{Queue, goes, enqueue, flies}
-use Rattle.ledger.proofs.Queue.{goes-flies, length-enqueue}
+use Rattle.ledger.specs.Queue.{Queue, messageBytes, goes, enqueue, superseded, flies}
+use Rattle.ledger.proofs.Queue.{goes-flies, length-enqueue, length-bytes-append}
 use Rattle.ledger.specs.Station.{Station}
 use Rattle.ledger.specs.Tally.{acknowledgedBy, Flown, outstanding, Tally, waits, sentOut, heard, acknowledgeAll, nothing, queued, noneOutstanding, feed}
 use Rattle.ledger.specs.Sound.{HeldBits, SentBits, Sound, Fits}
 use Rattle.ledger.proofs.Agree.{Agree}
-use Rattle.ledger.proofs.Burst.{burst-sound, burst-agree, burst-takes, burst-keeps}
+use Rattle.ledger.proofs.Burst.{burst-taken, burst-sound, burst-agree, burst-takes, burst-keeps}
 use Rattle.ledger.proofs.HeldPieces.{heldOffs-append}
 use Rattle.ledger.proofs.Offsets.{flying-within, Within, within-flying}
 use Rattle.ledger.proofs.Settle.{ascend-remaining, missed-remaining, ackedBytes-remaining, missed-few, shortFrames-remaining, acknowledgeAll-remaining, find-remaining}
-use Rattle.limits.specs.Limits.{maxSlots}
+use Rattle.limits.specs.Limits.{maxSlots, maxWaiting, maxTaken}
 use Rattle.ledger.specs.Sizes.{Sizes}
-use Rattle.ledger.specs.CallsCode.{Allowed, queues, step, Move, idle, hears, turns, bursts, event, moveTold, SoundStation, senderAfter}
+use Rattle.ledger.specs.CallsCode.{Allowed, queues, step, Move, idle, hears, turns, bursts, event, moveTold, SoundStation}
 use Rattle.ledger.specs.CoverCode.{Ascend}
-use Rattle.ledger.specs.LedgerCode.{frames, freshLedger}
+use Rattle.ledger.specs.LedgerCode.{frames, takenOf, freshLedger}
 use Rattle.ledger.specs.SizesCode.{SizeRange}
 
 heldBits-append : (top : ℕ) (xs ys : List Held) → HeldBits top xs → HeldBits top ys → HeldBits top (xs ++ ys)
@@ -133,9 +133,10 @@ module _ (z : Sizes) where
         number = so .number;
       }
 
-  pub queue-sound : (c : ℕ) (bs w : List ℕ) (s : Sender) → Allowed z (queues c bs) s → length w ≡ length (s .waiting) + length bs → Sound z s → Sound z (requeue w s)
+  -- other bytes wait
+  pub queue-sound : (w : List ℕ) (s : Sender) → length w ≤ maxWaiting → s .next + length w ≤ maxTaken → Sound z s → Sound z (requeue w s)
   unfolding requeue
-  queue-sound c bs w s al l so =
+  queue-sound w s h h′ so =
       record {
         ascend = so .ascend;
         bytes = so .bytes;
@@ -181,9 +182,12 @@ module _ (z : Sizes) where
 
   module _ (zr : SizeRange z) where
     -- EVERY ACCEPTED CALL KEEPS `Sound`
-    sender-sound : (c : Move) (st : Station) → Allowed z c (st .sender) → Sound z (st .sender) → st .sender .waiting ≡ goes (st .queue) → Sound z (step z c st .sender)
+    sender-sound : (c : Move) (st : Station) → Allowed z c st → Sound z (st .sender) → st .sender .waiting ≡ goes (st .queue) →
+        Sound z (step z c st .sender)
     sender-sound idle st al so sh = so
-    sender-sound (queues c bs) st al so sh = queue-sound c bs (goes (enqueue c bs (st .queue))) (st .sender) al (rw sh (length-enqueue c (st .queue) bs)) so
+    sender-sound (queues c l bs) st al so sh =
+        queue-sound (goes (enqueue c l bs (st .queue))) (st .sender) (al .0)
+        (omega (arith, al .1, length-enqueue c l (st .queue) bs, ap length sh)) so
     sender-sound (hears r keep) st al so sh = ack-sound r keep (st .sender) so
     sender-sound turns st al so sh = clear-sound (st .sender) so
     sender-sound (bursts g) st al so sh = burst-sound z zr (st .sender) g so al
@@ -192,14 +196,31 @@ module _ (z : Sizes) where
     sender-shows : (c : Move) (st : Station) → st .sender .waiting ≡ goes (st .queue) → step z c st .sender .waiting ≡ goes (step z c st .queue)
     unfolding hearAck settleBurst clearBurst requeue dataBurst
     sender-shows idle st sh = sh
-    sender-shows (queues c bs) st sh = refl
+    sender-shows (queues c l bs) st sh = refl
     sender-shows (hears r keep) st sh =
         by (λ (x : Sender). x .waiting ≡ goes (st .queue)) (st .sender .awaited) (λ _. either (λ (x : Sender). x .waiting ≡ goes (st .queue)) (settles r (st .sender)) _ _ sh sh) (λ _. sh)
     sender-shows turns st sh = sh
     sender-shows (bursts g) st sh = let k = size (newPieces g (st .sender)) in ap (drop k) sh ∙ sym (goes-flies k (st .queue))
 
-    pub step-sound : (c : Move) (st : Station) → Allowed z c (st .sender) → SoundStation z st → SoundStation z (step z c st)
-    step-sound c st al so = record { sound = sender-sound c st al (so .sound) (so .shows); shows = sender-shows c st (so .shows) }
+    -- the bytes taken, those withdrawn among them, grow by those queued alone
+    sender-taken : (c : Move) (st : Station) → Allowed z c st → SoundStation z st →
+        takenOf (step z c st .sender) + step z c st .withdrawn ≤ maxTaken
+    unfolding hearAck settleBurst clearBurst requeue
+    sender-taken idle st al ss = ss .taken
+    sender-taken (queues c l bs) st al ss = omega (arith, al .1, length-enqueue c l (st .queue) bs, ap length (ss .shows))
+    sender-taken (hears r keep) st al ss =
+        let Few : Sender → Type 0 = λ x. takenOf x + st .withdrawn ≤ maxTaken in
+        by Few (st .sender .awaited) (λ _. either Few (settles r (st .sender)) _ _ (ss .taken) (ss .taken)) (λ _. ss .taken)
+    sender-taken turns st al ss = ss .taken
+    sender-taken (bursts g) st al ss = omega (arith, ss .taken, burst-taken z zr (st .sender) g (ss .sound) al)
+
+    pub step-sound : (c : Move) (st : Station) → Allowed z c st → SoundStation z st → SoundStation z (step z c st)
+    step-sound c st al so =
+        record {
+          sound = sender-sound c st al (so .sound) (so .shows);
+          shows = sender-shows c st (so .shows);
+          taken = sender-taken c st al so;
+        }
 
   -- ---- agreement
 
@@ -211,7 +232,6 @@ module _ (z : Sizes) where
       let e : acknowledgedBy r (t .out) (t .flown) ≡ acknowledgeAll b 0 (frames (s .pieces) (s .sent)) (t .flown) =
       rw (ag .out, w, and-first (eqb (r .number) (s .number)) (ltb 0 (length (s .sent))) n, frames-length (s .pieces) (s .sent)) in
       record {
-        taken = ag .taken;
         waiting = ag .waiting;
         flown =
             rw e
@@ -220,43 +240,38 @@ module _ (z : Sizes) where
       }
 
   -- an ack of another burst, or a turn
-  clear-agree : (s : Sender) (t u : Tally) → u .taken ≡ t .taken → waits u ≡ waits t → u .flown ≡ t .flown → u .out ≡ nothing → Agree s t → Agree (clearBurst s) u
+  clear-agree : (s : Sender) (t u : Tally) → waits u ≡ waits t → u .flown ≡ t .flown → u .out ≡ nothing → Agree s t → Agree (clearBurst s) u
   unfolding clearBurst
-  clear-agree s t u e₁ e₂ e₃ e₄ ag = record { taken = e₁ ∙ ag .taken; waiting = e₂ ∙ ag .waiting; flown = rw e₃ (ag .flown); out = e₄ }
+  clear-agree s t u e₁ e₂ e₃ ag = record { waiting = e₁ ∙ ag .waiting; flown = rw e₂ (ag .flown); out = e₃ }
 
   unmatched-agree : (r : Reply) (s : Sender) (t : Tally) → s .awaited ≡ true → settles r s ≡ false → Agree s t → Agree (clearBurst s) (heard r t)
   unfolding heard
   unmatched-agree r s t w n ag =
-      clear-agree s t (heard r t) refl refl (rw (ag .out, w) (unanswered r (s .number) (s .pieces) (s .sent) (t .flown) n)) refl ag
+      clear-agree s t (heard r t) refl (rw (ag .out, w) (unanswered r (s .number) (s .pieces) (s .sent) (t .flown) n)) refl ag
 
   not-awaited-agree : (r : Reply) (s : Sender) (t : Tally) → s .awaited ≡ false → Agree s t → Agree s (heard r t)
   unfolding heard
-  not-awaited-agree r s t w ag = record { taken = ag .taken; waiting = ag .waiting; flown = rw (ag .out, w) (ag .flown); out = rw w }
+  not-awaited-agree r s t w ag = record { waiting = ag .waiting; flown = rw (ag .out, w) (ag .flown); out = rw w }
 
-  queue-agree : (c : ℕ) (bs : List ℕ) (q : Queue) (s : Sender) (t : Tally) → t .queue ≡ q → Agree s t → Agree (requeue (goes (enqueue c bs q)) s) (queued c bs t)
+  queue-agree : (c l : ℕ) (bs : List ℕ) (q : Queue) (s : Sender) (t : Tally) → t .queue ≡ q → Agree s t →
+      Agree (requeue (goes (enqueue c l bs q)) s) (queued c l bs t)
   unfolding requeue queued
-  queue-agree c bs q s t e ag =
-      let l = ap (λ (x : Queue). length (goes x)) e in
-      record {
-        taken = omega (arith, ag .taken, ap length (ag .waiting), length-enqueue c q bs);
-        waiting = ap (λ (x : Queue). goes (enqueue c bs x)) e;
-        flown = ag .flown;
-        out = ag .out;
-      }
+  queue-agree c l bs q s t e ag = record { waiting = ap (λ (x : Queue). goes (enqueue c l bs x)) e; flown = ag .flown; out = ag .out }
 
   turn-agree : (s : Sender) (t : Tally) → Agree s t → Agree (clearBurst s) (noneOutstanding t)
   unfolding noneOutstanding
-  turn-agree s t ag = clear-agree s t (noneOutstanding t) refl refl refl refl ag
+  turn-agree s t ag = clear-agree s t (noneOutstanding t) refl refl refl ag
 
   module _ (zr : SizeRange z) where
     burst-event : (g : Plan) (s : Sender) (t : Tally) → Fits z s g → Sound z s → Agree s t → Agree (dataBurst g s) (feed (event (bursts g) (dataBurst g s)) t)
     unfolding dataBurst
     burst-event g s t al so ag = burst-agree z zr s g so al t ag
 
-    pub step-agree : (c : Move) (st : Station) (t : Tally) → Allowed z c (st .sender) → Sound z (st .sender) → t .queue ≡ st .queue → Agree (st .sender) t → Agree (step z c st .sender) (feed (moveTold z c st) t)
+    pub step-agree : (c : Move) (st : Station) (t : Tally) → Allowed z c st → Sound z (st .sender) → t .queue ≡ st .queue →
+        Agree (st .sender) t → Agree (step z c st .sender) (feed (moveTold z c st) t)
     unfolding hearAck
     step-agree idle st t al so e ag = ag
-    step-agree (queues c bs) st t al so e ag = queue-agree c bs (st .queue) (st .sender) t e ag
+    step-agree (queues c l bs) st t al so e ag = queue-agree c l bs (st .queue) (st .sender) t e ag
     step-agree (hears r keep) st t al so e ag =
         let s = st .sender in
         by (λ (x : Sender). Agree x (heard r t)) (s .awaited)
@@ -266,13 +281,26 @@ module _ (z : Sizes) where
     step-agree (bursts g) st t al so e ag = burst-event g (st .sender) t al so ag
 
     -- and the tally's messages are the sender's
-    pub step-queue : (c : Move) (st : Station) (t : Tally) → Allowed z c (st .sender) → Sound z (st .sender) → t .queue ≡ st .queue → Agree (st .sender) t → feed (moveTold z c st) t .queue ≡ step z c st .queue
+    pub step-queue : (c : Move) (st : Station) (t : Tally) → Allowed z c st → Sound z (st .sender) → t .queue ≡ st .queue →
+        Agree (st .sender) t → feed (moveTold z c st) t .queue ≡ step z c st .queue
     unfolding queued heard noneOutstanding sentOut dataBurst
     step-queue idle st t al so e ag = e
-    step-queue (queues c bs) st t al so e ag = ap (enqueue c bs) e
+    step-queue (queues c l bs) st t al so e ag = ap (enqueue c l bs) e
     step-queue (hears r keep) st t al so e ag = e
     step-queue turns st t al so e ag = e
     step-queue (bursts g) st t al so e ag = ap₂ flies (burst-takes z zr (st .sender) g so al t ag) e
+
+    -- the bytes that it counts as withdrawn are those of the messages that the tally has withdrawn
+    pub step-withdrawn : (c : Move) (st : Station) (t : Tally) → t .queue ≡ st .queue → st .withdrawn ≡ length (messageBytes (t .withdrawn))
+        → step z c st .withdrawn ≡ length (messageBytes (feed (moveTold z c st) t .withdrawn))
+    unfolding queued heard noneOutstanding sentOut
+    step-withdrawn idle st t e w = w
+    step-withdrawn (queues c l bs) st t e w =
+        let gone = ap (λ (q : Queue). length (messageBytes (superseded l bs q))) e in
+        omega (arith, w, gone, length-bytes-append (t .withdrawn) (superseded l bs (t .queue)))
+    step-withdrawn (hears r keep) st t e w = w
+    step-withdrawn turns st t e w = w
+    step-withdrawn (bursts g) st t e w = w
 
   -- ---- held pieces
 
@@ -291,16 +319,18 @@ module _ (z : Sizes) where
   queue-pieces w s = refl
 
   module _ (zr : SizeRange z) where
-    pub step-keeps : (c : Move) (q : Queue) (s : Sender) (o : ℕ) → Allowed z c s → Sound z s → 1 ≤ occurs o (heldOffs (senderAfter z c q s .held)) →
-        find o (senderAfter z c q s .pieces) ≡ find o (s .pieces)
+    pub step-keeps : (c : Move) (st : Station) (o : ℕ) → Allowed z c st → Sound z (st .sender) →
+        1 ≤ occurs o (heldOffs (step z c st .sender .held)) →
+        find o (step z c st .sender .pieces) ≡ find o (st .sender .pieces)
     unfolding hearAck
-    step-keeps idle q s o al so h = refl
-    step-keeps (queues c bs) q s o al so h = rw (queue-pieces (goes q) s)
-    step-keeps (hears r keep) q s o al so h =
+    step-keeps idle st o al so h = refl
+    step-keeps (queues c l bs) st o al so h = rw (queue-pieces (goes (enqueue c l bs (st .queue))) (st .sender))
+    step-keeps (hears r keep) st o al so h =
+        let s = st .sender in
         by (λ (x : Sender). 1 ≤ occurs o (heldOffs (x .held)) → find o (x .pieces) ≡ find o (s .pieces)) (s .awaited)
         (λ w.
         by (λ (x : Sender). 1 ≤ occurs o (heldOffs (x .held)) → find o (x .pieces) ≡ find o (s .pieces)) (settles r s)
         (λ n. settle-keeps r keep s o so) (λ n u. rw (clear-pieces s)))
         (λ w u. refl) h
-    step-keeps turns q s o al so h = rw (clear-pieces s)
-    step-keeps (bursts g) q s o al so h = burst-keeps z zr s g so al o h
+    step-keeps turns st o al so h = rw (clear-pieces (st .sender))
+    step-keeps (bursts g) st o al so h = burst-keeps z zr (st .sender) g so al o h

@@ -148,7 +148,7 @@ ackedAt-answered r (outstanding n fs) o fl =
 pub acked-exactly : (e : Event) (t : Tally) (o : ℕ) → ackedAt o (feed e t .flown) ≡ ackedAt o (t .flown) || (ltb o (length (t .flown)) && settledBy e (t .out) o)
 unfolding queued sentOut heard noneOutstanding
 acked-exactly silent t o = or-none (ackedAt o (t .flown)) (ltb o (length (t .flown)))
-acked-exactly (took c bs) t o = or-none (ackedAt o (t .flown)) (ltb o (length (t .flown)))
+acked-exactly (took c l bs) t o = or-none (ackedAt o (t .flown)) (ltb o (length (t .flown)))
 acked-exactly (reply r) t o = ackedAt-answered r (t .out) o (t .flown)
 acked-exactly turn t o = or-none (ackedAt o (t .flown)) (ltb o (length (t .flown)))
 acked-exactly (went n fs) t o =

@@ -8,8 +8,9 @@ use mathlib.Core.List.{List, [], _∷_}
 use native.Mathlib.Omega.{arith}
 use lib.ListN.{length, replicate, length-replicate}
 use Rattle.ledger.specs.Ledger.{Plan, requeue, size, dataBurst, Sender}
-use Rattle.ledger.specs.Queue.{enqueue}
+use Rattle.ledger.specs.Queue.{noQueue, enqueue}
 use Rattle.ledger.specs.Sound.{Fits}
+use Rattle.ledger.proofs.Queue.{length-enqueue}
 use Rattle.ledger.specs.Calls.{run, Along}
 use Rattle.limits.specs.Limits.{minPayload, longestPayload, maxTop, maxSlots, maxWaiting, maxFlying, maxPieces, maxNumber}
 use Rattle.ledger.specs.Sizes.{Sizes}
@@ -26,7 +27,7 @@ planFor payload number =
 
 -- the queue filled; a burst of long frames; a burst of short ones
 unfoldable pub full : List Move
-full = queues 3 (replicate maxWaiting 0) ∷ bursts (planFor longestPayload 1) ∷ bursts (planFor minPayload 2) ∷ []
+full = queues 3 0 (replicate maxWaiting 0) ∷ bursts (planFor longestPayload 1) ∷ bursts (planFor minPayload 2) ∷ []
 
 pub full-bytes : size (run (step widest) full freshStation .sender .pieces) ≡ maxFlying
 unfolding full dataBurst requeue enqueue
@@ -51,8 +52,9 @@ planFor-fits payload number s p n =
       number = n;
     }
 
-pub full-allowed : Along (step widest) (λ c s. Allowed widest c (s .sender)) full freshStation
+pub full-allowed : Along (step widest) (Allowed widest) full freshStation
 unfolding full
 full-allowed =
     let l = length-replicate {A = ℕ} maxWaiting 0 in
+    let w = length-enqueue 3 0 noQueue (replicate maxWaiting 0) in
     ((omega arith, omega arith), (planFor-fits longestPayload 1 _ (inr refl) (omega arith), (planFor-fits minPayload 2 _ (inl refl) (omega arith), tt)))

@@ -14,13 +14,14 @@ use Rattle.ledger.specs.SizesCode.{SizeRange}
 
 module _ (z : Sizes) (zr : SizeRange z) where
   abbrev Ok : Move → Station → Type 0
-  Ok c s = Allowed z c (s .sender)
+  Ok c s = Allowed z c s
 
   itself : Refines z zr Station Move Ok (λ s. Unit {0}) (step z) (λ s. s) (λ c s. c) (moveTold z)
   itself = record { allowed = λ c s al so ok. al; steps = λ c s al so ok. refl; tells = λ c s al so ok. refl; keeps = λ c s al so ok. tt }
 
   pub demand3 : (cs : List Move) → Along (step z) Ok cs freshStation → (c : Move) → Ok c (run (step z) cs freshStation) →
-      LedgerClaim z (history (step z) (moveTold z) cs freshStation) (run (step z) cs freshStation .sender) (run (step z) cs freshStation .queue) (tally (step z) (moveTold z) cs freshStation start)
+      LedgerClaim z (history (step z) (moveTold z) cs freshStation) (run (step z) cs freshStation)
+      (tally (step z) (moveTold z) cs freshStation start)
       (moveTold z c (run (step z) cs freshStation)) (step z c (run (step z) cs freshStation) .sender)
   demand3 cs al c ok =
       refined z zr Station Move Ok (λ s. Unit {0}) (step z) (λ s. s) (λ c s. c) (moveTold z) itself freshStation refl tt cs al c ok

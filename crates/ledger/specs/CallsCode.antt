@@ -6,7 +6,7 @@ use mathlib.Core.List.{List}
 use lib.ListN.{length}
 use Rattle.ledger.specs.Reply.{Reply}
 use Rattle.ledger.specs.Ledger.{Sender, Plan, size, newPieces, dataBurst, hearAck, clearBurst, requeue}
-use Rattle.ledger.specs.Queue.{Queue, noQueue, goes, enqueue, flies}
+use Rattle.ledger.specs.Queue.{Queue, noQueue, messageBytes, goes, enqueue, superseded, flies}
 use Rattle.ledger.specs.Station.{Station}
 use Rattle.ledger.specs.Tally.{Event, silent, took, reply, turn, went}
 use Rattle.ledger.specs.Sound.{Sound, Fits}
@@ -17,8 +17,8 @@ use Rattle.ledger.specs.LedgerCode.{frames, takenOf, freshLedger}
 pub data Move : Type 0 where
   -- one that leaves the ledger as it is: refused, or a connect
   idle : Move
-  -- bytes queued, with a class
-  queues : ℕ → List ℕ → Move
+  -- bytes queued, with a class and a label
+  queues : ℕ → ℕ → List ℕ → Move
   -- a short or long ack, and whether what it misses is held then
   hears : Reply → Bool → Move
   -- a turn
@@ -27,47 +27,57 @@ pub data Move : Type 0 where
   bursts : Plan → Move
 
 abbrev pub freshStation : Station
-freshStation = record { sender = freshLedger; queue = noQueue }
+freshStation = record { sender = freshLedger; queue = noQueue; withdrawn = 0 }
 
 -- the messages that a call leaves
 abbrev pub queueAfter : Move → Station → Queue
 queueAfter idle s = s .queue
-queueAfter (queues c bs) s = enqueue c bs (s .queue)
+queueAfter (queues c l bs) s = enqueue c l bs (s .queue)
 queueAfter (hears r keep) s = s .queue
 queueAfter turns s = s .queue
 queueAfter (bursts g) s = flies (size (newPieces g (s .sender))) (s .queue)
 
+-- the bytes withdrawn after it
+abbrev pub withdrawnAfter : Move → Station → ℕ
+withdrawnAfter idle s = s .withdrawn
+withdrawnAfter (queues c l bs) s = s .withdrawn + length (messageBytes (superseded l bs (s .queue)))
+withdrawnAfter (hears r keep) s = s .withdrawn
+withdrawnAfter turns s = s .withdrawn
+withdrawnAfter (bursts g) s = s .withdrawn
+
 -- the sender that it leaves, where q is what waits then
 abbrev pub senderAfter : Sizes → Move → Queue → Sender → Sender
 senderAfter z idle q s = s
-senderAfter z (queues c bs) q s = requeue (goes q) s
+senderAfter z (queues c l bs) q s = requeue (goes q) s
 senderAfter z (hears r keep) q s = hearAck (z .top) r keep s
 senderAfter z turns q s = clearBurst s
 senderAfter z (bursts g) q s = dataBurst g s
 
 abbrev pub step : Sizes → Move → Station → Station
-step z c s = record { sender = senderAfter z c (queueAfter c s) (s .sender); queue = queueAfter c s }
+step z c s = record { sender = senderAfter z c (queueAfter c s) (s .sender); queue = queueAfter c s; withdrawn = withdrawnAfter c s }
 
 -- what is told of a call: its arguments, and its answer, from the sender that it leaves
 abbrev pub event : Move → Sender → Event
 event idle s = silent
-event (queues c bs) s = took c bs
+event (queues c l bs) s = took c l bs
 event (hears r keep) s = reply r
 event turns s = turn
 event (bursts g) s = went (s .number) (frames (s .pieces) (s .sent))
 
--- an accepted call is within the limits: refusals 8 and 9, and a plan that fits
-abbrev pub Allowed : Sizes → Move → Sender → Type 0
+-- an accepted call is within the limits: refusals 8, judged after the withdrawal, and 9, and a plan that fits
+abbrev pub Allowed : Sizes → Move → Station → Type 0
 Allowed z idle s = Unit {0}
-Allowed z (queues c bs) s = (length (s .waiting) + length bs ≤ maxWaiting) × (takenOf s + length bs ≤ maxTaken)
+Allowed z (queues c l bs) s =
+    (length (goes (enqueue c l bs (s .queue))) ≤ maxWaiting) × (takenOf (s .sender) + s .withdrawn + length bs ≤ maxTaken)
 Allowed z (hears r keep) s = Unit {0}
 Allowed z turns s = Unit {0}
-Allowed z (bursts g) s = Fits z s g
+Allowed z (bursts g) s = Fits z (s .sender) g
 
 abbrev pub moveTold : Sizes → Move → Station → Event
 moveTold z c s = event c (step z c s .sender)
 
--- a sound sender, and the messages of its waiting bytes
+-- a sound sender, the messages of its waiting bytes, and taken bytes within their limit, those withdrawn among them
 pub record SoundStation (z : Sizes) (s : Station) : Type 0 where
   pub sound : Sound z (s .sender)
   pub shows : s .sender .waiting ≡ goes (s .queue)
+  pub taken : takenOf (s .sender) + s .withdrawn ≤ maxTaken

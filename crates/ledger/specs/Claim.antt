@@ -38,7 +38,7 @@ named r (outstanding n fs) o = eqb (r .number) n && bitOver (r .bit (length fs))
 
 abbrev pub settledBy : Event → Outstanding → ℕ → Bool
 settledBy silent out o = false
-settledBy (took c bs) out o = false
+settledBy (took c l bs) out o = false
 settledBy (reply r) out o = named r out o
 settledBy turn out o = false
 settledBy (went n fs) out o = false

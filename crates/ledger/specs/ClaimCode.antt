@@ -8,7 +8,8 @@ use lib.ListN.{length, take, drop}
 use Rattle.laws.specs.Lists.{listed}
 use Rattle.limits.specs.Limits.{maxFlying, maxPieces}
 use Rattle.ledger.specs.Ledger.{Piece, Frame, Sender, size, find, offs, heldOffs}
-use Rattle.ledger.specs.Queue.{Message, Queue, messageBytes, behind, rest, count, ofClass, Ascending}
+use Rattle.ledger.specs.Queue.{Message, messageBytes, behind, rest, count, withdraws, ofClass, Ascending, Sublist}
+use Rattle.ledger.specs.Station.{Station}
 use Rattle.ledger.specs.Tally.{Tally, waits, Event, byteOf, inFlight, acknowledged, feed, framesTold}
 use Rattle.ledger.specs.Claim.{covering, flyingAt, ackedAt, settledBy}
 use Rattle.ledger.specs.CoverCode.{Ascend}
@@ -20,26 +21,30 @@ Carry bs ps [] = Unit {0}
 Carry bs ps (f ∷ fs) =
     (1 ≤ f .len) × (length (find (f .off) ps) ≡ f .len) × (find (f .off) ps ≡ take (f .len) (drop (f .off) bs)) × Carry bs ps fs
 
--- after a list of calls that queued the messages ms and left the sender s, the queue q and the tally t; one further call, told as e, leaves the
--- sender s′
-pub record LedgerClaim (z : Sizes) (ms : List Message) (s : Sender) (q : Queue) (t : Tally) (e : Event) (s′ : Sender) : Type 0 where
-  pub sum : t .taken ≡ length (waits t) + inFlight (t .flown) + acknowledged (t .flown)
+-- after a list of calls that queued the messages ms and left the station st and the tally t; one further call, told as e, leaves the sender
+-- s′
+pub record LedgerClaim (z : Sizes) (ms : List Message) (st : Station) (t : Tally) (e : Event) (s′ : Sender) : Type 0 where
+  pub sum : t .taken ≡ length (waits t) + inFlight (t .flown) + acknowledged (t .flown) + length (messageBytes (t .withdrawn))
   pub taken : t .taken ≡ length (messageBytes ms)
-  pub each : (p : Message → Bool) → count p ms ≡ count p (t .began) + count p (behind (t .queue .begun) (t .queue .messages))
+  pub each : (p : Message → Bool) →
+      count p ms ≡ count p (t .began) + count p (behind (t .queue .begun) (t .queue .messages)) + count p (t .withdrawn)
   pub history : map byteOf (t .flown) ++ rest (t .queue) ≡ messageBytes (t .began)
-  pub waiting : s .waiting ≡ waits t
-  pub queue : q ≡ t .queue
+  pub waiting : st .sender .waiting ≡ waits t
+  pub queue : st .queue ≡ t .queue
+  pub withdrawn : st .withdrawn ≡ length (messageBytes (t .withdrawn))
   pub order : Ascending 0 (behind (t .queue .begun) (t .queue .messages))
-  pub earliest : (c : ℕ) → ofClass c ms ≡ ofClass c (t .began) ++ ofClass c (behind (t .queue .begun) (t .queue .messages))
-  pub covers : (o : ℕ) → covering o (s .pieces) ≡ flyingAt o (t .flown)
-  pub inPieces : size (s .pieces) ≡ inFlight (t .flown)
-  pub ascends : Ascend (z .long) 0 (s .next) (s .pieces)
-  pub holds : (o : ℕ) → listed o (offs (s .pieces)) ≡ true → find o (s .pieces) ≡ take (length (find o (s .pieces))) (drop o (map byteOf (t .flown)))
-  pub next : s .next ≡ length (t .flown)
+  pub earliest : (c : ℕ) → Sublist (ofClass c (t .began) ++ ofClass c (behind (t .queue .begun) (t .queue .messages))) (ofClass c ms)
+  pub newest : (l : ℕ) → count (λ (m : Message). withdraws l (m .label)) (behind (t .queue .begun) (t .queue .messages)) ≤ 1
+  pub covers : (o : ℕ) → covering o (st .sender .pieces) ≡ flyingAt o (t .flown)
+  pub inPieces : size (st .sender .pieces) ≡ inFlight (t .flown)
+  pub ascends : Ascend (z .long) 0 (st .sender .next) (st .sender .pieces)
+  pub holds : (o : ℕ) → listed o (offs (st .sender .pieces)) ≡ true →
+      find o (st .sender .pieces) ≡ take (length (find o (st .sender .pieces))) (drop o (map byteOf (t .flown)))
+  pub next : st .sender .next ≡ length (t .flown)
   pub exactly : (o : ℕ) → ackedAt o (feed e t .flown) ≡ ackedAt o (t .flown) || (ltb o (length (t .flown)) && settledBy e (t .out) o)
-  pub acked : s .acked ≡ acknowledged (t .flown)
+  pub acked : st .sender .acked ≡ acknowledged (t .flown)
   pub carries : Carry (map byteOf (feed e t .flown)) (s′ .pieces) (framesTold e)
-  pub keeps : (o : ℕ) → listed o (heldOffs (s .held)) ≡ true → listed o (heldOffs (s′ .held)) ≡ true →
-      (1 ≤ length (find o (s .pieces))) × (find o (s′ .pieces) ≡ find o (s .pieces))
+  pub keeps : (o : ℕ) → listed o (heldOffs (st .sender .held)) ≡ true → listed o (heldOffs (s′ .held)) ≡ true →
+      (1 ≤ length (find o (st .sender .pieces))) × (find o (s′ .pieces) ≡ find o (st .sender .pieces))
   pub flying : inFlight (t .flown) ≤ maxFlying
-  pub pieces : length (s .pieces) ≤ maxPieces
+  pub pieces : length (st .sender .pieces) ≤ maxPieces

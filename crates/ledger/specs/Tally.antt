@@ -6,7 +6,7 @@ use lib.Dec.{leb, ltb, eqb}
 use lib.ListN.{length, take}
 use Rattle.ledger.specs.Reply.{Reply}
 use Rattle.ledger.specs.Ledger.{Frame}
-use Rattle.ledger.specs.Queue.{Message, Queue, noQueue, goes, enqueue, flies, begins, message}
+use Rattle.ledger.specs.Queue.{Message, Queue, noQueue, goes, enqueue, superseded, flies, begins, message}
 
 -- a byte that has flown, acknowledged or not
 pub record Flown : Type 0 where
@@ -25,6 +25,8 @@ pub record Tally : Type 0 where
   pub queue : Queue
   -- the messages that have begun, whole, in the order of their beginning
   pub began : List Message
+  -- the messages that were withdrawn (Change 6)
+  pub withdrawn : List Message
   pub flown : List Flown
   pub out : Outstanding
 
@@ -34,14 +36,14 @@ waits t = goes (t .queue)
 
 -- "at first nothing"
 abbrev pub start : Tally
-start = record { taken = 0; queue = noQueue; began = []; flown = []; out = nothing }
+start = record { taken = 0; queue = noQueue; began = []; withdrawn = []; flown = []; out = nothing }
 
 -- a call, as it is told: its arguments and its answer
 pub data Event : Type 0 where
   -- refused, or a connect
   silent : Event
-  -- bytes queued, with a class
-  took : ℕ → List ℕ → Event
+  -- bytes queued, with a class and a label
+  took : ℕ → ℕ → List ℕ → Event
   -- an ack
   reply : Reply → Event
   -- a turn
@@ -61,9 +63,18 @@ abbrev pub acknowledged : List Flown → ℕ
 acknowledged [] = 0
 acknowledged (f ∷ fs) = cond (f .acked) 1 0 + acknowledged fs
 
--- "A queuing raises taken"; its message waits where its class puts it
-unfoldable pub queued : ℕ → List ℕ → Tally → Tally
-queued c bs t = record { taken = t .taken + length bs; queue = enqueue c bs (t .queue); began = t .began; flown = t .flown; out = t .out }
+-- "A queuing raises taken"; its message waits where its class puts it, and "the tally takes these bytes" of those that it withdraws "out of its
+-- waiting ones"
+unfoldable pub queued : ℕ → ℕ → List ℕ → Tally → Tally
+queued c l bs t =
+    record {
+      taken = t .taken + length bs;
+      queue = enqueue c l bs (t .queue);
+      began = t .began;
+      withdrawn = t .withdrawn ++ superseded l bs (t .queue);
+      flown = t .flown;
+      out = t .out;
+    }
 
 -- bytes that begin to fly, not acknowledged
 abbrev pub unacked : List ℕ → List Flown
@@ -82,6 +93,7 @@ sentOut n fs t =
       taken = t .taken;
       queue = flies (furthest fs - length (t .flown)) (t .queue);
       began = t .began ++ begins (furthest fs - length (t .flown)) (t .queue);
+      withdrawn = t .withdrawn;
       flown = t .flown ++ unacked (take (furthest fs - length (t .flown)) (waits t));
       out = outstanding n fs;
     }
@@ -107,15 +119,24 @@ acknowledgedBy r (outstanding n fs) fl = cond (eqb (r .number) n) (acknowledgeAl
 
 -- "Any ack or turn leaves none outstanding"
 unfoldable pub heard : Reply → Tally → Tally
-heard r t = record { taken = t .taken; queue = t .queue; began = t .began; flown = acknowledgedBy r (t .out) (t .flown); out = nothing }
+heard r t =
+    record {
+      taken = t .taken;
+      queue = t .queue;
+      began = t .began;
+      withdrawn = t .withdrawn;
+      flown = acknowledgedBy r (t .out) (t .flown);
+      out = nothing;
+    }
 
 unfoldable pub noneOutstanding : Tally → Tally
-noneOutstanding t = record { taken = t .taken; queue = t .queue; began = t .began; flown = t .flown; out = nothing }
+noneOutstanding t =
+    record { taken = t .taken; queue = t .queue; began = t .began; withdrawn = t .withdrawn; flown = t .flown; out = nothing }
 
 -- "A refused call or a connect changes nothing"
 abbrev pub feed : Event → Tally → Tally
 feed silent t = t
-feed (took c bs) t = queued c bs t
+feed (took c l bs) t = queued c l bs t
 feed (reply r) t = heard r t
 feed turn t = noneOutstanding t
 feed (went n fs) t = sentOut n fs t
@@ -123,7 +144,7 @@ feed (went n fs) t = sentOut n fs t
 -- the message that an event queues
 abbrev pub queuedIn : Event → List Message
 queuedIn silent = []
-queuedIn (took c bs) = message c bs
+queuedIn (took c l bs) = message c l bs
 queuedIn (reply r) = []
 queuedIn turn = []
 queuedIn (went n fs) = []
@@ -131,7 +152,7 @@ queuedIn (went n fs) = []
 -- the frames that it sends
 abbrev pub framesTold : Event → List Frame
 framesTold silent = []
-framesTold (took c bs) = []
+framesTold (took c l bs) = []
 framesTold (reply r) = []
 framesTold turn = []
 framesTold (went n fs) = fs

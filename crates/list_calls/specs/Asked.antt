@@ -63,7 +63,7 @@ longAsked p s a chars r =
 unfoldable pub queueAsked : Profile → Station → List ℕ → List ℕ → Read → Asked × List ℕ
 queueAsked p s a chars r =
     let q : QueueLine = queueLine (length room) chars r in
-    asked (q .ok) s a (answerNumber (queueOf p s a (q .class) (bytesIn (q .len) chars r)))
+    asked (q .ok) s a (answerNumber (queueOf p s a (q .class) (q .label) (bytesIn (q .len) chars r)))
 
 -- by the call's number (Names.antt of `call_lines`)
 unfoldable pub askedOf : Profile → Station → List ℕ → List ℕ → Named → Asked × List ℕ

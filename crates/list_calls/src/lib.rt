@@ -97,7 +97,10 @@ fn queue(line: &[u8], r: Read, p: Profile, s: Station, area: &mut [u8]) -> Asked
         return broken(s);
     }
     let n = least(q.len, &bytes);
-    let m = Message { class: q.class };
+    let m = Message {
+        class: q.class,
+        label: q.label,
+    };
     let left = numbered::queue(p, s, area, m, &bytes[..n]);
     Asked { ok: true, left }
 }

@@ -87,7 +87,7 @@ fn connect_step(p: Profile, a: &mut [u8], t: &mut [u8]) -> Step {
 }
 
 fn queue_step(p: Profile, last: Step, a: &mut [u8], t: &mut [u8]) -> Step {
-    let routine = Message { class: 3 };
+    let routine = Message { class: 3, label: 0 };
     let q = queue(
         p,
         last.s,
@@ -133,6 +133,12 @@ fn main() {
     let queued = queue_step(p, connected, &mut area, &mut text);
     let sent = burst_step(p, queued, &mut area, &mut out, &mut text);
     let acked = ack_step(p, sent, &mut area, &mut text);
-    let n = state_lines::end(&mut text, acked.n, acked.s.sender.counts);
+    let last = acked.s;
+    let n = state_lines::end(
+        &mut text,
+        acked.n,
+        last.sender.counts,
+        last.messages.withdrawn,
+    );
     write_first(&text, n);
 }

@@ -11,11 +11,12 @@ use borrow.Author.Tests.{leb-true, leb-false, le-leb, lt-ltb, ltb-true, eqb-true
 use Rattle.laws.proofs.Picks.{by, and-first, and-second}
 use Rattle.limits.specs.Limits.{maxClass, maxMessages}
 use Rattle.messages.specs.declared.Messages.{Messages}
-use Rattle.messages.specs.Messages.{noMessages, Entry, entryOf, entriesIn, total, entriesOk, messagesOk, storeEntries}
-use Rattle.messages.specs.MessagesCode.{insertRow, Line, flownFrom, flown}
+use Rattle.messages.specs.Messages.{noMessages, Entry, entriesIn, total, entriesOk, messagesOk, storeEntries, withWithdrawn, begunIn, withdrawnIn}
+use Rattle.messages.specs.MessagesCode.{insertRow, goIn, stayIn, withdrawn, Line, flownFrom, flown}
 use Rattle.messages.specs.SoundCode.{Each, SoundMessages, Sized}
 use Rattle.messages.proofs.Entries.{length-entries, length-insert}
-use Rattle.messages.proofs.Stored.{entries-stored}
+use Rattle.messages.proofs.Stored.{entries-stored, entries-withdrawn, sized-stored}
+use Rattle.messages.proofs.Withdrawn.{stay-go, each-stay}
 
 -- ---- the test, both ways
 
@@ -45,7 +46,7 @@ module _ (m : Messages) (w : ℕ) where
 -- ---- a fresh record
 
 pub sized-none : Sized noMessages
-sized-none = record { left = length-replicate {A = ℕ} maxMessages 0; class = length-replicate {A = ℕ} maxMessages 0 }
+sized-none = let e = length-replicate {A = ℕ} maxMessages 0 in record { left = e; class = e; label = e }
 
 pub sound-none : SoundMessages noMessages 0
 unfolding total
@@ -58,6 +59,45 @@ unfolding storeEntries
 sound-stored m z b es w few each sum =
     let e = sym (entries-stored m z b es few) in
     record { few = few; each = subst Each e each; sum = ap total (sym e) ∙ sum }
+
+-- ---- a withdrawal
+
+sized-with : (k : ℕ) (m : Messages) → Sized m → Sized (withWithdrawn k m)
+sized-with k m z = record { left = z .left; class = z .class; label = z .label }
+
+-- what a queuing withdraws is among the messages
+pub gone-within : (m : Messages) (w l n : ℕ) → SoundMessages m w → (length (withdrawnIn l n m) ≤ m .n) × (total (withdrawnIn l n m) ≤ w)
+unfolding withdrawnIn total
+gone-within m w l n s =
+    let i = stay-go l (begunIn m) (entriesIn m) in
+    by (λ (xs : List Entry). (length xs ≤ m .n) × (total xs ≤ w)) (eqb n 0) (λ _. (omega arith, omega arith))
+    (λ _. (omega (arith, i .0, length-entries m 0 (m .n)), omega (arith, i .1, s .sum)))
+
+-- A WITHDRAWAL KEEPS A SOUND RECORD
+module _ (m : Messages) (w l : ℕ) (z : Sized m) (s : SoundMessages m w) where
+  abbrev stays : List Entry
+  stays = stayIn l (begunIn m) (entriesIn m)
+
+  few-stay : length stays ≤ maxMessages
+  few-stay = omega (arith, stay-go l (begunIn m) (entriesIn m) .0, length-entries m 0 (m .n), s .few)
+
+  pub withdraw-sound : SoundMessages (withdrawn l m) (total stays)
+  unfolding withdrawn
+  withdraw-sound =
+      let k = m .withdrawn + total (goIn l (begunIn m) (entriesIn m)) in
+      let x = storeEntries (begunIn m) stays m in
+      let i = sound-stored m z (begunIn m) stays (total stays) few-stay (each-stay l (begunIn m) (entriesIn m) (s .each)) refl in
+      let e = sym (entries-withdrawn k x) in
+      record { few = i .few; each = subst Each e (i .each); sum = ap total (sym e) ∙ i .sum }
+
+  pub withdraw-sized : Sized (withdrawn l m)
+  unfolding withdrawn
+  withdraw-sized =
+      sized-with (m .withdrawn + total (goIn l (begunIn m) (entriesIn m))) (storeEntries (begunIn m) stays m) (sized-stored m z (begunIn m) stays)
+
+  pub withdraw-rows : withdrawn l m .n ≡ length stays
+  unfolding withdrawn storeEntries
+  withdraw-rows = refl
 
 -- ---- a burst
 
@@ -102,9 +142,8 @@ module _ (e : Entry) where
   each-insert some class (suc row) (x ∷ es) a = (a .0, a .1, each-insert some class row es (a .2))
 
 -- A QUEUING KEEPS A SOUND RECORD
-pub insert-sound : (m : Messages) (w l c : ℕ) → Sized m → SoundMessages m w → m .n < maxMessages → 1 ≤ l → c ≤ maxClass →
-    (b : Bool) (row : ℕ) → SoundMessages (storeEntries b (insertRow row (entryOf l c) (entriesIn m)) m) (w + l)
-insert-sound m w l c z s room some class b row =
-    let e = entryOf l c in
-    sound-stored m z b (insertRow row e (entriesIn m)) (w + l) (omega (arith, length-insert row e (entriesIn m), length-entries m 0 (m .n)))
+pub insert-sound : (m : Messages) (w : ℕ) (e : Entry) → Sized m → SoundMessages m w → m .n < maxMessages → 1 ≤ e .left → e .class ≤ maxClass →
+    (b : Bool) (row : ℕ) → SoundMessages (storeEntries b (insertRow row e (entriesIn m)) m) (w + e .left)
+insert-sound m w e z s room some class b row =
+    sound-stored m z b (insertRow row e (entriesIn m)) (w + e .left) (omega (arith, length-insert row e (entriesIn m), length-entries m 0 (m .n)))
     (each-insert e some class row (entriesIn m) (s .each)) (omega (arith, total-insert e row (entriesIn m), s .sum))

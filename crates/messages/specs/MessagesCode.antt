@@ -1,13 +1,15 @@
--- The code's steps over the messages (document 02, Change 1): what follows the code or serves proofs; nothing here has to be believed.
+-- The code's steps over the messages (document 02, Changes 1 and 6): what follows the code or serves proofs; nothing here has to be believed.
 use Prim.Native.Nat.{ℕ, _+_, _-_}
-use mathlib.Core.Bool.{Bool, true, false, cond, _||_}
+use mathlib.Core.Bool.{Bool, true, false, cond, not, _||_}
 use mathlib.Core.List.{List, [], _∷_, _++_}
 use lib.Dec.{leb, eqb}
-use lib.ListN.{take, drop}
+use lib.ListN.{length, take, drop}
+use Rattle.ledger.specs.Queue.{Message, Queue, insert, first, behind, those, withdraws, staysBy}
 use Rattle.messages.specs.declared.Messages.{Messages}
 use Rattle.messages.specs.declared.Position.{Position}
 use Rattle.messages.specs.declared.Gone.{Gone}
-use Rattle.messages.specs.Messages.{Entry, entryOf, entriesIn, storeEntries}
+use Rattle.messages.specs.declared.Withdrawal.{Withdrawal}
+use Rattle.messages.specs.Messages.{Entry, entryOf, entriesIn, storeEntries, withWithdrawn, total, begunIn, withdrawnIn}
 
 -- ---- a queuing
 
@@ -19,6 +21,30 @@ placeIn c row bytes b (e ∷ es) =
 
 abbrev pub insertRow : ℕ → Entry → List Entry → List Entry
 insertRow row e es = take row es ++ (e ∷ drop row es)
+
+-- ---- withdrawal
+
+-- how many messages a queuing of n bytes with label l withdraws, and their bytes
+abbrev pub supersededIn : ℕ → ℕ → Messages → Withdrawal
+supersededIn l n m = record { n = length (withdrawnIn l n m); bytes = total (withdrawnIn l n m) }
+
+-- the entries that go, and those that stay: the begun one, and those that label l does not withdraw
+abbrev pub goIn : ℕ → Bool → List Entry → List Entry
+goIn l b es = those (λ (e : Entry). withdraws l (e .label)) (behind b es)
+
+abbrev pub stayIn : ℕ → Bool → List Entry → List Entry
+stayIn l b es = first b es ++ those (λ (e : Entry). not (withdraws l (e .label))) (behind b es)
+
+unfoldable pub withdrawn : ℕ → Messages → Messages
+withdrawn l m =
+    withWithdrawn (m .withdrawn + total (goIn l (begunIn m) (entriesIn m))) (storeEntries (begunIn m) (stayIn l (begunIn m) (entriesIn m)) m)
+
+-- the ledger's queue where these are gone, and where a message is put in: a queuing is the one and then the other
+abbrev pub stayQueue : ℕ → Queue → Queue
+stayQueue l q = record { begun = q .begun; messages = first (q .begun) (q .messages) ++ staysBy l q }
+
+abbrev pub putQueue : Message → Queue → Queue
+putQueue x q = record { begun = q .begun; messages = first (q .begun) (q .messages) ++ insert x (behind (q .begun) (q .messages)) }
 
 -- ---- a burst
 
@@ -33,7 +59,7 @@ goneIn k rows b (e ∷ es) =
 -- the first entry has `left` bytes left
 abbrev pub withLeft : ℕ → List Entry → List Entry
 withLeft left [] = []
-withLeft left (e ∷ es) = entryOf left (e .class) ∷ es
+withLeft left (e ∷ es) = entryOf left (e .class) (e .label) ∷ es
 
 abbrev pub cutTo : ℕ → ℕ → List Entry → List Entry
 cutTo rows left es = withLeft left (drop rows es)
@@ -49,7 +75,7 @@ flownFrom k b [] = record { begun = false; entries = [] }
 flownFrom k b (e ∷ es) =
     cond (eqb k 0) (record { begun = b; entries = e ∷ es })
     (cond (leb (e .left) k) (flownFrom (k - e .left) false es)
-    (record { begun = true; entries = entryOf (e .left - k) (e .class) ∷ es }))
+    (record { begun = true; entries = entryOf (e .left - k) (e .class) (e .label) ∷ es }))
 
 abbrev pub storeLine : Line → Messages → Messages
 storeLine x m = storeEntries (x .begun) (x .entries) m

@@ -23,3 +23,4 @@ pub record SoundMessages (m : Messages) (waiting : ℕ) : Type 0 where
 pub record Sized (m : Messages) : Type 0 where
   pub left : length (m .left) ≡ maxMessages
   pub class : length (m .class) ≡ maxMessages
+  pub label : length (m .label) ≡ maxMessages

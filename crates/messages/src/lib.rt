@@ -1,19 +1,22 @@
-// The messages that wait (document 02, Change 1), in the order in which they will go.
+// The messages that wait (document 02, Changes 1 and 6), in the order in which they will go.
 use limits::MAX_CLASS;
 use limits::MAX_MESSAGES;
 ghost use mathlib.Core.Path.{_≡_};
-ghost use Prim.Native.Nat.{_≤_, _<_};
-ghost use Rattle.limits.specs.Limits.{maxMessages};
-ghost use Rattle.messages.specs.Messages.{noMessages, begunIn, entryOf, entriesIn, storeEntries, messagesOk};
-ghost use Rattle.messages.specs.MessagesCode.{placeIn, insertRow, goneIn, cutTo, flown};
+ghost use Prim.Native.Nat.{_+_, _≤_, _<_};
+ghost use Rattle.limits.specs.Limits.{maxMessages, maxTaken};
+ghost use Rattle.ledger.specs.Queue.{withdraws as withdrawsLabel};
+ghost use Rattle.messages.specs.Messages.{noMessages, begunIn, entryOf, entriesIn, storeEntries, total, messagesOk};
+ghost use Rattle.messages.specs.MessagesCode.{placeIn, insertRow, supersededIn, withdrawn, goneIn, cutTo, flown};
 
-// n messages, each with its class and the bytes of it that wait. `begun`: bytes of the first have begun to fly; with no message it says
-// nothing.
+// n messages, each with its class, its label, 0 for none, and the bytes of it that wait. `withdrawn`: bytes of messages withdrawn, in all.
+// `begun`: bytes of the first have begun to fly; with no message it says nothing.
 #[repr(C)]
 pub struct Messages {
     pub left: [u16; MAX_MESSAGES],
     pub class: [u8; MAX_MESSAGES],
+    pub label: [u16; MAX_MESSAGES],
     pub n: usize,
+    pub withdrawn: u32,
     pub begun: bool,
 }
 
@@ -24,7 +27,9 @@ pub fn none() -> Messages
     Messages {
         left: [0; MAX_MESSAGES],
         class: [0; MAX_MESSAGES],
+        label: [0; MAX_MESSAGES],
         n: 0,
+        withdrawn: 0,
         begun: false,
     }
 }
@@ -33,6 +38,12 @@ pub fn none() -> Messages
 pub struct Position {
     pub row: usize,
     pub bytes: usize,
+}
+
+// How many messages a queuing withdraws, and their bytes.
+pub struct Withdrawal {
+    pub n: usize,
+    pub bytes: u32,
 }
 
 // The messages of which all bytes begin to fly, the bytes left of the one behind them, and whether it has begun.
@@ -95,9 +106,9 @@ pub fn place(m: Messages, class: u8) -> Position
 }
 
 // A message put in at a row; those from there on move up.
-pub fn insert(m: Messages, row: usize, left: u16, class: u8) -> Messages
+pub fn insert(m: Messages, row: usize, left: u16, class: u8, label: u16) -> Messages
     requires { ⌜ (row ≤ m .n) × (m .n < maxMessages) ⌝ }
-    ensures { λ r. ⌜ r ≡ storeEntries (begunIn m) (insertRow row (entryOf left class) (entriesIn m)) m ⌝ }
+    ensures { λ r. ⌜ r ≡ storeEntries (begunIn m) (insertRow row (entryOf left class label) (entriesIn m)) m ⌝ }
 {
     let n = m.n;
     let mut out = m;
@@ -105,14 +116,79 @@ pub fn insert(m: Messages, row: usize, left: u16, class: u8) -> Messages
     while i < n {
         let l = m.left[i];
         let c = m.class[i];
+        let b = m.label[i];
         out.left[i + 1] = l;
         out.class[i + 1] = c;
+        out.label[i + 1] = b;
         i += 1;
     }
     out.left[row] = left;
     out.class[row] = class;
+    out.label[row] = label;
     out.n = n + 1;
     out.begun = m.begun & (0 < n);
+    out
+}
+
+// Whether a label withdraws a message of label `of` that has not begun.
+pub fn withdraws(label: u16, of: u16) -> bool
+    ensures { λ r. ⌜ r ≡ withdrawsLabel label of ⌝ }
+{
+    (label != 0) & (of == label)
+}
+
+// What a queuing of n bytes with this label withdraws: the messages with it that have not begun. No bytes, or no label, withdraw none.
+pub fn superseded(m: Messages, label: u16, n: usize) -> Withdrawal
+    requires { ⌜ m .n ≤ maxMessages ⌝ }
+    ensures { λ r. ⌜ r ≡ supersededIn label n m ⌝ }
+{
+    if (n == 0) | (label == 0) {
+        return Withdrawal { n: 0, bytes: 0 };
+    }
+    let rows = m.n;
+    let mut gone = 0;
+    let mut bytes: u32 = 0;
+    let mut begun = m.begun;
+    let mut i = 0;
+    while i < rows {
+        let of = m.label[i];
+        if !begun & withdraws(label, of) {
+            gone = gone + 1;
+            bytes = bytes + wide(m.left[i]);
+        }
+        begun = false;
+        i += 1;
+    }
+    Withdrawal { n: gone, bytes }
+}
+
+// The messages that a queuing with this label leaves; the bytes of the others count as withdrawn.
+pub fn withdraw(m: Messages, label: u16) -> Messages
+    requires { ⌜ (m .n ≤ maxMessages) × (m .withdrawn + total (entriesIn m) ≤ maxTaken) ⌝ }
+    ensures { λ r. ⌜ r ≡ withdrawn label m ⌝ }
+{
+    let rows = m.n;
+    let mut out = m;
+    let mut begun = m.begun;
+    let mut to = 0;
+    let mut i = 0;
+    while i < rows {
+        let l = m.left[i];
+        let c = m.class[i];
+        let b = m.label[i];
+        if !begun & withdraws(label, b) {
+            out.withdrawn = out.withdrawn + wide(l);
+        } else {
+            out.left[to] = l;
+            out.class[to] = c;
+            out.label[to] = b;
+            to += 1;
+        }
+        begun = false;
+        i += 1;
+    }
+    out.n = to;
+    out.begun = m.begun & (0 < rows);
     out
 }
 
@@ -159,8 +235,10 @@ fn cut_to(m: Messages, rows: usize, left: u16, begun: bool) -> Messages
     while i < n {
         let l = m.left[i];
         let c = m.class[i];
+        let b = m.label[i];
         out.left[i - rows] = l;
         out.class[i - rows] = c;
+        out.label[i - rows] = b;
         i += 1;
     }
     if rows < n {

@@ -16,10 +16,11 @@ ghost use Rattle.sender.specs.Calls.{queueOf, receiveOf, findOf, burstCall};
 ghost use Rattle.refusals.specs.declared.Reply.the-variants as R;
 ghost use Rattle.numbered.specs.Numbered.{answerNumber, burstNumber, findNumber};
 
-// What a queuing says of its message (document 02, Change 1).
+// What a queuing says of its message: its class, and its label, 0 for none (document 02, Changes 1 and 6).
 #[repr(C)]
 pub struct Message {
     pub class: u8,
+    pub label: u16,
 }
 
 // A refusal's number, 0 where the call is accepted, and the next record.
@@ -51,9 +52,9 @@ pub struct Place {
 
 // Bytes to send, as one message.
 pub fn queue(p: Profile, t: Station, a: &mut [u8], m: Message, bytes: &[u8]) -> Left
-    ensures { λ r. ⌜ (r, now (a .exit)) ≡ answerNumber (queueOf p t (now (a .entry)) (m .class) (now (bytes .entry))) ⌝ }
+    ensures { λ r. ⌜ (r, now (a .exit)) ≡ answerNumber (queueOf p t (now (a .entry)) (m .class) (m .label) (now (bytes .entry))) ⌝ }
 {
-    let q = sender::queue(p, t, a, m.class, bytes);
+    let q = sender::queue(p, t, a, m.class, m.label, bytes);
     let v = q.verdict;
     let refusal = number(v);
     let next = q.next;

@@ -1,16 +1,20 @@
--- A queuing is one insertion among the waiting bytes and one among the messages, and the ledger's.
+-- A queuing is a withdrawal and then one insertion among the waiting bytes and one among the messages, and the ledger's.
 -- Assumes nothing.
 use mathlib.Core.Path.{_≡_, refl, sym, ap, ap₂, subst, _∙_}
 use mathlib.Core.List.{List, [], _∷_, _++_, append-assoc}
-use Prim.Native.Nat.{ℕ, _+_, _-_, _≤_}
-use native.Mathlib.Nat.{zero-add}
+use Prim.Native.Nat.{ℕ, _+_, _-_, _≤_, _<_}
+use native.Mathlib.Nat.{zero-add, add-zero}
 use native.Mathlib.Omega.{arith}
-use lib.ListN.{length, take, drop, length-append}
-use lib.Seq.{take-add, take-at, drop-at}
+use lib.ListN.{length, take, drop, length-append, length-drop, take-append-drop}
+use lib.Seq.{take-length, length-take-le}
+use lib.Dec.{eqb}
+use borrow.Author.Tests.{eq-eqb}
 use Rattle.laws.specs.Bytes.{overwrite, part, Bytes}
-use Rattle.laws.proofs.Bytes.{over-part, over-keep, over-comm, length-part, part-add}
-use Rattle.limits.specs.Limits.{maxClass}
+use Rattle.laws.proofs.Bytes.{over-part, over-keep, over-cat, over-over, over-comm, length-over, length-part, part-inside}
+use Rattle.laws.proofs.Picks.{test, or-right}
+use Rattle.limits.specs.Limits.{maxClass, maxWaiting, maxMessages}
 use Rattle.ledger.specs.Ledger.{bytesOf, requeue}
+use Rattle.ledger.specs.Queue.{Message, Queue, messageBytes, goes, enqueue, superseded, withdrawnBy}
 use Rattle.ledger.specs.Station.{takeIn}
 use Rattle.area.specs.Layout.{place, streamBytes}
 use Rattle.area.specs.Table.{rowsFrom, tableBytes}
@@ -25,168 +29,263 @@ use Rattle.record.specs.declared.LastBurst.{LastBurst}
 use Rattle.record.specs.declared.Link.{Link}
 use Rattle.record.specs.declared.Sender.{Sender}
 use Rattle.record.proofs.View.{Arrays, Counted, bytes-pieces, rows-pieces, counts-kept, held-kept, sent-kept}
-use Rattle.messages.specs.Messages.{entryOf, entriesIn, storeEntries, begunIn}
-use Rattle.messages.specs.MessagesCode.{placeIn, insertRow}
+use Rattle.messages.specs.Messages.{Entry, entryOf, entriesIn, storeEntries, withWithdrawn, total, begunIn, queueIn, storeQueue}
+use Rattle.messages.specs.MessagesCode.{insertRow, goIn, stayIn, withdrawn, stayQueue, putQueue}
 use Rattle.messages.specs.SoundCode.{SoundMessages, Sized}
 use Rattle.messages.specs.declared.Messages.{Messages}
-use Rattle.messages.specs.declared.Position.{Position}
 use Rattle.messages.proofs.Placed.{place-within}
-use Rattle.messages.proofs.Kept.{insert-sound}
+use Rattle.messages.proofs.Kept.{insert-sound, withdraw-sound, withdraw-sized, withdraw-rows}
 use Rattle.messages.proofs.Stored.{sized-stored}
-use Rattle.messages.proofs.Link.{goes-place, insert-stores}
+use Rattle.messages.proofs.Withdrawn.{stay-go, gone-in, nothing-gone}
+use Rattle.messages.proofs.Link as M
+use Rattle.messages.proofs.Entries.{length-entries}
 use Rattle.queuing.specs.Station.{viewStation, storeStation, queuedIn}
-use Rattle.queuing.specs.StationCode.{Fit}
+use Rattle.queuing.specs.StationCode.{Fit, Room, queuedTo, stayBytes, stayStation, placeOf, putStation, putArea}
 use Rattle.queuing.specs.declared.Station.{Station}
 use Rattle.queuing.proofs.Shown.{waiting-sum}
 
-abbrev pub queuedTo : Sender → ℕ → Sender
-queuedTo s n = withCounts s (withWaiting (s .counts) n)
+-- ---- the sender, and its work area, where other bytes wait
 
--- ---- bytes put in behind the first k waiting ones
-
-module _ (s : Sender) (a : List ℕ) (c : Counted s a) (by : Bytes a) (bs : List ℕ) (k : ℕ) (low : k ≤ s .counts .waiting) where
+module _ (s : Sender) (a : List ℕ) (c : Counted s a) (by : Bytes a) (v : List ℕ) where
   abbrev f : ℕ
   f = s .counts .flying
-
-  abbrev w : ℕ
-  w = s .counts .waiting
 
   abbrev rows : List Row
   rows = rowsFrom a 0 (s .counts .pieces)
 
-  -- the waiting bytes before and behind the new ones
-  abbrev x : List ℕ
-  x = part a f k
-
-  abbrev y : List ℕ
-  y = part a (f + k) (w - k)
-
-  -- what waits then
-  abbrev put : List ℕ
-  put = take k (part a f w) ++ (bs ++ drop k (part a f w))
-
-  length-x : length x ≡ k
-  length-x = length-part a f k (omega (arith, c .stream, c .area))
-
-  put-is : put ≡ x ++ (bs ++ y)
-  put-is =
-      ap (λ (v : List ℕ). take k v ++ (bs ++ drop k v)) (ap (part a f) (let e : w ≡ k + (w - k) = omega arith in e) ∙ part-add a f k (w - k))
-      ∙ ap₂ (λ (u v : List ℕ). u ++ (bs ++ v)) (take-at x y k length-x) (drop-at x y k length-x)
-
-  put-area : f + w + length bs ≤ streamBytes → storeArea (requeue put (view s a)) a ≡ overwrite a (f + k) (bs ++ y)
+  pub requeued-area : f + length v ≤ streamBytes → storeArea (requeue v (view s a)) a ≡ overwrite a f v
   unfolding storeArea view requeue
-  put-area fits =
-      let new = bs ++ y in
-      let e : bytesOf (piecesOf rows a) ++ put ≡ part a 0 (f + k) ++ new =
-      ap₂ (λ (u v : List ℕ). u ++ v) (bytes-pieces rows a ∙ ap (λ (n : ℕ). take n a) (c .flying)) put-is ∙ sym (append-assoc (take f a) x new)
-      ∙ ap (λ (v : List ℕ). v ++ new) (sym (take-add f k a)) in
-      let l : length new ≡ length bs + (w - k) = omega (arith, length-append bs y, length-part a (f + k) (w - k) (omega (arith, c .stream, c .area))) in
-      ap₂ (λ (v : List ℕ) (rs : List Row). overwrite (overwrite a 0 v) (place 0) (tableBytes rs)) e (rows-pieces rows a (omega (arith, c .flying, c .stream, c .area)))
-      ∙ ap (λ (v : List ℕ). overwrite v (place 0) (tableBytes rows)) (over-keep a 0 (f + k) new (omega (arith, c .stream, c .area)) ∙ ap (λ (n : ℕ). overwrite a n new) (zero-add (f + k)))
-      ∙ over-comm a (f + k) new (place 0) (tableBytes rows) (omega (arith, fits))
-      ∙ ap (λ (v : List ℕ). overwrite v (f + k) new) (table-kept a by 0 (s .counts .pieces) (omega (arith, c .pieces, c .area)))
+  requeued-area fits =
+      ap₂ (λ (x : List ℕ) (rs : List Row). overwrite (overwrite a 0 (x ++ v)) (place 0) (tableBytes rs)) (bytes-pieces rows a ∙ ap (λ (n : ℕ). part a 0 n) (c .flying))
+      (rows-pieces rows a (omega (arith, c .flying, c .stream, c .area)))
+      ∙ ap (λ (x : List ℕ). overwrite x (place 0) (tableBytes rows)) (over-keep a 0 f v (omega (arith, c .stream, c .area)) ∙ ap (λ (n : ℕ). overwrite a n v) (zero-add f))
+      ∙ over-comm a f v (place 0) (tableBytes rows) (omega (arith, fits))
+      ∙ ap (λ (x : List ℕ). overwrite x f v) (table-kept a by 0 (s .counts .pieces) (omega (arith, c .pieces, c .area)))
 
-  length-put : length put ≡ w + length bs
-  length-put =
-      ap length put-is
-      ∙ (let e : length (x ++ (bs ++ y)) ≡ w + length bs = omega (arith, length-append x (bs ++ y), length-append bs y, length-x, length-part a (f + k) (w - k) (omega (arith, c .stream, c .area))) in e)
-
-  put-counts : storeCounts (requeue put (view s a)) (s .counts) ≡ withWaiting (s .counts) (w + length bs)
+  requeued-counts : storeCounts (requeue v (view s a)) (s .counts) ≡ withWaiting (s .counts) (length v)
   unfolding storeCounts view requeue
-  put-counts =
+  requeued-counts =
       let q = counts-kept s a c by in
-      ap₂ (λ (n m : ℕ). withPieces (withFlying (withWaiting (s .counts) n) m) (length (piecesOf rows a))) length-put (ap (λ (v : Counts). v .flying) q)
-      ∙ ap (withPieces (withWaiting (s .counts) (w + length bs))) (ap (λ (v : Counts). v .pieces) q)
+      ap (λ (m : ℕ). withPieces (withFlying (withWaiting (s .counts) (length v)) m) (length (piecesOf rows a))) (ap (λ (x : Counts). x .flying) q)
+      ∙ ap (withPieces (withWaiting (s .counts) (length v))) (ap (λ (x : Counts). x .pieces) q)
 
   module _ (ar : Arrays s) where
-    put-held : storeHeld (requeue put (view s a)) (s .«at_peer») ≡ s .«at_peer»
+    requeued-held : storeHeld (requeue v (view s a)) (s .«at_peer») ≡ s .«at_peer»
     unfolding storeHeld view requeue
-    put-held = held-kept s a c ar
+    requeued-held = held-kept s a c ar
 
-    put-sent : storeSent (requeue put (view s a)) (s .«last_burst») ≡ s .«last_burst»
+    requeued-sent : storeSent (requeue v (view s a)) (s .«last_burst») ≡ s .«last_burst»
     unfolding storeSent view requeue
-    put-sent = sent-kept s a c ar
+    requeued-sent = sent-kept s a c ar
 
-    put-link : storeLink (requeue put (view s a)) (s .link) ≡ s .link
+    requeued-link : storeLink (requeue v (view s a)) (s .link) ≡ s .link
     unfolding storeLink view requeue
-    put-link = refl
+    requeued-link = refl
 
-    put-record : store (requeue put (view s a)) s ≡ queuedTo s (w + length bs)
+    pub requeued-record : store (requeue v (view s a)) s ≡ queuedTo s (length v)
     unfolding store
-    put-record =
-        ap₂ (λ (u : Counts) (v : AtPeer). withLastBurst (withAtPeer (withCounts (withLink s (storeLink (requeue put (view s a)) (s .link))) u) v) (storeSent (requeue put (view s a)) (s .«last_burst»)))
-        put-counts put-held
-        ∙ ap₂ (λ (u : Link) (v : LastBurst). withLastBurst (withLink (queuedTo s (w + length bs)) u) v) put-link put-sent
+    requeued-record =
+        ap₂ (λ (x : Counts) (y : AtPeer). withLastBurst (withAtPeer (withCounts (withLink s (storeLink (requeue v (view s a)) (s .link))) x) y) (storeSent (requeue v (view s a)) (s .«last_burst»)))
+        requeued-counts requeued-held
+        ∙ ap₂ (λ (x : Link) (y : LastBurst). withLastBurst (withLink (queuedTo s (length v)) x) y) requeued-link requeued-sent
 
 -- WHAT IS SHOWN IS STORED ALREADY
 pub stored-already : (s : Sender) (a : List ℕ) → Counted s a → Bytes a → Arrays s →
     (store (requeue (view s a .waiting) (view s a)) s ≡ s) × (storeArea (requeue (view s a .waiting) (view s a)) a ≡ a)
 unfolding view
 stored-already s a c by ar =
-    let w = s .counts .waiting in (
-      put-record s a c by [] 0 (omega arith) ar ∙ ap (queuedTo s) (let e : w + 0 ≡ w = omega arith in e),
-      put-area s a c by [] 0 (omega arith) (omega (arith, c .stream)) ∙ over-part a (s .counts .flying + 0) (w - 0),
+    let w = part a (s .counts .flying) (s .counts .waiting) in
+    let n : length w ≡ s .counts .waiting = length-part a (s .counts .flying) (s .counts .waiting) (omega (arith, c .stream, c .area)) in (
+      requeued-record s a c by w ar ∙ ap (queuedTo s) n,
+      requeued-area s a c by w (omega (arith, c .stream)) ∙ over-part a (s .counts .flying) (s .counts .waiting),
     )
+
+-- ---- bytes put in behind the first k of v, which lie at f
+pub put-over : (a v bs : List ℕ) (f k : ℕ) → k ≤ length v → f + length v ≤ length a →
+    overwrite (overwrite a f v) (f + k) (bs ++ part (overwrite a f v) (f + k) (length v - k)) ≡ overwrite a f (take k v ++ (bs ++ drop k v))
+put-over a v bs f k low fits =
+    let x = take k v in
+    let y = drop k v in
+    let len : length x ≡ k = length-take-le k v low in
+    let tail : part (overwrite a f v) (f + k) (length v - k) ≡ y =
+    part-inside a f v k (length v - k) (omega arith) fits ∙ ap (λ (n : ℕ). take n y) (sym (length-drop k v)) ∙ take-length y in
+    let split : overwrite a f v ≡ overwrite (overwrite a f x) (f + k) y =
+    ap (overwrite a f) (sym (take-append-drop k v)) ∙ sym (over-cat a f x y) ∙ ap (λ (n : ℕ). overwrite (overwrite a f x) (f + n) y) len in
+    ap (λ (z : List ℕ). overwrite (overwrite a f v) (f + k) (bs ++ z)) tail ∙ ap (λ (z : List ℕ). overwrite z (f + k) (bs ++ y)) split
+    ∙ over-over (overwrite a f x) (f + k) y (bs ++ y) (omega (arith, length-append bs y))
+    ∙ ap (λ (n : ℕ). overwrite (overwrite a f x) (f + n) (bs ++ y)) (sym len) ∙ over-cat a f x (bs ++ y)
 
 -- ---- a queuing
 
-pub fit-counted : (t : Station) (a : List ℕ) (n : ℕ) → Fit t a n → Counted (t .sender) a
-fit-counted t a n f =
-    record { area = f .area; held = f .held; rest = f .rest; sent = f .sent; pieces = f .pieces; flying = f .flying; stream = omega (arith, f .stream) }
+pub fit-counted : (t : Station) (a : List ℕ) (l n : ℕ) → Fit t a l n → Counted (t .sender) a
+fit-counted t a l n f =
+    record { area = f .area; held = f .held; rest = f .rest; sent = f .sent; pieces = f .pieces; flying = f .flying; stream = omega (arith, f .stream, f .waits) }
 
-pub queued-none : (c : ℕ) (bs : List ℕ) (t : Station) (a : List ℕ) → length bs ≡ 0 → (t, a) ≡ queuedIn c bs t a
+pub queued-none : (c l : ℕ) (bs : List ℕ) (t : Station) (a : List ℕ) → length bs ≡ 0 → (t, a) ≡ queuedIn c l bs t a
 unfolding queuedIn
-queued-none c [] t a e = refl
-queued-none c (b ∷ bs) t a e = absurd (omega (arith, e))
+queued-none c l [] t a e = refl
+queued-none c l (b ∷ bs) t a e = absurd (omega (arith, e))
 
-module _ (t : Station) (a : List ℕ) (ar : Arrays (t .sender)) (by : Bytes a) (c : ℕ) where
-  abbrev s : Sender
-  s = t .sender
-
+-- what a queuing needs, of what stays
+module _ (t : Station) (a : List ℕ) (l n : ℕ) (fit : Fit t a l n) (some : 1 ≤ n) where
   abbrev m : Messages
   m = t .messages
 
-  -- where the message goes
-  abbrev at : Position
-  at = placeIn c 0 0 (m .begun) (entriesIn m)
+  abbrev stays : List Entry
+  stays = stayIn l (begunIn m) (entriesIn m)
 
-  abbrev from : ℕ
-  from = s .counts .flying + at .bytes
+  pub stay-bytes : total stays + n ≤ maxWaiting
+  stay-bytes =
+      omega (arith, stay-go l (begunIn m) (entriesIn m) .1, ap total (gone-in l n m some), fit .bytes, fit .messages .sum)
 
-  queued-more : (b : ℕ) (bs : List ℕ) → Fit t a (length (b ∷ bs)) → (
-    record { sender = queuedTo s (s .counts .waiting + length (b ∷ bs)); messages = storeEntries (begunIn m) (insertRow (at .row) (entryOf (length (b ∷ bs)) c) (entriesIn m)) m },
-    overwrite a from ((b ∷ bs) ++ part a from (s .counts .waiting - at .bytes)),
+  pub stay-row : length stays < maxMessages
+  stay-row =
+      omega (arith, stay-go l (begunIn m) (entriesIn m) .0, ap length (gone-in l n m some), fit .row some, length-entries m 0 (m .n))
+
+  pub stay-room : Sized m → (x : List ℕ) → length x ≡ length a → Room (stayStation l t) x n
+  stay-room z x e =
+      record {
+        messages = withdraw-sound m (t .sender .counts .waiting) l z (fit .messages);
+        row = omega (arith, stay-row, withdraw-rows m (t .sender .counts .waiting) l z (fit .messages));
+        bytes = stay-bytes;
+        area = omega (arith, stay-bytes, fit .stream, fit .area);
+      }
+
+  -- without a label
+  pub plain-room : l ≡ 0 → Room t a n
+  unfolding total
+  plain-room e =
+      let z = nothing-gone l n m (or-right (eqb n 0) (eqb l 0) (eq-eqb l 0 e)) in
+      let by : t .sender .counts .waiting + n ≤ maxWaiting = omega (arith, ap total z, fit .bytes) in
+      record { messages = fit .messages; row = omega (arith, ap length z, fit .row some); bytes = by; area = omega (arith, fit .stream, fit .area) }
+
+module _ (t : Station) (a : List ℕ) (ar : Arrays (t .sender)) (by : Bytes a) (z : Sized (t .messages)) (c l b : ℕ) (bs : List ℕ) (fit : Fit t a l (length (b ∷ bs))) where
+  abbrev s : Sender
+  s = t .sender
+
+  abbrev n : ℕ
+  n = length (b ∷ bs)
+
+  abbrev new : Message
+  new = record { class = c; label = l; bytes = b ∷ bs }
+
+  counted : Counted s a
+  counted = fit-counted t a l n fit
+
+  -- what waits
+  abbrev waits : List ℕ
+  waits = view s a .waiting
+
+  sum : total (entriesIn (t .messages)) ≡ length waits
+  sum = waiting-sum t a counted (fit .messages)
+
+  abbrev queue : Queue
+  queue = queueIn (t .messages) waits
+
+  abbrev sums : ℕ
+  sums = t .messages .withdrawn + length (messageBytes (superseded l (b ∷ bs) queue))
+
+  -- once v waits, and the record holds the messages x
+  module _ (x : Messages) (v : List ℕ) (low : placeOf c x .bytes ≤ length v) (most : length v + n ≤ maxWaiting)
+      (bytes : goes (enqueue c l (b ∷ bs) queue) ≡ take (placeOf c x .bytes) v ++ ((b ∷ bs) ++ drop (placeOf c x .bytes) v))
+      (stores : storeEntries (begunIn x) (insertRow (placeOf c x .row) (entryOf n c l) (entriesIn x)) x ≡ withWithdrawn sums (storeQueue (enqueue c l (b ∷ bs) queue) (t .messages))) where
+    abbrev u : Station
+    u = record { sender = queuedTo s (length v); messages = x }
+
+    long : length (goes (enqueue c l (b ∷ bs) queue)) ≡ length v + n
+    long =
+        let k = placeOf c x .bytes in
+        omega (arith, ap length bytes, length-append (take k v) ((b ∷ bs) ++ drop k v), length-append (b ∷ bs) (drop k v), length-take-le k v low, length-drop k v)
+
+    put-is : (putStation c l n u, putArea c (b ∷ bs) u (overwrite a (s .counts .flying) v)) ≡ queuedIn c l (b ∷ bs) t a
+    unfolding queuedIn takeIn viewStation storeStation
+    put-is =
+        let w = goes (enqueue c l (b ∷ bs) queue) in
+        let f = s .counts .flying in
+        let e₁ = ap (queuedTo s) (sym long) ∙ sym (requeued-record s a counted by w ar) in
+        let e₂ = put-over a v (b ∷ bs) f (placeOf c x .bytes) low (omega (arith, fit .stream, fit .area))
+        ∙ ap (overwrite a f) (sym bytes) ∙ sym (requeued-area s a counted by w (omega (arith, long, fit .stream))) in
+        λ j. (record { sender = e₁ j; messages = stores j }, e₂ j)
+
+  -- the record that both ways store
+  labelled-stores : withWithdrawn (t .messages .withdrawn + length (messageBytes (withdrawnBy l queue))) (storeQueue (putQueue new (stayQueue l queue)) (t .messages))
+      ≡ withWithdrawn sums (storeQueue (enqueue c l (b ∷ bs) queue) (t .messages))
+  unfolding superseded
+  labelled-stores = ap (λ (q : Queue). withWithdrawn sums (storeQueue q (t .messages))) (sym (M.enqueue-steps c l b bs queue))
+
+  plain-stores : l ≡ 0 → length (messageBytes (superseded l (b ∷ bs) queue)) ≡ total []
+      → storeQueue (putQueue new queue) (t .messages) ≡ withWithdrawn sums (storeQueue (enqueue c l (b ∷ bs) queue) (t .messages))
+  unfolding storeQueue storeEntries total
+  plain-stores e g =
+      ap (λ (q : Queue). storeQueue q (t .messages)) (sym (M.enqueue-step c l b bs queue e))
+      ∙ ap (λ (k : ℕ). withWithdrawn k (storeQueue (enqueue c l (b ∷ bs) queue) (t .messages)))
+      (sym (ap (λ (k : ℕ). t .messages .withdrawn + k) g ∙ add-zero (t .messages .withdrawn)))
+
+  -- WHAT A WITHDRAWAL AND `put_in` LEAVE
+  abbrev stayed : List ℕ
+  stayed = overwrite a (s .counts .flying) (stayBytes l (t .messages) (drop (s .counts .flying) a))
+
+  pub queued-labelled : (putStation c l n (stayStation l t), putArea c (b ∷ bs) (stayStation l t) stayed) ≡ queuedIn c l (b ∷ bs) t a
+  unfolding view
+  queued-labelled =
+      let m = t .messages in
+      let v = goes (stayQueue l queue) in
+      let w = s .counts .waiting in
+      let same : stayBytes l m (drop (s .counts .flying) a) ≡ v = ap (λ (q : Queue). goes (stayQueue l q)) (sym (M.queue-take m w (drop (s .counts .flying) a) (omega (arith, fit .messages .sum)))) in
+      let len : total (stayIn l (begunIn m) (entriesIn m)) ≡ length v = M.bytes-stay m waits sum l in
+      let sound = withdraw-sound m w l z (fit .messages) in
+      let few = fit .messages .few in
+      (λ j.
+      let u : Station = record { sender = queuedTo s (len j); messages = withdrawn l m } in
+      (putStation c l n u, putArea c (b ∷ bs) u (overwrite a (s .counts .flying) (same j))))
+      ∙ put-is (withdrawn l m) v (omega (arith, place-within (withdrawn l m) (total (stayIn l (begunIn m) (entriesIn m))) c sound .1))
+      (omega (arith, stay-bytes t a l n fit (omega arith))) (ap goes (M.enqueue-steps c l b bs queue) ∙ M.goes-again m waits sum z few l new)
+      (M.stores-again m waits sum z few l new ∙ labelled-stores)
+
+  -- WITHOUT A LABEL `put_in` LEAVES IT
+  pub queued-plain : l ≡ 0 → (putStation c l n t, putArea c (b ∷ bs) t a) ≡ queuedIn c l (b ∷ bs) t a
+  unfolding view
+  queued-plain e =
+      let m = t .messages in
+      let f = s .counts .flying in
+      let w = s .counts .waiting in
+      let len : w ≡ length waits = sym (length-part a f w (omega (arith, counted .stream, counted .area))) in
+      let gone = M.superseded-bytes m waits sum l (b ∷ bs) ∙ ap total (nothing-gone l n m (or-right (eqb n 0) (eqb l 0) (eq-eqb l 0 e))) in
+      let room = plain-room t a l n fit (omega arith) e in
+      (λ j.
+      let u : Station = record { sender = queuedTo s (len j); messages = m } in
+      (putStation c l n u, putArea c (b ∷ bs) u (sym (over-part a f w) j)))
+      ∙ put-is m waits (omega (arith, place-within m w c (fit .messages) .1)) (omega (arith, room .bytes))
+      (ap goes (M.enqueue-step c l b bs queue e) ∙ M.goes-place m waits sum new) (M.insert-stores m waits sum new ∙ plain-stores e gone)
+
+  -- the clauses about messages
+  keeps : c ≤ maxClass → let r = queuedIn c l (b ∷ bs) t a .0 in SoundMessages (r .messages) (r .sender .counts .waiting) × Sized (r .messages)
+  keeps h =
+      let w = s .counts .waiting in
+      let x = withdrawn l (t .messages) in
+      let y = withdraw-sized (t .messages) w l z (fit .messages) in
+      let e = entryOf n c l in
+      subst (λ (r : Station × List ℕ). SoundMessages (r .0 .messages) (r .0 .sender .counts .waiting) × Sized (r .0 .messages)) queued-labelled (
+        insert-sound x _ e y (withdraw-sound (t .messages) w l z (fit .messages)) (stay-room t a l n fit (omega arith) z a refl .row) (omega arith) h (begunIn x) (placeOf c x .row),
+        sized-stored x y (begunIn x) (insertRow (placeOf c x .row) e (entriesIn x)),
+      )
+
+module _ (t : Station) (a : List ℕ) (ar : Arrays (t .sender)) (by : Bytes a) (z : Sized (t .messages)) (c l : ℕ) where
+  pub queued-some : (bs : List ℕ) → 1 ≤ length bs → Fit t a l (length bs) → (
+    putStation c l (length bs) (stayStation l t),
+    putArea c bs (stayStation l t) (overwrite a (t .sender .counts .flying) (stayBytes l (t .messages) (drop (t .sender .counts .flying) a))),
   )
-      ≡ queuedIn c (b ∷ bs) t a
-  unfolding queuedIn takeIn viewStation storeStation view
-  queued-more b bs f =
-      let k = fit-counted t a (length (b ∷ bs)) f in
-      let wl = view s a .waiting in
-      let sum = waiting-sum t a k (f .messages) in
-      let low = place-within m (s .counts .waiting) c (f .messages) .1 in
-      let same = goes-place m wl sum c b bs in
-      let e₁ = ap (λ (v : List ℕ). store (requeue v (view s a)) s) same ∙ put-record s a k by (b ∷ bs) (at .bytes) low ar in
-      let e₂ = insert-stores m wl sum c b bs in
-      let e₃ = ap (λ (v : List ℕ). storeArea (requeue v (view s a)) a) same ∙ put-area s a k by (b ∷ bs) (at .bytes) low (f .stream) in
-      λ j. (record { sender = sym e₁ j; messages = e₂ j }, sym e₃ j)
-
-  -- WHAT `insert_in` AND `insert` LEAVE
-  pub queued-some : (bs : List ℕ) → 1 ≤ length bs → Fit t a (length bs) → (
-    record { sender = queuedTo s (s .counts .waiting + length bs); messages = storeEntries (begunIn m) (insertRow (at .row) (entryOf (length bs) c) (entriesIn m)) m },
-    overwrite a from (bs ++ part a from (s .counts .waiting - at .bytes)),
-  )
-      ≡ queuedIn c bs t a
+      ≡ queuedIn c l bs t a
   queued-some [] h f = absurd (omega arith)
-  queued-some (b ∷ bs) h f = queued-more b bs f
+  queued-some (b ∷ bs) h f = queued-labelled t a ar by z c l b bs f
+
+  pub queued-unlabelled : (bs : List ℕ) → 1 ≤ length bs → Fit t a l (length bs) → l ≡ 0 → (putStation c l (length bs) t, putArea c bs t a) ≡ queuedIn c l bs t a
+  queued-unlabelled [] h f e = absurd (omega arith)
+  queued-unlabelled (b ∷ bs) h f e = queued-plain t a ar by z c l b bs f e
 
   -- A QUEUING KEEPS THE CLAUSES ABOUT MESSAGES
-  pub queued-keeps : (bs : List ℕ) → Fit t a (length bs) → c ≤ maxClass → Sized m →
-      let r = queuedIn c bs t a .0 in SoundMessages (r .messages) (r .sender .counts .waiting) × Sized (r .messages)
+  pub queued-keeps : (bs : List ℕ) → Fit t a l (length bs) → c ≤ maxClass →
+      let r = queuedIn c l bs t a .0 in SoundMessages (r .messages) (r .sender .counts .waiting) × Sized (r .messages)
   unfolding queuedIn
-  queued-keeps [] f h z = (f .messages, z)
-  queued-keeps (b ∷ bs) f h z =
-      let n = length (b ∷ bs) in
-      subst (λ (x : Station × List ℕ). SoundMessages (x .0 .messages) (x .0 .sender .counts .waiting) × Sized (x .0 .messages)) (queued-more b bs f) (
-        insert-sound m (s .counts .waiting) n c z (f .messages) (f .row (omega arith)) (omega arith) h (begunIn m) (at .row),
-        sized-stored m z (begunIn m) (insertRow (at .row) (entryOf n c) (entriesIn m)),
-      )
+  queued-keeps [] f h = (f .messages, z)
+  queued-keeps (b ∷ bs) f h = keeps t a ar by z c l b bs f h

@@ -16,7 +16,6 @@ use list_calls::answers::say;
 use messages::Messages;
 use queuing::Station;
 use reachable::levels_under;
-use record::Sender;
 use words::Input;
 use words::Number;
 use words::Read;
@@ -147,15 +146,15 @@ pub(crate) fn show(
     r: Read,
     run: Run,
     usual: f64,
-    s: Sender,
+    s: Station,
     area: &[u8],
     t: &mut [u8],
 ) -> Run {
     if !done(line, r) {
         return failed(run);
     }
-    let burst_s = s.gear.burst_seconds(usual);
-    let n = state_lines::state(t, run.text, burst_s, s, area);
+    let burst_s = s.sender.gear.burst_seconds(usual);
+    let n = state_lines::state(t, run.text, burst_s, s.sender, s.messages.withdrawn, area);
     with_text(run, n)
 }
 

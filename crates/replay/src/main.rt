@@ -46,11 +46,11 @@ fn clear(area: &mut [u8]) {
     }
 }
 
-// `profile`: the profile before it ends.
-fn begin(run: Run, c: Counts, t: &mut [u8]) -> Run {
+// `profile`: the profile before it ends. w: the bytes withdrawn.
+fn begin(run: Run, c: Counts, w: u32, t: &mut [u8]) -> Run {
     let mut after = run;
     if run.stage == LINES {
-        after.text = state_lines::end(t, run.text, c);
+        after.text = state_lines::end(t, run.text, c, w);
     }
     after.stage = 0;
     after
@@ -92,7 +92,7 @@ fn look(
 ) -> Run {
     if n.call == STATE {
         let usual = profile_of(v).lengths.max_burst_s;
-        return calls::show(line, n.read, run, usual, s.sender, area, t);
+        return calls::show(line, n.read, run, usual, s, area, t);
     }
     if n.call == MESSAGES {
         return calls::list(line, n.read, run, s.messages, t);
@@ -131,6 +131,7 @@ fn no_call(
     line: &[u8],
     run: Run,
     c: Counts,
+    w: u32,
     area: &mut [u8],
     t: &mut [u8],
     v: &mut [u64; 147],
@@ -143,7 +144,7 @@ fn no_call(
     }
     let r = word(line, b"profile");
     if done(line, r) {
-        return begin(run, c, t);
+        return begin(run, c, w, t);
     }
     failed(run)
 }
@@ -160,7 +161,8 @@ fn step(
     if is_call(line, run) {
         return call(line, run, s, area, t, v);
     }
-    let run = no_call(line, run, s.sender.counts, area, t, v);
+    let w = s.messages.withdrawn;
+    let run = no_call(line, run, s.sender.counts, w, area, t, v);
     if run.stage < LINES {
         return Step { run, s: fresh() };
     }
@@ -171,17 +173,17 @@ fn next(n: u64) -> u64 {
     if n < 18446744073709551615 { n + 1 } else { n }
 }
 
-// The last line of the transcript, after n lines of the list that were right.
-fn last_line(run: Run, c: Counts, n: u64, t: &mut [u8]) -> usize {
+// The last line of the transcript, after n lines of the list that were right. w: the bytes withdrawn.
+fn last_line(run: Run, c: Counts, w: u32, n: u64, t: &mut [u8]) -> usize {
     if !run.ok | (run.stage < LINES) {
         return transcript::error(t, run.text, next(n));
     }
-    state_lines::end(t, run.text, c)
+    state_lines::end(t, run.text, c, w)
 }
 
 fn finish(q: Step, n: u64, t: &mut [u8]) {
     let s = q.s;
-    let k = last_line(q.run, s.sender.counts, n, t);
+    let k = last_line(q.run, s.sender.counts, s.messages.withdrawn, n, t);
     flush(t, k);
 }
 

@@ -3,7 +3,8 @@
 use mathlib.Core.Path.{_≡_, refl, sym, ap, ap₂, _∙_}
 use mathlib.Core.List.{List}
 use mathlib.Core.Bool.{true, false}
-use Prim.Native.Nat.{ℕ, _+_}
+use Prim.Native.Nat.{ℕ}
+use native.Mathlib.Omega.{arith}
 use lib.ListN.{length}
 use Rattle.laws.proofs.Picks.{cond-yes, cond-no, by₂}
 use Rattle.config.specs.declared.Profile.{Profile}
@@ -27,7 +28,7 @@ use Rattle.sender.specs.declared.Finding.{Finding}
 use Rattle.verdicts.specs.Verdicts.{passed, standing, queueVerdict, receiveVerdict}
 use Rattle.receive.specs.Accepted.{acceptedReply}
 use Rattle.sender.specs.Calls.{queueOf, receiveOf, findOf, pieceOf}
-use Rattle.verdicts.proofs.Passed.{Queues, queue-passed, queue-room, receive-three}
+use Rattle.verdicts.proofs.Passed.{queue-passed, queue-room, receive-three}
 use Rattle.area.specs.FindCode.{bytesAt}
 use Rattle.replies.specs.RepliesCode.{ReplyReady}
 
@@ -40,21 +41,22 @@ module _ (p : Profile) (t : Station) (a : List ℕ) where
 
   -- ---- a queuing
 
-  module _ (class : ℕ) (bs : List ℕ) where
-    pub queue-refused : (v : Verdict) → v ≡ queueVerdict p t a class (length bs) → passed (queueVerdict p t a class (length bs)) ≡ false
-        → answer v (t, a) ≡ queueOf p t a class bs
+  module _ (class label : ℕ) (bs : List ℕ) where
+    abbrev judged : Verdict
+    judged = queueVerdict p t a class label (length bs)
+
+    pub queue-refused : (v : Verdict) → v ≡ judged → passed judged ≡ false → answer v (t, a) ≡ queueOf p t a class label bs
     unfolding queueOf
     queue-refused v e d = cond-no _ _ _ _ d (ap (λ (u : Verdict). answer u (t, a)) e)
 
-    pub queue-accepted : (x : Station × List ℕ) (v : Verdict) → v ≡ queueVerdict p t a class (length bs) → passed (queueVerdict p t a class (length bs)) ≡ true
-        → x ≡ queuedIn class bs t a → answer v x ≡ queueOf p t a class bs
+    pub queue-accepted : (x : Station × List ℕ) (v : Verdict) → v ≡ judged → passed judged ≡ true → x ≡ queuedIn class label bs t a → answer v x ≡ queueOf p t a class label bs
     unfolding queueOf
     queue-accepted x v e ok d = cond-yes _ _ _ _ ok (ap₂ answer e d)
 
-    pub queue-fit : Arrays s → passed (queueVerdict p t a class (length bs)) ≡ true → Fit t a (length bs)
+    pub queue-fit : Arrays s → passed judged ≡ true → Fit t a label (length bs)
     queue-fit ar ok =
-        let q = queue-passed p t a class (length bs) ok in
-        let r = queue-room p t a class (length bs) ok in
+        let q = queue-passed p t a class label (length bs) ok in
+        let r = queue-room p t a class label (length bs) ok in
         let c = sound-counted p s a (test-sound p s a ar (q .sound)) in
         record {
           area = c .area;
@@ -65,8 +67,10 @@ module _ (p : Profile) (t : Station) (a : List ℕ) where
           flying = c .flying;
           stream = r .0;
           messages = ok-sound _ _ (q .listed);
+          waits = r .3;
           bytes = r .2;
           row = q .row;
+          taken = omega (arith, q .took);
         }
 
   -- ---- a reply

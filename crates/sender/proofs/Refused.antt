@@ -34,8 +34,7 @@ use Rattle.area.specs.Layout.{areaBytes, place, streamBytes}
 use Rattle.area.specs.Table.{rowsFrom, tableBytes}
 use Rattle.area.specs.declared.table.Row.{Row}
 use Rattle.area.proofs.table.Laws.{length-table, length-rows}
-use Rattle.area.specs.Room.{queueRefusal}
-use Rattle.area.proofs.room.Laws.{stream-holds, queue-allowed}
+use Rattle.area.proofs.room.Laws.{stream-holds, not-refused}
 use Rattle.pieces.proofs.Sound.{size-rows, length-pieces}
 use Rattle.record.specs.Profiles.{sizesOf}
 use Rattle.record.specs.View.{view, rowsOf, store, storeArea}
@@ -43,7 +42,7 @@ use Rattle.ledger.specs.Queue.{goes, enqueue}
 use Rattle.ledger.specs.Station.{takeIn}
 use Rattle.ledger.proofs.Queue.{length-enqueue}
 use Rattle.messages.specs.Messages.{queueIn}
-use Rattle.messages.proofs.Link.{shown}
+use Rattle.messages.proofs.Link.{shown, superseded-bytes}
 use Rattle.messages.proofs.Kept.{ok-sound}
 use Rattle.queuing.specs.Station.{viewStation, queuedIn}
 use Rattle.queuing.specs.declared.Station.{Station}
@@ -74,9 +73,9 @@ use Rattle.limits.specs.Limits.{maxPieces}
 -- ---- the verdict that comes back
 
 module _ (p : Profile) (t : Station) (a : List ℕ) where
-  pub queue-verdict : (class : ℕ) (bs : List ℕ) → queueOf p t a class bs .0 .verdict ≡ queueVerdict p t a class (length bs)
+  pub queue-verdict : (class label : ℕ) (bs : List ℕ) → queueOf p t a class label bs .0 .verdict ≡ queueVerdict p t a class label (length bs)
   unfolding queueOf
-  queue-verdict class bs = let v = queueVerdict p t a class (length bs) in either (λ (x : Answer × List ℕ). x .0 .verdict ≡ v) (passed v) _ _ refl refl
+  queue-verdict class label bs = let v = queueVerdict p t a class label (length bs) in either (λ (x : Answer × List ℕ). x .0 .verdict ≡ v) (passed v) _ _ refl refl
 
   pub receive-verdict : (h : Heard) (r : Reply) (payload : List ℕ) → receiveOf p t a h r payload .0 .verdict ≡ receiveVerdict p t a h r (length payload)
   unfolding receiveOf
@@ -89,9 +88,9 @@ module _ (p : Profile) (t : Station) (a : List ℕ) where
 -- ---- refused
 
 module _ (p : Profile) (t : Station) (a : List ℕ) where
-  pub queue-keeps : (class : ℕ) (bs : List ℕ) → passed (queueVerdict p t a class (length bs)) ≡ false
-      → queueOf p t a class bs ≡ (record { verdict = queueVerdict p t a class (length bs); next = t }, a)
-  queue-keeps class bs e = sym (queue-refused p t a class bs (queueVerdict p t a class (length bs)) refl e)
+  pub queue-keeps : (class label : ℕ) (bs : List ℕ) → passed (queueVerdict p t a class label (length bs)) ≡ false
+      → queueOf p t a class label bs ≡ (record { verdict = queueVerdict p t a class label (length bs); next = t }, a)
+  queue-keeps class label bs e = sym (queue-refused p t a class label bs (queueVerdict p t a class label (length bs)) refl e)
 
   pub receive-keeps : (h : Heard) (r : Reply) (payload : List ℕ) → passed (receiveVerdict p t a h r (length payload)) ≡ false
       → receiveOf p t a h r payload ≡ (record { verdict = receiveVerdict p t a h r (length payload); next = t }, a)
@@ -167,23 +166,26 @@ module _ (p : Profile) (t : Station) (a : List ℕ) (ar : Arrays (t .sender)) wh
   s = t .sender
 
   -- an accepted queuing
-  queued-past : (class : ℕ) (bs : List ℕ) → passed (queueVerdict p t a class (length bs)) ≡ true → drop areaBytes (queuedIn class bs t a .1) ≡ drop areaBytes a
+  queued-past : (class label : ℕ) (bs : List ℕ) → passed (queueVerdict p t a class label (length bs)) ≡ true → drop areaBytes (queuedIn class label bs t a .1) ≡ drop areaBytes a
   unfolding queuedIn takeIn viewStation view
-  queued-past class [] e = refl
-  queued-past class (b ∷ bs) e =
-      let q = queue-passed p t a class (length (b ∷ bs)) e in
+  queued-past class label [] e = refl
+  queued-past class label (b ∷ bs) e =
+      let q = queue-passed p t a class label (length (b ∷ bs)) e in
       let so = test-sound p s a ar (q .sound) in
+      let m = t .messages in
       let w = view s a .waiting in
-      let n : length w ≡ s .counts .waiting = waiting-length p s a so in
-      let h : length (goes (enqueue class (b ∷ bs) (queueIn (t .messages) w))) ≡ length w + length (b ∷ bs) =
-      length-enqueue class (queueIn (t .messages) w) (b ∷ bs) ∙ ap (λ (v : List ℕ). length v + length (b ∷ bs)) (shown (t .messages) w (ok-sound _ _ (q .listed) .sum ∙ sym n)) in
-      let al = queue-allowed (sizesOf p) (view s a) class (b ∷ bs) (ap (λ (m : ℕ). queueRefusal m (s .counts .«next_offset» + m) (length (b ∷ bs))) n ∙ q .room) in
-      sound-past a (sizesOf p) (profile-sizes p (ranged p (q .one)) (q .two)) _ (queue-sound (sizesOf p) class (b ∷ bs) _ (view s a) al h (so .ledger))
+      let sum = ok-sound _ _ (q .listed) .sum ∙ sym (waiting-length p s a so) in
+      let n = length-enqueue class label (queueIn m w) (b ∷ bs) in
+      let g = superseded-bytes m w sum label (b ∷ bs) in
+      let r = not-refused _ _ _ (q .room) in
+      let k : length (goes (queueIn m w)) ≡ s .counts .waiting = ap length (shown m w sum) ∙ waiting-length p s a so in
+      sound-past a (sizesOf p) (profile-sizes p (ranged p (q .one)) (q .two)) _
+      (queue-sound (sizesOf p) (goes (enqueue class label (b ∷ bs) (queueIn m w))) (view s a) (omega (arith, n, g, k, r .0)) (omega (arith, n, g, k, r .1)) (so .ledger))
 
-  pub queue-past : (class : ℕ) (bs : List ℕ) → drop areaBytes (queueOf p t a class bs .1) ≡ drop areaBytes a
+  pub queue-past : (class label : ℕ) (bs : List ℕ) → drop areaBytes (queueOf p t a class label bs .1) ≡ drop areaBytes a
   unfolding queueOf
-  queue-past class bs =
-      by (λ (x : Answer × List ℕ). drop areaBytes (x .1) ≡ drop areaBytes a) (passed (queueVerdict p t a class (length bs))) (queued-past class bs) (λ e. refl)
+  queue-past class label bs =
+      by (λ (x : Answer × List ℕ). drop areaBytes (x .1) ≡ drop areaBytes a) (passed (queueVerdict p t a class label (length bs))) (queued-past class label bs) (λ e. refl)
 
   pub receive-past : (h : Heard) (r : Reply) (payload : List ℕ) → drop areaBytes (receiveOf p t a h r payload .1) ≡ drop areaBytes a
   unfolding receiveOf

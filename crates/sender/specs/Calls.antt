@@ -28,10 +28,11 @@ use Rattle.limits.specs.Limits.{maxSlots}
 
 -- ---- queue: 1 2 3 4 11 8 9 12
 
-unfoldable pub queueOf : Profile → Station → List ℕ → ℕ → List ℕ → Answer × List ℕ
-queueOf p t a class bytes =
-    let v = queueVerdict p t a class (length bytes) in
-    let after = queuedIn class bytes t a in
+-- bytes of this class and label
+unfoldable pub queueOf : Profile → Station → List ℕ → ℕ → ℕ → List ℕ → Answer × List ℕ
+queueOf p t a class label bytes =
+    let v = queueVerdict p t a class label (length bytes) in
+    let after = queuedIn class label bytes t a in
     cond (passed v) (record { verdict = v; next = after .0 }, after .1) (record { verdict = v; next = t }, a)
 
 -- ---- sender_rx: 1 2 3 4 5 6, a long ack also 7

@@ -1,4 +1,4 @@
-// The station's calls (sender.rs; the queue of messages: document 02, Change 1), with the papers' refusals. No call requires anything.
+// The station's calls (sender.rs; the queue of messages: document 02, Changes 1 and 6), with the papers' refusals. No call requires anything.
 use area::lookup::Found;
 use config::Profile;
 use limits::MAX_SLOTS;
@@ -44,21 +44,26 @@ pub fn fresh() -> Station
     queuing::fresh()
 }
 
-// Bytes to send, as one message of this class.
-pub fn queue(p: Profile, t: Station, a: &mut [u8], class: u8, bytes: &[u8]) -> Answer
-    ensures { λ r. ⌜ (r, now (a .exit)) ≡ queueOf p t (now (a .entry)) class (now (bytes .entry)) ⌝ }
+// Bytes to send, as one message of this class and label: the waiting ones with its label that have not begun are withdrawn.
+pub fn queue(p: Profile, t: Station, a: &mut [u8], class: u8, label: u16, bytes: &[u8]) -> Answer
+    ensures { λ r. ⌜ (r, now (a .exit)) ≡ queueOf p t (now (a .entry)) class label (now (bytes .entry)) ⌝ }
 {
     let n = bytes.len();
-    let c = t.sender.counts;
-    let m = t.messages.n;
-    let v = queue_verdict(standing(p, t, a, false), c, m, class, n);
+    let v = queue_verdict(
+        standing(p, t, a, false),
+        t.sender.counts,
+        t.messages,
+        class,
+        label,
+        n,
+    );
     if number(v) != 0 {
         return Answer {
             verdict: v,
             next: t,
         };
     }
-    let next = enqueue(t, a, class, bytes);
+    let next = enqueue(t, a, class, label, bytes);
     Answer { verdict: v, next }
 }
 

@@ -1,4 +1,4 @@
--- The line `messages` (docs/CALLS.md; document 02, Change 1). Definitions only.
+-- The line `messages` (docs/CALLS.md; document 02, Changes 1 and 6). Definitions only.
 use mathlib.Core.List.{List, _++_}
 use Prim.Native.Nat.{ℕ, min}
 use Rattle.limits.specs.Limits.{maxMessages}
@@ -9,12 +9,12 @@ use Rattle.messages.specs.Messages.{Entry, begunIn, entriesFrom}
 use Rattle.messages.specs.declared.Messages.{Messages}
 use Rattle.state_lines.specs.State.{entry}
 
--- CLASS:LABEL:LEFT; no message bears a label yet
+-- CLASS:LABEL:LEFT
 abbrev pub messageWord : Entry → List ℕ
-messageWord e = entry (e .class) 0 ++ afterColon (e .left)
+messageWord e = entry (e .class) (e .label) ++ afterColon (e .left)
 
--- `messages COUNT BEGUN WITHDRAWN CLASS:LABEL:LEFT ..`: "in the order of going; BEGUN is 1 where the first has begun". None is withdrawn yet
+-- `messages COUNT BEGUN WITHDRAWN CLASS:LABEL:LEFT ..`: "in the order of going; BEGUN is 1 where the first has begun"
 unfoldable pub messagesLine : Messages → List ℕ
 messagesLine m =
-    text "messages" ++ numberWord (m .n) ++ flagWord (begunIn m) ++ numberWord 0
+    text "messages" ++ numberWord (m .n) ++ flagWord (begunIn m) ++ numberWord (m .withdrawn)
     ++ each messageWord (entriesFrom m 0 (min (m .n) maxMessages)) ++ text "\n"

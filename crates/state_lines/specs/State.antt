@@ -22,14 +22,14 @@ use Rattle.record.specs.declared.AtPeer.{AtPeer}
 use Rattle.record.specs.declared.LastBurst.{LastBurst}
 use Rattle.record.specs.declared.Sender.{Sender}
 
--- TAKEN WAITING FLYING ACKED
-abbrev pub tallyWords : Counts → List ℕ
-tallyWords c = numberWord (c .«next_offset» + c .waiting) ++ numberWord (c .waiting) ++ numberWord (c .flying)
+-- TAKEN WAITING FLYING ACKED; "TAKEN includes withdrawn bytes", of which there are w
+abbrev pub tallyWords : Counts → ℕ → List ℕ
+tallyWords c w = numberWord (c .«next_offset» + c .waiting + w) ++ numberWord (c .waiting) ++ numberWord (c .flying)
     ++ numberWord (c .«bytes_acked»)
 
 -- `end TAKEN WAITING FLYING ACKED`
-abbrev pub endLine : Counts → List ℕ
-endLine c = text "end" ++ tallyWords c ++ text "\n"
+abbrev pub endLine : Counts → ℕ → List ℕ
+endLine c w = text "end" ++ tallyWords c w ++ text "\n"
 
 -- `state LEVEL TARGET BURST_S CONNECTED AWAITING SESSION BURST_ID HEARD LAST_TIME`
 unfoldable pub stateLine : Float → Gear → Link → List ℕ
@@ -74,8 +74,8 @@ gearOf g l =
     (getD (g .tries .fails) l 0) (getD (g .holds .«blocked_until») l nan) (getD (g .holds .«hold_all») l false)
 
 -- `counts TAKEN WAITING FLYING ACKED AIRTIME_MS`
-unfoldable pub countsLine : Counts → List ℕ
-countsLine c = text "counts" ++ tallyWords c ++ numberWord (c .«airtime_ms») ++ text "\n"
+unfoldable pub countsLine : Counts → ℕ → List ℕ
+countsLine c w = text "counts" ++ tallyWords c w ++ numberWord (c .«airtime_ms») ++ text "\n"
 
 -- the rows that the area has room for
 abbrev pub rowsIn : List ℕ → ℕ
@@ -113,8 +113,8 @@ sentWord f = entry (f .off) (f .bits) ++ afterColon (f .held)
 unfoldable pub sentLine : LastBurst → List ℕ
 sentLine b = text "sent" ++ numberWord (b .n) ++ each sentWord (sentIn b) ++ text "\n"
 
-unfoldable pub stateLines : Float → Sender → List ℕ → List ℕ
-stateLines burst s a =
+unfoldable pub stateLines : Float → Sender → ℕ → List ℕ → List ℕ
+stateLines burst s w a =
     stateLine burst (s .gear) (s .link) ++ linkLine (s .gear) (s .link) ++ aimLine (s .gear) ++ each (gearOf (s .gear)) (upto 0 17)
-    ++ countsLine (s .counts) ++ piecesLine a (s .counts .pieces) ++ heldLine (s .«at_peer») (s .link .«peer_wave»)
+    ++ countsLine (s .counts) w ++ piecesLine a (s .counts .pieces) ++ heldLine (s .«at_peer») (s .link .«peer_wave»)
     ++ restLine (s .«at_peer») ++ sentLine (s .«last_burst»)

@@ -28,22 +28,26 @@ ghost use Rattle.state_lines.specs.State.{countsLine, stateLines};
 mod lists;
 pub mod queue;
 
-// TAKEN WAITING FLYING ACKED.
-fn tally(t: &mut [u8], n: usize, c: Counts) -> usize
-    ensures { λ r. ⌜ (r, now (t .exit)) ≡ appended (n, now (t .entry)) (tallyWords c) ⌝ }
+// TAKEN WAITING FLYING ACKED, where so many bytes were withdrawn.
+fn tally(t: &mut [u8], n: usize, c: Counts, withdrawn: u32) -> usize
+    ensures { λ r. ⌜ (r, now (t .exit)) ≡ appended (n, now (t .entry)) (tallyWords c withdrawn) ⌝ }
 {
-    let n = number(t, n, (c.next_offset as u64) + (c.waiting as u64));
+    let n = number(
+        t,
+        n,
+        (c.next_offset as u64) + (c.waiting as u64) + (withdrawn as u64),
+    );
     let n = number(t, n, c.waiting as u64);
     let n = number(t, n, c.flying as u64);
     number(t, n, c.bytes_acked as u64)
 }
 
 // What closes a profile's calls.
-pub fn end(t: &mut [u8], n: usize, c: Counts) -> usize
-    ensures { λ r. ⌜ (r, now (t .exit)) ≡ appended (n, now (t .entry)) (endLine c) ⌝ }
+pub fn end(t: &mut [u8], n: usize, c: Counts, withdrawn: u32) -> usize
+    ensures { λ r. ⌜ (r, now (t .exit)) ≡ appended (n, now (t .entry)) (endLine c withdrawn) ⌝ }
 {
     let n = puts(t, n, b"end");
-    let n = tally(t, n, c);
+    let n = tally(t, n, c, withdrawn);
     puts(t, n, b"\n")
 }
 
@@ -162,18 +166,18 @@ fn levels(t: &mut [u8], n: usize, g: Gear) -> usize
     n
 }
 
-fn counts(t: &mut [u8], n: usize, c: Counts) -> usize
-    ensures { λ r. ⌜ (r, now (t .exit)) ≡ appended (n, now (t .entry)) (countsLine c) ⌝ }
+fn counts(t: &mut [u8], n: usize, c: Counts, withdrawn: u32) -> usize
+    ensures { λ r. ⌜ (r, now (t .exit)) ≡ appended (n, now (t .entry)) (countsLine c withdrawn) ⌝ }
 {
     let n = puts(t, n, b"counts");
-    let n = tally(t, n, c);
+    let n = tally(t, n, c, withdrawn);
     let n = number(t, n, c.airtime_ms);
     puts(t, n, b"\n")
 }
 
-// The whole answer. burst_s: the burst seconds as the gear reads them.
-pub fn state(t: &mut [u8], n: usize, burst_s: f64, s: Sender, area: &[u8]) -> usize
-    ensures { λ r. ⌜ (r, now (t .exit)) ≡ appended (n, now (t .entry)) (stateLines «burst_s» s (now (area .entry))) ⌝ }
+// The whole answer. burst_s: the burst seconds as the gear reads them; withdrawn: the bytes withdrawn.
+pub fn state(t: &mut [u8], n: usize, burst_s: f64, s: Sender, withdrawn: u32, area: &[u8]) -> usize
+    ensures { λ r. ⌜ (r, now (t .exit)) ≡ appended (n, now (t .entry)) (stateLines «burst_s» s withdrawn (now (area .entry))) ⌝ }
 {
     let g = s.gear;
     let k = s.link;
@@ -183,7 +187,7 @@ pub fn state(t: &mut [u8], n: usize, burst_s: f64, s: Sender, area: &[u8]) -> us
     let n = link(t, n, g, k);
     let n = aim(t, n, g);
     let n = levels(t, n, g);
-    let n = counts(t, n, c);
+    let n = counts(t, n, c, withdrawn);
     let n = pieces(t, n, area, c.pieces);
     let n = held(t, n, h, k.peer_wave);
     let n = rest(t, n, h);

@@ -1,4 +1,4 @@
-// The line `messages`: the messages that wait, in the order of going (document 02, Change 1).
+// The line `messages`: the messages that wait, in the order of going (document 02, Changes 1 and 6).
 use crate::lists::long_entry;
 use crate::lists::smaller;
 use limits::MAX_MESSAGES;
@@ -18,7 +18,7 @@ fn row(t: &mut [u8], n: usize, m: Messages, i: usize) -> usize
     requires { ⌜ i < maxMessages ⌝ }
     ensures { λ r. ⌜ (r, now (t .exit)) ≡ appended (n, now (t .entry)) (messageWord (entryAt m i)) ⌝ }
 {
-    long_entry(t, n, m.class[i] as u32, 0, m.left[i] as u32)
+    long_entry(t, n, m.class[i] as u32, m.label[i] as u32, m.left[i] as u32)
 }
 
 // The first `count` rows.
@@ -42,7 +42,7 @@ pub fn messages(t: &mut [u8], n: usize, m: Messages) -> usize
     let n = puts(t, n, b"messages");
     let n = number(t, n, m.n as u64);
     let n = flag(t, n, m.begun & (0 < m.n));
-    let n = number(t, n, 0);
+    let n = number(t, n, m.withdrawn as u64);
     let n = rows(t, n, m, smaller(m.n, MAX_MESSAGES));
     puts(t, n, b"\n")
 }

@@ -64,12 +64,14 @@ kept-left t v q e same r b said after k =
     ap (λ (x : Station). (left (r .refusal) x, b)) (k ∙ kept-is t (r .refusal) (r .next) v n (λ f. d ∙ same f)) ∙ said
 
 module _ (p : Profile) (t : Station) (a : List ℕ) where
-  pub queued : (m : Message) (bs : List ℕ) (r : Left) (b : List ℕ) → (r, b) ≡ answerNumber (queueOf p t a (m .class) bs) → Unit {0}
+  pub queued : (m : Message) (bs : List ℕ) (r : Left) (b : List ℕ)
+      → (r, b) ≡ answerNumber (queueOf p t a (m .class) (m .label) bs) → Unit {0}
       → (after : Station) → after ≡ kept t (r .refusal) (r .next)
-      → (left (r .refusal) after, b) ≡ answerNumber (queueOf p t a (m .class) bs)
+      → (left (r .refusal) after, b) ≡ answerNumber (queueOf p t a (m .class) (m .label) bs)
   queued m bs r b said u =
-      kept-left t (queueVerdict p t a (m .class) (length bs)) (queueOf p t a (m .class) bs) (queue-verdict p t a (m .class) bs)
-      (λ e. ap (λ (x : Answer × List ℕ). x .0 .next) (queue-keeps p t a (m .class) bs e)) r b said
+      kept-left t (queueVerdict p t a (m .class) (m .label) (length bs)) (queueOf p t a (m .class) (m .label) bs)
+      (queue-verdict p t a (m .class) (m .label) bs)
+      (λ e. ap (λ (x : Answer × List ℕ). x .0 .next) (queue-keeps p t a (m .class) (m .label) bs e)) r b said
 
   module _ (h : Heard) where
     replied : (c : Reply) (payload : List ℕ) (r : Left) (b : List ℕ) → (r, b) ≡ answerNumber (receiveOf p t a h c payload)

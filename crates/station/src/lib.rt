@@ -70,7 +70,7 @@ pub extern "C" fn vanitycrow_queue(
     bytes: &[u8],
 ) -> u8
     ensures { λ r. ⌜ (left r (now (t .exit)), now (a .exit))
-        ≡ answerNumber (queueOf (now (p .entry)) (now (t .entry)) (now (a .entry)) (m .class) (now (bytes .entry))) ⌝ }
+        ≡ answerNumber (queueOf (now (p .entry)) (now (t .entry)) (now (a .entry)) (m .class) (m .label) (now (bytes .entry))) ⌝ }
 {
     let q = numbered::queue(*p, *t, a, m, bytes);
     keep(t, q.refusal, q.next);

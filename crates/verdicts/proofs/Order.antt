@@ -4,23 +4,24 @@ use mathlib.Core.Path.{_≡_, refl, sym, ap, subst, _∙_}
 use mathlib.Core.Logic.{_⊎_, inl, inr}
 use mathlib.Core.List.{List, [], _∷_, _++_}
 use mathlib.Core.Bool.{Bool, true, false, cond, not, _&&_, _||_, false≢true}
-use Prim.Native.Nat.{ℕ, suc, _+_, _*_, _≤_}
+use Prim.Native.Nat.{ℕ, suc, _+_, _-_, _*_, _≤_}
 use native.Mathlib.Omega.{arith}
 use lib.Dec.{leb, ltb, eqb, lit≤}
+use lib.ListN.{length}
 use borrow.Author.Tests.{eq-eqb, ne-eqb, le-leb, leb-true, leb-false, ltb-true, ltb-false}
 use Rattle.laws.proofs.Picks.{by, test}
 use Rattle.config.specs.declared.Profile.{Profile}
 use Rattle.config.specs.Ranges.{inRange, inOrder}
 use Rattle.area.specs.Room.{queueRefusal}
 use Rattle.area.proofs.room.Laws.{full, over, room}
-use Rattle.record.specs.declared.Counts.{Counts}
+use Rattle.messages.specs.Messages.{Entry, total, withdrawnIn}
 use Rattle.queuing.specs.declared.Station.{Station}
 use Rattle.replies.specs.declared.Heard.{Heard}
 use Rattle.refusals.specs.declared.Verdict.{Verdict}
 use Rattle.refusals.specs.declared.Verdict.the-variants.{Accepted, ProfileOutOfRange, ShortOverLong, Unsound, OutOfTurn, BadTime, BadValue, ShortPayload, QueueFull, AllTaken, ShortOutput, BadClass, TooManyMessages}
 use Rattle.refusals.specs.declared.Reply.{Reply}
 use Rattle.refusals.specs.Refusals.{numberOf, kindOf, timeOk, heardOk, replyOk}
-use Rattle.verdicts.specs.Verdicts.{stationOk, firstOf, standing, replyVerdict, roomVerdict, outputVerdict, queueVerdict, receiveVerdict, burstVerdict}
+use Rattle.verdicts.specs.Verdicts.{takenBy, stationOk, firstOf, standing, replyVerdict, roomVerdict, outputVerdict, queueVerdict, receiveVerdict, burstVerdict}
 use Rattle.verdicts.specs.Reasons.{Reason, First, standingReasons, lookupReasons, queueReasons, replyReasons, burstReasons}
 use Rattle.limits.specs.Limits.{maxSlots, maxWaiting, maxTaken, maxClass, maxMessages}
 
@@ -87,57 +88,61 @@ module _ (p : Profile) (t : Station) (a : List ℕ) where
   pub lookup-first : First (lookupReasons p t a) (numberOf (standing p t a false))
   lookup-first = standing-first false
 
-  module _ (n : ℕ) where
-    abbrev counts : Counts
-    counts = t .sender .counts
+  module _ (class label n : ℕ) where
+    abbrev gone : List Entry
+    gone = withdrawnIn label n (t .messages)
 
-    abbrev roomReasons : ℕ → List Reason
-    roomReasons class =
-        (11, ltb maxClass class) ∷ (8, ltb maxWaiting (counts .waiting + n)) ∷ (9, ltb maxTaken (counts .«next_offset» + counts .waiting + n))
-        ∷ (12, ltb 0 n && ltb maxMessages (t .messages .n + 1)) ∷ []
+    -- bytes that wait, bytes taken, and messages, as they are judged
+    abbrev stay : ℕ
+    stay = t .sender .counts .waiting - total gone
+
+    abbrev taken : ℕ
+    taken = takenBy (t .sender .counts) (t .messages)
+
+    abbrev left : ℕ
+    left = t .messages .n - length gone
+
+    abbrev lastReasons : List Reason
+    lastReasons = (12, ltb 0 n && ltb maxMessages (left + 1)) ∷ []
+
+    abbrev fullReasons : List Reason
+    fullReasons = (8, ltb maxWaiting (stay + n)) ∷ (9, ltb maxTaken (taken + n)) ∷ lastReasons
 
     abbrev last : Verdict
-    last = cond (ltb 0 n && leb maxMessages (t .messages .n)) TooManyMessages Accepted
+    last = cond (ltb 0 n && leb maxMessages left) TooManyMessages Accepted
 
     abbrev fullOr : Verdict → Verdict
-    fullOr v =
-        let q = queueRefusal (counts .waiting) (counts .«next_offset» + counts .waiting) n in
-        cond (eqb q 8) QueueFull (cond (eqb q 9) AllTaken v)
+    fullOr v = let q = queueRefusal stay taken n in cond (eqb q 8) QueueFull (cond (eqb q 9) AllTaken v)
 
-    last-first : First ((12, ltb 0 n && ltb maxMessages (t .messages .n + 1)) ∷ []) (numberOf last)
+    last-first : First lastReasons (numberOf last)
     last-first =
-        subst (λ (b : Bool). First ((12, ltb 0 n && b) ∷ []) (numberOf last)) (one-more (t .messages .n))
-        (tested 12 (ltb 0 n && leb maxMessages (t .messages .n)) TooManyMessages Accepted [] refl refl)
+        subst (λ (b : Bool). First ((12, ltb 0 n && b) ∷ []) (numberOf last)) (one-more left)
+        (tested 12 (ltb 0 n && leb maxMessages left) TooManyMessages Accepted [] refl refl)
 
     -- 8 and 9, and 12 behind them
-    full-first : First ((8, ltb maxWaiting (counts .waiting + n)) ∷ (9, ltb maxTaken (counts .«next_offset» + counts .waiting + n))
-        ∷ (12, ltb 0 n && ltb maxMessages (t .messages .n + 1)) ∷ []) (numberOf (fullOr last))
+    full-first : First fullReasons (numberOf (fullOr last))
     full-first =
-        let w = counts .waiting in
-        let k = counts .«next_offset» + counts .waiting in
         let said : ℕ → Verdict = λ (q : ℕ). cond (eqb q 8) QueueFull (cond (eqb q 9) AllTaken last) in
-        test (ltb maxWaiting (w + n))
-        (λ x. inl (x, ap (λ (q : ℕ). numberOf (said q)) (full w k n (ltb-true _ _ x))))
+        test (ltb maxWaiting (stay + n))
+        (λ x. inl (x, ap (λ (q : ℕ). numberOf (said q)) (full stay taken n (ltb-true _ _ x))))
         (λ x. inr (
           x,
-          test (ltb maxTaken (k + n))
-              (λ y. inl (y, ap (λ (q : ℕ). numberOf (said q)) (over w k n (ltb-false _ _ x) (ltb-true _ _ y))))
-              (λ y. inr (y, subst (First ((12, ltb 0 n && ltb maxMessages (t .messages .n + 1)) ∷ [])) (sym (ap (λ (q : ℕ). numberOf (said q)) (room w k n (ltb-false _ _ x) (ltb-false _ _ y)))) last-first)),
+          test (ltb maxTaken (taken + n))
+              (λ y. inl (y, ap (λ (q : ℕ). numberOf (said q)) (over stay taken n (ltb-false _ _ x) (ltb-true _ _ y))))
+              (λ y. inr (y, subst (First lastReasons) (sym (ap (λ (q : ℕ). numberOf (said q)) (room stay taken n (ltb-false _ _ x) (ltb-false _ _ y)))) last-first)),
         ))
 
-    room-first : (class : ℕ) → First (roomReasons class) (numberOf (roomVerdict counts (t .messages .n) class n))
+    room-first : First ((11, ltb maxClass class) ∷ fullReasons) (numberOf (roomVerdict (t .sender .counts) (t .messages) class label n))
     unfolding roomVerdict
-    room-first class =
-        tested 11 (ltb maxClass class) BadClass (fullOr last)
-        ((8, ltb maxWaiting (counts .waiting + n)) ∷ (9, ltb maxTaken (counts .«next_offset» + counts .waiting + n))
-        ∷ (12, ltb 0 n && ltb maxMessages (t .messages .n + 1)) ∷ []) refl full-first
+    room-first = tested 11 (ltb maxClass class) BadClass (fullOr last) fullReasons refl full-first
 
-    pub queue-first : (class : ℕ) → First (queueReasons p t a class n) (numberOf (queueVerdict p t a class n))
+    pub queue-first : First (queueReasons p t a class label n) (numberOf (queueVerdict p t a class label n))
     unfolding queueVerdict
-    queue-first class =
-        behind (standingReasons p t a false) (roomReasons class) (standing p t a false) (roomVerdict counts (t .messages .n) class n) (standing-refusals false) (standing-first false)
-        (room-first class)
+    queue-first =
+        behind (standingReasons p t a false) ((11, ltb maxClass class) ∷ fullReasons) (standing p t a false) (roomVerdict (t .sender .counts) (t .messages) class label n)
+        (standing-refusals false) (standing-first false) room-first
 
+  module _ (n : ℕ) where
     pub burst-first : First (burstReasons p t a n) (numberOf (burstVerdict p t a n))
     unfolding burstVerdict outputVerdict
     burst-first =

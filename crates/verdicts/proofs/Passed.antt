@@ -3,7 +3,7 @@
 use mathlib.Core.Path.{_≡_, refl, sym, ap, _∙_}
 use mathlib.Core.List.{List}
 use mathlib.Core.Bool.{Bool, true, false, cond, not, _&&_, _||_, false≢true}
-use Prim.Native.Nat.{ℕ, _+_, _*_, _≤_, _<_}
+use Prim.Native.Nat.{ℕ, _+_, _-_, _*_, _≤_, _<_}
 use native.Mathlib.Omega.{arith}
 use lib.Dec.{leb, ltb, eqb}
 use lib.ListN.{length}
@@ -16,18 +16,19 @@ use Rattle.area.specs.Layout.{areaBytes, streamBytes}
 use Rattle.area.specs.Table.{rowsFrom, total}
 use Rattle.pieces.proofs.Sound.{table-total}
 use Rattle.area.specs.Room.{queueRefusal}
-use Rattle.area.proofs.room.Laws.{full, over, room, not-refused, queue-fits}
+use Rattle.area.proofs.room.Laws.{full, over, room, not-refused, stream-holds}
 use Rattle.record.specs.declared.Sender.{Sender}
 use Rattle.soundness.specs.Soundness.{countsOk, soundOk}
-use Rattle.soundness.proofs.fields.Counts.{flying-few, pieces-few, taken-few}
-use Rattle.messages.specs.Messages.{messagesOk}
+use Rattle.soundness.proofs.fields.Counts.{waiting-few, flying-few, pieces-few}
+use Rattle.messages.specs.Messages as M
+use Rattle.messages.specs.Messages.{Entry, messagesOk, withdrawnIn}
 use Rattle.queuing.specs.declared.Station.{Station}
 use Rattle.replies.specs.declared.Heard.{Heard}
 use Rattle.refusals.specs.declared.Verdict.{Verdict}
 use Rattle.refusals.specs.declared.Verdict.the-variants.{Accepted, AllTaken, BadClass, BadTime, BadValue, OutOfTurn, ProfileOutOfRange, QueueFull, ShortOutput, ShortOverLong, ShortPayload, TooManyMessages, Unsound}
 use Rattle.refusals.specs.declared.Reply.{Reply}
 use Rattle.refusals.specs.Refusals.{numberOf, kindOf, timeOk, heardOk, replyOk}
-use Rattle.verdicts.specs.Verdicts.{stationOk, passed, firstOf, standing, roomVerdict, replyVerdict, outputVerdict, queueVerdict, receiveVerdict, burstVerdict}
+use Rattle.verdicts.specs.Verdicts.{takenBy, stationOk, passed, firstOf, standing, roomVerdict, replyVerdict, outputVerdict, queueVerdict, receiveVerdict, burstVerdict}
 use Rattle.limits.specs.Limits.{maxSlots, maxWaiting, maxTaken, maxPieces, maxClass, maxMessages}
 
 -- the number that a call reads says whether it is refused
@@ -61,10 +62,6 @@ module _ (p : Profile) (s : Sender) (a : List ℕ) where
   unfolding soundOk
   counts-pass e = all-at _ 1 e
 
-  -- bytes taken fit their type
-  pub sound-taken : soundOk p s a ≡ true → s .counts .«next_offset» + s .counts .waiting ≤ maxTaken
-  sound-taken e = taken-few s (counts-pass e)
-
   -- what the lookup needs
   pub sound-rows : soundOk p s a ≡ true → (s .counts .pieces ≤ maxPieces) × (areaBytes ≤ length a) × (total (rowsFrom a 0 (s .counts .pieces)) ≤ streamBytes)
   unfolding soundOk
@@ -81,85 +78,103 @@ module _ (p : Profile) (t : Station) (a : List ℕ) where
   abbrev pub Listed : Type 0
   Listed = messagesOk (s .counts .waiting) (t .messages) ≡ true
 
+  -- the bytes taken, those withdrawn among them, are within their limit
+  abbrev pub Taken : Type 0
+  Taken = takenBy (s .counts) (t .messages) ≤ maxTaken
+
+  -- 1, 2 and 3 do not turn a call down
+  abbrev pub Stands : Type 0
+  Stands = (inRange p ≡ true) × (inOrder p ≡ true) × (soundOk p s a ≡ true) × Listed × Taken
+
   -- nothing but 1 to 4 turns a call down here
   pub stands : (connect : Bool) → inRange p ≡ true → inOrder p ≡ true → stationOk p t a ≡ true → s .link .connected ≡ not connect → standing p t a connect ≡ Accepted
   unfolding standing
   stands connect e₁ e₂ e₃ e₄ =
       sym (cond-no _ _ _ _ (ap not e₁) (cond-no _ _ _ _ (ap not e₂) (cond-no _ _ _ _ (ap not e₃) (cond-no _ _ _ _ (turn (s .link .connected) connect e₄) refl))))
 
-  -- 1, 2 and 3 do not turn it down
-  pub standing-three : (connect : Bool) → passed (standing p t a connect) ≡ true → (inRange p ≡ true) × (inOrder p ≡ true) × (soundOk p s a ≡ true) × Listed
+  pub standing-three : (connect : Bool) → passed (standing p t a connect) ≡ true → Stands
   unfolding standing
   standing-three connect h =
       let h₁ = over-first (not (inRange p)) ProfileOutOfRange _ refl h in
       let h₂ = over-first (not (inOrder p)) ShortOverLong _ refl (h₁ .1) in
       let h₃ = over-first (not (stationOk p t a)) Unsound _ refl (h₂ .1) in
-      let k = not-false _ (h₃ .0) in (
+      let k = not-false _ (h₃ .0) in
+      let r = and-second (messagesOk (s .counts .waiting) (t .messages)) _ k in (
         not-false _ (h₁ .0),
         not-false _ (h₂ .0),
-        and-second (messagesOk (s .counts .waiting) (t .messages)) (soundOk p s a) k,
-        and-first (messagesOk (s .counts .waiting) (t .messages)) (soundOk p s a) k,
+        and-first (soundOk p s a) _ r,
+        and-first (messagesOk (s .counts .waiting) (t .messages)) _ k,
+        leb-true _ _ (and-second (soundOk p s a) _ r),
       )
 
-  -- nor do 11, 8, 9 and 12
-  room-passed : (class n : ℕ) → passed (roomVerdict (s .counts) (t .messages .n) class n) ≡ true
-      → (class ≤ maxClass) × (queueRefusal (s .counts .waiting) (s .counts .«next_offset» + s .counts .waiting) n ≡ 0) × (1 ≤ n → t .messages .n < maxMessages)
-  unfolding roomVerdict
-  room-passed class n h =
-      let w = s .counts .waiting in
-      let k = s .counts .«next_offset» + s .counts .waiting in
-      let h₀ = over-first (ltb maxClass class) BadClass _ refl h in
-      let h₁ = over-first (eqb (queueRefusal w k n) 8) QueueFull _ refl (h₀ .1) in
-      let h₂ = over-first (eqb (queueRefusal w k n) 9) AllTaken _ refl (h₁ .1) in
-      let h₃ = over-first (ltb 0 n && leb maxMessages (t .messages .n)) TooManyMessages Accepted refl (h₂ .1) in (
-        ltb-false maxClass class (h₀ .0),
-        test (ltb maxWaiting (w + n))
-            (λ x. absurd (false≢true (sym (h₁ .0) ∙ eq-eqb _ _ (full w k n (ltb-true _ _ x)))))
-            (λ x. test (ltb maxTaken (k + n))
-            (λ y. absurd (false≢true (sym (h₂ .0) ∙ eq-eqb _ _ (over w k n (ltb-false _ _ x) (ltb-true _ _ y)))))
-            (λ y. room w k n (ltb-false _ _ x) (ltb-false _ _ y))),
-        λ o. leb-false maxMessages (t .messages .n) (sym (ap (λ (b : Bool). b && leb maxMessages (t .messages .n)) (le-leb 1 n o)) ∙ h₃ .0),
-      )
+  -- nor do 11, 8, 9 and 12, 8 and 12 judged after the withdrawal
+  module _ (k l n : ℕ) where
+    -- what it withdraws
+    abbrev gone : List Entry
+    gone = withdrawnIn l n (t .messages)
 
-  pub record Queues (k n : ℕ) : Type 0 where
-    pub one : inRange p ≡ true
-    pub two : inOrder p ≡ true
-    pub sound : soundOk p s a ≡ true
-    pub listed : Listed
-    pub class : k ≤ maxClass
-    pub room : queueRefusal (s .counts .waiting) (s .counts .«next_offset» + s .counts .waiting) n ≡ 0
-    pub row : 1 ≤ n → t .messages .n < maxMessages
+    abbrev stay : ℕ
+    stay = s .counts .waiting - M.total gone
 
-  pub queue-passed : (class n : ℕ) → passed (queueVerdict p t a class n) ≡ true → Queues class n
-  unfolding queueVerdict
-  queue-passed class n h =
-      let q = first-passed (standing p t a false) (roomVerdict (s .counts) (t .messages .n) class n) h in
-      let g = standing-three false (q .0) in
-      let r = room-passed class n (q .1) in
-      record { one = g .0; two = g .1; sound = g .2; listed = g .3; class = r .0; room = r .1; row = r .2 }
+    abbrev taken : ℕ
+    taken = takenBy (s .counts) (t .messages)
 
-  -- where the bytes go there is room for them
-  pub queue-room : (class n : ℕ) → passed (queueVerdict p t a class n) ≡ true → (s .counts .flying + s .counts .waiting + n ≤ streamBytes) × (areaBytes ≤ length a) × (s .counts .waiting + n ≤ maxWaiting)
-  queue-room class n h =
-      let q = queue-passed class n h in
-      let k = s .counts .«next_offset» + s .counts .waiting in (
-        queue-fits (s .counts .waiting) k n (s .counts .flying) (flying-few s (counts-pass p s a (q .sound))) (q .room),
-        sound-rows p s a (q .sound) .1,
-        not-refused (s .counts .waiting) k n (q .room) .0,
-      )
+    room-passed : passed (roomVerdict (s .counts) (t .messages) k l n) ≡ true
+        → (k ≤ maxClass) × (queueRefusal stay taken n ≡ 0) × (1 ≤ n → t .messages .n - length gone < maxMessages)
+    unfolding roomVerdict
+    room-passed h =
+        let left = t .messages .n - length gone in
+        let h₀ = over-first (ltb maxClass k) BadClass _ refl h in
+        let h₁ = over-first (eqb (queueRefusal stay taken n) 8) QueueFull _ refl (h₀ .1) in
+        let h₂ = over-first (eqb (queueRefusal stay taken n) 9) AllTaken _ refl (h₁ .1) in
+        let h₃ = over-first (ltb 0 n && leb maxMessages left) TooManyMessages Accepted refl (h₂ .1) in (
+          ltb-false maxClass k (h₀ .0),
+          test (ltb maxWaiting (stay + n))
+              (λ x. absurd (false≢true (sym (h₁ .0) ∙ eq-eqb _ _ (full stay taken n (ltb-true _ _ x)))))
+              (λ x. test (ltb maxTaken (taken + n))
+              (λ y. absurd (false≢true (sym (h₂ .0) ∙ eq-eqb _ _ (over stay taken n (ltb-false _ _ x) (ltb-true _ _ y)))))
+              (λ y. room stay taken n (ltb-false _ _ x) (ltb-false _ _ y))),
+          λ o. leb-false maxMessages left (sym (ap (λ (b : Bool). b && leb maxMessages left) (le-leb 1 n o)) ∙ h₃ .0),
+        )
 
-  pub receive-three : (h : Heard) (r : Reply) (n : ℕ) → passed (receiveVerdict p t a h r n) ≡ true → (inRange p ≡ true) × (inOrder p ≡ true) × (soundOk p s a ≡ true) × Listed
+    pub record Queues : Type 0 where
+      pub one : inRange p ≡ true
+      pub two : inOrder p ≡ true
+      pub sound : soundOk p s a ≡ true
+      pub listed : Listed
+      pub took : Taken
+      pub class : k ≤ maxClass
+      pub room : queueRefusal stay taken n ≡ 0
+      pub row : 1 ≤ n → t .messages .n - length gone < maxMessages
+
+    pub queue-passed : passed (queueVerdict p t a k l n) ≡ true → Queues
+    unfolding queueVerdict
+    queue-passed h =
+        let q = first-passed (standing p t a false) (roomVerdict (s .counts) (t .messages) k l n) h in
+        let g = standing-three false (q .0) in
+        let r = room-passed (q .1) in
+        record { one = g .0; two = g .1; sound = g .2; listed = g .3; took = g .4; class = r .0; room = r .1; row = r .2 }
+
+    -- where the bytes go there is room for them
+    pub queue-room : passed (queueVerdict p t a k l n) ≡ true → (s .counts .flying + maxWaiting ≤ streamBytes) × (areaBytes ≤ length a) × (stay + n ≤ maxWaiting)
+        × (s .counts .waiting ≤ maxWaiting)
+    queue-room h =
+        let q = queue-passed h in
+        let c = counts-pass p s a (q .sound) in
+        (omega (arith, flying-few s c, stream-holds), sound-rows p s a (q .sound) .1, not-refused stay taken n (q .room) .0, waiting-few s c)
+
+  pub receive-three : (h : Heard) (r : Reply) (n : ℕ) → passed (receiveVerdict p t a h r n) ≡ true → Stands
   unfolding receiveVerdict
   receive-three h r n e = standing-three (eqb (kindOf r) 0) (first-passed (standing p t a (eqb (kindOf r) 0)) (replyVerdict (s .link .«last_time») h r n) e .0)
 
   -- nor does 10
-  pub burst-passed : (n : ℕ) → passed (burstVerdict p t a n) ≡ true → (inRange p ≡ true) × (inOrder p ≡ true) × (soundOk p s a ≡ true) × (maxSlots * p .«long_bytes» ≤ n) × Listed
+  pub burst-passed : (n : ℕ) → passed (burstVerdict p t a n) ≡ true → (inRange p ≡ true) × (inOrder p ≡ true) × (soundOk p s a ≡ true) × (maxSlots * p .«long_bytes» ≤ n) × Listed × Taken
   unfolding burstVerdict outputVerdict
   burst-passed n h =
       let q = first-passed (standing p t a false) (outputVerdict (p .«long_bytes») n) h in
       let g = standing-three false (q .0) in
       let o = over-first (ltb n (maxSlots * p .«long_bytes»)) ShortOutput Accepted refl (q .1) in
-      (g .0, g .1, g .2, ltb-false n (maxSlots * p .«long_bytes») (o .0), g .3)
+      (g .0, g .1, g .2, ltb-false n (maxSlots * p .«long_bytes») (o .0), g .3, g .4)
 
   -- nor do 5, 6 and 7
   pub reply-passed : (h : Heard) (r : Reply) (n : ℕ) → passed (receiveVerdict p t a h r n) ≡ true → (timeOk (s .link .«last_time») (h .time) ≡ true) × (heardOk h ≡ true) × (replyOk r ≡ true)

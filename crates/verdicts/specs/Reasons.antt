@@ -4,7 +4,8 @@ use mathlib.Core.Path.{_≡_}
 use mathlib.Core.Logic.{_⊎_}
 use mathlib.Core.List.{List, [], _∷_, _++_}
 use mathlib.Core.Bool.{Bool, true, false, cond, not, _&&_}
-use Prim.Native.Nat.{ℕ, _+_, _*_}
+use Prim.Native.Nat.{ℕ, _+_, _-_, _*_}
+use lib.ListN.{length}
 use lib.Dec.{ltb, eqb}
 use Rattle.config.specs.Ranges.{inRange, inOrder}
 use Rattle.config.specs.declared.Profile.{Profile}
@@ -12,7 +13,8 @@ use Rattle.queuing.specs.declared.Station.{Station}
 use Rattle.replies.specs.declared.Heard.{Heard}
 use Rattle.refusals.specs.declared.Reply.{Reply}
 use Rattle.refusals.specs.Refusals.{kindOf, timeOk, heardOk, replyOk}
-use Rattle.verdicts.specs.Verdicts.{stationOk}
+use Rattle.messages.specs.Messages.{total, withdrawnIn}
+use Rattle.verdicts.specs.Verdicts.{stationOk, takenBy}
 use Rattle.limits.specs.Limits.{maxSlots, maxWaiting, maxTaken, maxClass, maxMessages}
 
 -- a number, and whether its reason holds
@@ -34,14 +36,15 @@ standingReasons p t a connect =
 abbrev pub lookupReasons : Profile → Station → List ℕ → List Reason
 lookupReasons p t a = standingReasons p t a false
 
--- a queuing of n bytes of a class. 11: "a class above 3"; 8: "Waiting bytes would pass 16,384"; 9: "Bytes taken would pass 2^32 - 1"; 12: "a 257th
--- message"
-abbrev pub queueReasons : Profile → Station → List ℕ → ℕ → ℕ → List Reason
-queueReasons p t a class n =
+-- a queuing of n bytes of a class with a label. 11: "a class above 3"; 8: "Waiting bytes would pass 16,384"; 9: "Bytes taken would pass 2^32 - 1";
+-- 12: "a 257th message". 8 and 12 are "judged after the withdrawal"
+abbrev pub queueReasons : Profile → Station → List ℕ → ℕ → ℕ → ℕ → List Reason
+queueReasons p t a class label n =
+    let gone = withdrawnIn label n (t .messages) in
     standingReasons p t a false
-    ++ ((11, ltb maxClass class) ∷ (8, ltb maxWaiting (t .sender .counts .waiting + n))
-    ∷ (9, ltb maxTaken (t .sender .counts .«next_offset» + t .sender .counts .waiting + n))
-    ∷ (12, ltb 0 n && ltb maxMessages (t .messages .n + 1)) ∷ [])
+    ++ ((11, ltb maxClass class) ∷ (8, ltb maxWaiting (t .sender .counts .waiting - total gone + n))
+    ∷ (9, ltb maxTaken (takenBy (t .sender .counts) (t .messages) + n))
+    ∷ (12, ltb 0 n && ltb maxMessages (t .messages .n - length gone + 1)) ∷ [])
 
 -- a reply with a payload of n bytes. 7: "A long ack's payload is under 13 bytes"
 abbrev pub replyReasons : Profile → Station → List ℕ → Heard → Reply → ℕ → List Reason

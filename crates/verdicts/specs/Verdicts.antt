@@ -1,7 +1,8 @@
 -- What the station turns down (document 01; 11 and 12 of document 02), in this order. Definitions only.
 use mathlib.Core.List.{List}
 use mathlib.Core.Bool.{Bool, false, cond, not, _&&_, _||_}
-use Prim.Native.Nat.{ℕ, _+_, _*_}
+use Prim.Native.Nat.{ℕ, _+_, _-_, _*_}
+use lib.ListN.{length}
 use lib.Dec.{leb, ltb, eqb}
 use lib.Ieee.{Float}
 use Rattle.config.specs.Ranges.{inRange, inOrder}
@@ -9,7 +10,8 @@ use Rattle.config.specs.declared.Profile.{Profile}
 use Rattle.area.specs.Room.{queueRefusal}
 use Rattle.record.specs.declared.Counts.{Counts}
 use Rattle.soundness.specs.Soundness.{soundOk}
-use Rattle.messages.specs.Messages.{messagesOk}
+use Rattle.messages.specs.Messages.{messagesOk, total, withdrawnIn}
+use Rattle.messages.specs.declared.Messages.{Messages}
 use Rattle.queuing.specs.declared.Station.{Station}
 use Rattle.replies.specs.declared.Heard.{Heard}
 use Rattle.refusals.specs.declared.Verdict.{Verdict}
@@ -17,14 +19,21 @@ use Rattle.refusals.specs.declared.Verdict.the-variants.{Accepted, ProfileOutOf
 use Rattle.refusals.specs.declared.Verdict.the-variants.{ShortPayload, QueueFull, AllTaken, ShortOutput, BadClass, TooManyMessages}
 use Rattle.refusals.specs.declared.Reply.{Reply}
 use Rattle.refusals.specs.Refusals.{numberOf, kindOf, timeOk, heardOk, replyOk}
-use Rattle.limits.specs.Limits.{maxSlots, maxClass, maxMessages}
+use Rattle.limits.specs.Limits.{maxSlots, maxTaken, maxClass, maxMessages}
 
 abbrev pub passed : Verdict → Bool
 passed v = eqb (numberOf v) 0
 
--- the sound record: document 01's list, and document 02's clauses about messages
+-- bytes taken: "the next offset plus waiting", and those withdrawn (Change 6)
+abbrev pub takenBy : Counts → Messages → ℕ
+takenBy c m = c .«next_offset» + c .waiting + m .withdrawn
+
+-- the sound record: document 01's list, and document 02's clauses about messages. "The sound record's two sums for taken gain" the bytes withdrawn:
+-- that they are alike is document 01's clause without them, so their limit alone is new
 abbrev pub stationOk : Profile → Station → List ℕ → Bool
-stationOk p t a = messagesOk (t .sender .counts .waiting) (t .messages) && soundOk p (t .sender) a
+stationOk p t a =
+    messagesOk (t .sender .counts .waiting) (t .messages)
+    && (soundOk p (t .sender) a && leb (takenBy (t .sender .counts) (t .messages)) maxTaken)
 
 -- 1 to 4, which every call checks: `connect` says whether the call is a connect. 4: "A call other than connect comes before connect, or connect comes again"
 unfoldable pub standing : Profile → Station → List ℕ → Bool → Verdict
@@ -42,15 +51,17 @@ replyVerdict last h r n =
     (cond (not (heardOk h && replyOk r)) BadValue
     (cond (eqb (kindOf r) 2 && ltb n 13) ShortPayload Accepted))
 
--- 11, 8, 9 and 12, of n bytes more as one message of this class, where m messages wait: "a class above 3 with 11, before 8, and a 257th message
--- with 12, after 9"; "a queuing of no bytes makes no message"
-unfoldable pub roomVerdict : Counts → ℕ → ℕ → ℕ → Verdict
-roomVerdict c m class n =
-    let q = queueRefusal (c .waiting) (c .«next_offset» + c .waiting) n in
+-- 11, 8, 9 and 12, of n bytes more as one message of this class and label, where the messages m wait: "a class above 3 with 11, before 8, and a
+-- 257th message with 12, after 9"; "a queuing of no bytes makes no message". "Whether the queue or the message count is full is judged after the
+-- withdrawal"; 9 counts withdrawn bytes as taken
+unfoldable pub roomVerdict : Counts → Messages → ℕ → ℕ → ℕ → Verdict
+roomVerdict c m class label n =
+    let gone = withdrawnIn label n m in
+    let q = queueRefusal (c .waiting - total gone) (takenBy c m) n in
     cond (ltb maxClass class) BadClass
     (cond (eqb q 8) QueueFull
     (cond (eqb q 9) AllTaken
-    (cond (ltb 0 n && leb maxMessages m) TooManyMessages Accepted)))
+    (cond (ltb 0 n && leb maxMessages (m .n - length gone)) TooManyMessages Accepted)))
 
 -- 10: "The output is shorter than 64 times the long frame"
 unfoldable pub outputVerdict : ℕ → ℕ → Verdict
@@ -60,9 +71,9 @@ outputVerdict long n = cond (ltb n (maxSlots * long)) ShortOutput Accepted
 abbrev pub firstOf : Verdict → Verdict → Verdict
 firstOf v w = cond (passed v) w v
 
--- a queuing of n bytes of this class: 1 2 3 4 11 8 9 12
-unfoldable pub queueVerdict : Profile → Station → List ℕ → ℕ → ℕ → Verdict
-queueVerdict p t a class n = firstOf (standing p t a false) (roomVerdict (t .sender .counts) (t .messages .n) class n)
+-- a queuing of n bytes of this class and label: 1 2 3 4 11 8 9 12
+unfoldable pub queueVerdict : Profile → Station → List ℕ → ℕ → ℕ → ℕ → Verdict
+queueVerdict p t a class label n = firstOf (standing p t a false) (roomVerdict (t .sender .counts) (t .messages) class label n)
 
 -- a reply with a payload of n bytes: 1 2 3 4 5 6 7
 unfoldable pub receiveVerdict : Profile → Station → List ℕ → Heard → Reply → ℕ → Verdict

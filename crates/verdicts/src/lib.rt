@@ -6,7 +6,10 @@ use config::ranges::in_range;
 use limits::MAX_CLASS;
 use limits::MAX_MESSAGES;
 use limits::MAX_SLOTS;
+use limits::MAX_TAKEN;
+use messages::Messages;
 use messages::messages_ok;
+use messages::superseded;
 use queuing::Station;
 use record::Counts;
 use refusals::Reply;
@@ -21,8 +24,17 @@ use soundness::is_sound;
 ghost use mathlib.Core.Path.{_≡_};
 ghost use mathlib.Core.Bool.{true};
 ghost use Prim.Native.Nat.{_+_, _≤_};
-ghost use Rattle.verdicts.specs.Verdicts.{passed, firstOf, standing as standingOf, replyVerdict, roomVerdict, outputVerdict};
+ghost use lib.Dec.{leb};
+ghost use Rattle.messages.specs.SoundCode.{SoundMessages};
+ghost use Rattle.verdicts.specs.Verdicts.{passed, firstOf, takenBy, standing as standingOf, replyVerdict, roomVerdict, outputVerdict};
 ghost use Rattle.limits.specs.Limits.{maxTaken};
+
+// Bytes taken, those withdrawn among them, are within their limit.
+fn taken_ok(c: Counts, withdrawn: u32) -> bool
+    ensures { λ r. ⌜ r ≡ leb (c .«next_offset» + c .waiting + withdrawn) maxTaken ⌝ }
+{
+    c.next_offset as u64 + c.waiting as u64 + withdrawn as u64 <= MAX_TAKEN as u64
+}
 
 // Refusals 1 to 4. `connect`: the call is a connect.
 pub fn standing(p: Profile, t: Station, a: &[u8], connect: bool) -> Verdict
@@ -35,7 +47,9 @@ pub fn standing(p: Profile, t: Station, a: &[u8], connect: bool) -> Verdict
     if !in_order(p.short_bytes, p.long_bytes) {
         return Verdict::ShortOverLong;
     }
-    if !(messages_ok(t.messages, t.sender.counts.waiting) & is_sound(p, t.sender, a)) {
+    if !(messages_ok(t.messages, t.sender.counts.waiting)
+        & is_sound(p, t.sender, a)
+        & taken_ok(t.sender.counts, t.messages.withdrawn)) {
         return Verdict::Unsound;
     }
     if (k.connected & connect) | (!k.connected & !connect) {
@@ -44,10 +58,12 @@ pub fn standing(p: Profile, t: Station, a: &[u8], connect: bool) -> Verdict
     Verdict::Accepted
 }
 
-// 11, 8, 9 and 12, of n bytes more as one message of this class, where m messages wait and 1 to 4 gave v.
-pub fn queue_verdict(v: Verdict, c: Counts, m: usize, class: u8, n: usize) -> Verdict
-    requires { ⌜ (passed v ≡ true → c .«next_offset» + c .waiting ≤ maxTaken) ⌝ }
-    ensures { λ r. ⌜ r ≡ firstOf v (roomVerdict c m class n) ⌝ }
+// 11, 8, 9 and 12, of n bytes more as one message of this class and label, where the messages m wait and 1 to 4 gave v. 8 and 12 are judged
+// after the withdrawal.
+pub fn queue_verdict(v: Verdict, c: Counts, m: Messages, class: u8, label: u16, n: usize) -> Verdict
+    requires { ⌜ (passed v ≡ true → takenBy c m ≤ maxTaken) ⌝ }
+    requires { ⌜ (passed v ≡ true → SoundMessages m (c .waiting)) ⌝ }
+    ensures { λ r. ⌜ r ≡ firstOf v (roomVerdict c m class label n) ⌝ }
 {
     if number(v) != 0 {
         return v;
@@ -55,14 +71,19 @@ pub fn queue_verdict(v: Verdict, c: Counts, m: usize, class: u8, n: usize) -> Ve
     if MAX_CLASS < class {
         return Verdict::BadClass;
     }
-    let q = queue_refusal(c.waiting, c.next_offset + c.waiting, n);
+    let gone = superseded(m, label, n);
+    let q = queue_refusal(
+        c.waiting - gone.bytes,
+        c.next_offset + c.waiting + m.withdrawn,
+        n,
+    );
     if q == 8 {
         return Verdict::QueueFull;
     }
     if q == 9 {
         return Verdict::AllTaken;
     }
-    if (0 < n) & (MAX_MESSAGES <= m) {
+    if (0 < n) & (MAX_MESSAGES <= m.n - gone.n) {
         return Verdict::TooManyMessages;
     }
     Verdict::Accepted

@@ -146,6 +146,18 @@ impl<M: Meter> Pair<M> {
         self.compare();
     }
 
+    /// A message that leaves these bytes waiting, `laid`: one with a label that withdraws others. The original knows no labels: its queue is laid
+    /// so afterwards.
+    pub fn queue_as(&mut self, message: Message, bytes: &[u8], laid: &[u8]) {
+        let (s, p) = (&mut self.original, &mut self.port);
+        let ((), answer) = self
+            .meter
+            .both(Kind::Queue, || s.out.extend(bytes), || p.queue(message, bytes));
+        answer.expect("the port refuses bytes");
+        s.out = laid.iter().copied().collect();
+        self.compare();
+    }
+
     /// Only the first six bits of the bitmap go; all six mean the whole burst.
     pub fn short(&mut self, reply: Reply) {
         let heard = self.heard(reply.db);

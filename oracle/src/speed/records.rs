@@ -5,9 +5,10 @@
 //! count, dB and numbers beside flags that are off, messages past theirs. Left out is what has no counterpart in the original: a wave above 5,
 //! a success time past the reply's (its worth is a NaN: docs/DIFFERENCES.md).
 //!
-//! Messages are any that document 02 calls sound: classes in any order, `begun` with a message and without. The original has none. `Mail` is
-//! the second model: the order of those that are there is the one in which they are kept, and a new one goes when it is its turn by the
-//! sentence; with a single class the original's own queue says so.
+//! Messages are any that document 02 calls sound: classes in any order, several of one label, `begun` with a message and without, bytes
+//! withdrawn up to what may be taken. The original has none. `Mail` is the second model: the order of those that are there is the one in which
+//! they are kept, and a new one goes when it is its turn by the sentence; with a single class and nothing withdrawn the original's own queue
+//! says so.
 
 use vanitycrow::raw;
 
@@ -20,33 +21,55 @@ use crate::profile::{Profile, payload_of};
 use crate::profiles;
 use crate::rng::Rng;
 
+/// What most labels are drawn from.
+const LABELS: [u16; 6] = [0, 1, 2, 7, 256, 65535];
 const AREA: usize = 49152;
 const TABLE: usize = 32768;
 
-/// A message: its class and the bytes of it that wait.
-type Message = (u8, Vec<u8>);
+/// A message: its class, its label and the bytes of it that wait.
+struct Message {
+    class: u8,
+    label: u16,
+    bytes: Vec<u8>,
+}
 
-/// The messages in the order of going, and whether the first has begun.
+/// The messages in the order of going, whether the first has begun, and the bytes withdrawn.
 #[derive(Default)]
 struct Mail {
     messages: Vec<Message>,
     begun: bool,
+    withdrawn: u32,
 }
 
 impl Mail {
-    /// What goes next is chosen between the new message and the next of those that are there: the begun one, then the one of the lower class,
-    /// of two alike the one that is there.
-    fn queue(&mut self, class: u8, bytes: &[u8]) {
+    /// How many messages, and how many bytes of them, a queuing of `n` bytes with `label` withdraws.
+    fn gone(&self, label: u16, n: usize) -> (usize, usize) {
+        let unbegun = self.messages.iter().skip(self.begun as usize);
+        let gone = unbegun.filter(|m| n > 0 && label > 0 && m.label == label);
+        gone.fold((0, 0), |(count, bytes), m| (count + 1, bytes + m.bytes.len()))
+    }
+
+    /// What goes next is chosen between the new message and the next of those that are there and stay: the begun one, then the one of the lower
+    /// class, of two alike the one that is there.
+    fn queue(&mut self, class: u8, label: u16, bytes: &[u8]) {
         if bytes.is_empty() {
             return;
         }
-        let mut new = Some((class, bytes.to_vec()));
+        let mut new = Some(Message { class, label, bytes: bytes.to_vec() });
         let mut begun = self.begun;
         for next in std::mem::take(&mut self.messages) {
-            if !begun && new.as_ref().is_some_and(|m| m.0 < next.0) {
+            if begun {
+                self.messages.push(next);
+                begun = false;
+                continue;
+            }
+            if label > 0 && next.label == label {
+                self.withdrawn += next.bytes.len() as u32;
+                continue;
+            }
+            if new.as_ref().is_some_and(|m| m.class < next.class) {
                 self.messages.extend(new.take());
             }
-            begun = false;
             self.messages.push(next);
         }
         self.messages.extend(new);
@@ -54,7 +77,7 @@ impl Mail {
 
     fn fly(&mut self, mut n: usize) {
         while n > 0 {
-            let first = &mut self.messages[0].1;
+            let first = &mut self.messages[0].bytes;
             let k = n.min(first.len());
             first.drain(..k);
             n -= k;
@@ -66,12 +89,12 @@ impl Mail {
     }
 
     fn bytes(&self) -> Vec<u8> {
-        self.messages.iter().flat_map(|m| m.1.iter().copied()).collect()
+        self.messages.iter().flat_map(|m| m.bytes.iter().copied()).collect()
     }
 
     /// Whether a message of `class` makes no second class.
     fn single(&self, class: u8) -> bool {
-        self.messages.iter().all(|m| m.0 == class)
+        self.messages.iter().all(|m| m.class == class)
     }
 }
 
@@ -271,20 +294,26 @@ impl Both {
         } else if order == 1 {
             classes.fill(r.below(4) as u8);
         }
+        let labels = r.pick(&[&[0][..], &LABELS, &LABELS, &[7], &[0, 0, 0, 7]]);
         for (i, &class) in classes.iter().enumerate() {
             let spare = rest.len() - (most - i);
             let more = r.pick(&[0, 0, 1, spare / 2, spare]).min(spare);
             let n = if i + 1 == most { rest.len() } else { 1 + more };
-            (m.left[i], m.class[i]) = (n as u16, class);
-            self.mail.messages.push((class, rest[..n].to_vec()));
+            let label = r.pick(labels);
+            (m.left[i], m.class[i], m.label[i]) = (n as u16, class, label);
+            self.mail.messages.push(Message { class, label, bytes: rest[..n].to_vec() });
             rest = &rest[n..];
         }
         for i in most..256 {
-            (m.left[i], m.class[i]) = (r.next() as u16, r.next() as u8);
+            (m.left[i], m.class[i], m.label[i]) = (r.next() as u16, r.next() as u8, r.pick(&LABELS));
         }
         m.n = most;
         m.begun = r.flag();
         self.mail.begun = m.begun && most > 0;
+        let c = &self.station.sender.counts;
+        let room = u32::MAX - c.next_offset - c.waiting;
+        m.withdrawn = r.pick(&[0, 0, 1, 70_000, room.saturating_sub(900), room]).min(room);
+        self.mail.withdrawn = m.withdrawn;
     }
 
     fn lists(&mut self, r: &mut Rng, offsets: &mut [u32]) {
@@ -343,24 +372,43 @@ impl Both {
     }
 
     fn queue(&mut self, r: &mut Rng) -> &'static str {
+        let (class, label) = (r.below(4) as u8, r.pick(&LABELS));
         let c = &self.station.sender.counts;
-        let room = (16384 - c.waiting).min(u32::MAX - c.next_offset - c.waiting);
-        let most = r.pick(&[0, 1, 700, 16384]);
-        let bytes = r.bytes(most.min(room as usize));
-        let class = r.below(4) as u8;
-        let full = self.mail.messages.len() == 256 && !bytes.is_empty();
-        if !full && self.mail.single(class) {
-            self.mail.queue(class, &bytes);
-            self.original.out.extend(&bytes);
-        } else if !full {
-            self.mail.queue(class, &bytes);
-            self.original.out = self.mail.bytes().into();
+        let (waiting, next) = (c.waiting as usize, c.next_offset as usize);
+        let left = 0xFFFF_FFFF - next - waiting - self.mail.withdrawn as usize;
+        let (_, bytes_gone) = self.mail.gone(label, 1);
+        let room = 16384 - waiting + bytes_gone;
+        let n = r.pick(&[0, 1, 700, 16384, room, left]).min(room).min(left) + r.once_in(8) as usize;
+        let bytes = r.bytes(n);
+        let (count, bytes_gone) = self.mail.gone(label, n);
+        let expected = if waiting - bytes_gone + n > 16384 {
+            8
+        } else if n > left {
+            9
+        } else if n > 0 && self.mail.messages.len() - count == 256 {
+            12
+        } else {
+            0
+        };
+        if expected == 0 {
+            let own = self.mail.single(class) && count == 0;
+            self.mail.queue(class, label, &bytes);
+            if own {
+                self.original.out.extend(&bytes);
+            } else {
+                self.original.out = self.mail.bytes().into();
+            }
         }
-        let (area, n) = (self.area.as_mut_ptr(), bytes.len());
-        let message = raw::Message { class };
+        let area = self.area.as_mut_ptr();
+        let message = raw::Message { class, label };
         let refusal = unsafe { raw::vanitycrow_queue(&self.profile, &mut self.station, area, AREA, message, bytes.as_ptr(), n) };
-        assert_eq!(refusal, if full { 12 } else { 0 }, "queue");
-        if full { "full queue" } else { "queue" }
+        assert_eq!(refusal, expected, "queue");
+        match (refusal, count) {
+            (0, 0) => "queue",
+            (0, _) => "queue that withdraws",
+            (_, 0) => "refused queue",
+            _ => "refused queue that would withdraw",
+        }
     }
 
     fn number(&self, r: &mut Rng) -> u8 {
@@ -490,9 +538,10 @@ impl Both {
 
     fn compare_messages(&self) {
         let (m, model) = (&self.station.messages, &self.mail);
-        let there = (0..m.n).map(|i| (m.class[i], m.left[i] as usize));
-        assert!(model.messages.iter().map(|x| (x.0, x.1.len())).eq(there), "messages");
+        let there = (0..m.n).map(|i| (m.class[i], m.label[i], m.left[i] as usize));
+        assert!(model.messages.iter().map(|x| (x.class, x.label, x.bytes.len())).eq(there), "messages");
         assert!(m.n == 0 || m.begun == model.begun, "begun");
+        assert_eq!(m.withdrawn, model.withdrawn, "withdrawn");
         assert!(self.original.out.iter().copied().eq(model.bytes()), "the waiting bytes of the messages");
     }
 }

@@ -1,5 +1,7 @@
 //! The links on which both sides are measured.
 
+use vanitycrow::Message;
+
 use super::meter::{Clock, Meter};
 use super::pair::{Pair, Reply, Sent};
 use crate::harness::WAITING_MOST;
@@ -15,6 +17,8 @@ const ROUNDS: usize = 2000;
 const HELD_ROUNDS: usize = 7;
 /// Bytes that wait, in messages of equal length: 1, 8 or 255 of them.
 const MESSAGE_BYTES: usize = 4080;
+/// Bytes of each of 256 messages that fill the queue.
+const LABELLED_BYTES: usize = 64;
 /// Bytes of a plain queuing: a frame's payload.
 const PLAIN_BYTES: usize = 170;
 
@@ -222,6 +226,52 @@ pub fn first_times() -> Clock {
     for _ in 0..ROUNDS / 4 {
         let mut pair = state.with(clock);
         pair.queue_first(&bytes[..1]);
+        clock = pair.meter;
+    }
+    clock
+}
+
+/// A queuing of 64 bytes where 256 messages of 64 bytes wait, 16,384 in all, and the first of them bears its label, the most that a list can
+/// leave to withdraw: the others move up, and where the new one is a flash message they move back again.
+pub fn superseding_times(first: bool) -> Clock {
+    let bytes = bytes();
+    let label = 1;
+    let mut state = Pair::new(Clock::default(), &pinned(10), REPORT_DB);
+    for (i, part) in bytes.chunks_exact(LABELLED_BYTES).enumerate() {
+        let message = if i == 0 {
+            Message::ROUTINE.labelled(label)
+        } else {
+            Message::ROUTINE
+        };
+        state.queue_as(message, part, &bytes[..(i + 1) * LABELLED_BYTES]);
+    }
+    let (new, stay) = bytes.split_at(LABELLED_BYTES);
+    let (message, laid) = if first {
+        (Message::FLASH, [new, stay].concat())
+    } else {
+        (Message::ROUTINE, [stay, new].concat())
+    };
+    let mut clock = Clock::default();
+    for _ in 0..ROUNDS / 4 {
+        let mut pair = state.with(clock);
+        pair.queue_as(message.labelled(label), new, &laid);
+        clock = pair.meter;
+    }
+    clock
+}
+
+/// The same without a label, where 255 messages wait.
+pub fn unlabelled_times() -> Clock {
+    let bytes = bytes();
+    let mut state = Pair::new(Clock::default(), &pinned(10), REPORT_DB);
+    let (waiting, new) = bytes.split_at(bytes.len() - LABELLED_BYTES);
+    for part in waiting.chunks_exact(LABELLED_BYTES) {
+        state.queue(part);
+    }
+    let mut clock = Clock::default();
+    for _ in 0..ROUNDS / 4 {
+        let mut pair = state.with(clock);
+        pair.queue(new);
         clock = pair.meter;
     }
     clock

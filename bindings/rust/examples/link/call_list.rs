@@ -87,15 +87,15 @@ impl CallList {
     }
 
     pub fn queue(&mut self, message: Message, bytes: &[u8], answer: Result<(), Refusal>) {
-        self.call(format_args!("queue {} {}", hex(bytes), message.class));
+        self.call(format_args!("queue {} {} {}", hex(bytes), message.class, message.label));
         self.answer("queue", answer);
     }
 
-    /// The line of `messages`; labels and withdrawn bytes are 0.
+    /// The line of `messages`.
     pub fn messages(&mut self, m: &Messages) {
-        let entries: String = m.entries().map(|(class, left)| format!(" {class}:0:{left}")).collect();
+        let entries: String = m.entries().map(|(class, label, left)| format!(" {class}:{label}:{left}")).collect();
         self.call(format_args!("messages"));
-        let _ = writeln!(self.transcript, "messages {} {} 0{entries}", m.n, (m.n > 0 && m.begun) as u8);
+        let _ = writeln!(self.transcript, "messages {} {} {}{entries}", m.n, (m.n > 0 && m.begun) as u8, m.withdrawn);
     }
 
     pub fn short_ack(&mut self, h: Heard, r: Ack, answer: Result<(), Refusal>) {
@@ -121,8 +121,9 @@ impl CallList {
         self.call(format_args!("burst"));
     }
 
-    /// Closes the transcript.
-    pub fn end(&mut self, c: &Counts) {
-        let _ = writeln!(self.transcript, "end {} {} {} {}", c.next_offset + c.waiting, c.waiting, c.flying, c.bytes_acked);
+    /// Closes the transcript; withdrawn bytes are taken.
+    pub fn end(&mut self, c: &Counts, m: &Messages) {
+        let taken = c.next_offset + c.waiting + m.withdrawn;
+        let _ = writeln!(self.transcript, "end {taken} {} {} {}", c.waiting, c.flying, c.bytes_acked);
     }
 }

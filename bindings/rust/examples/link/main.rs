@@ -1,8 +1,8 @@
 //! A mail of two messages over a simulated lossy link, through the safe wrapper: link CALLS TRANSCRIPT, as examples/link.c does in C.
 //!
-//! The flash message is queued last and goes first. A far station loses every third frame or so and answers with short and long acks until
-//! the whole mail is there. What was called goes to CALLS and what was answered to TRANSCRIPT, for a comparison with `replay`
-//! (docs/CALLS.md); a station leaves the `list` lines out.
+//! The routine message supersedes an older one of its label, which never goes on the air; the flash message is queued last and goes first. A
+//! far station loses every third frame or so and answers with short and long acks until the whole mail is there. What was called goes to CALLS
+//! and what was answered to TRANSCRIPT, for a comparison with `replay` (docs/CALLS.md); a station leaves the `list` lines out.
 
 mod call_list;
 mod usual;
@@ -12,6 +12,8 @@ use vanitycrow::*;
 
 const MAIL_BYTES: usize = 9000; // in the order in which they go
 const FLASH_BYTES: usize = 200; // of these
+const OLD_BYTES: usize = 300; // of the message that is superseded
+const BULLETIN: Message = Message::ROUTINE.labelled(1);
 const OUT_BYTES: usize = MAX_SLOTS * 180; // 64 long frames
 
 /// Numbers of a fixed sequence.
@@ -55,7 +57,7 @@ fn queue(station: &mut Station, message: Message, bytes: &[u8], list: &mut CallL
     answer
 }
 
-/// The called station answers, and the mail is queued: a routine message, then a flash message.
+/// The called station answers, and the mail is queued: a routine message, a newer one of its label, then a flash message.
 fn begin(station: &mut Station, mail: &[u8], list: &mut CallList) -> Result<(), Refusal> {
     let heard = Heard { time: 1.0, wave: 1, snr_db: 2.0 };
     let class = ChanClass { echo: false, doppler: false };
@@ -64,7 +66,8 @@ fn begin(station: &mut Station, mail: &[u8], list: &mut CallList) -> Result<(), 
     list.connect(heard, reply, answer);
     answer?;
     let (flash, routine) = mail.split_at(FLASH_BYTES);
-    queue(station, Message::ROUTINE, routine, list)?;
+    queue(station, BULLETIN, &[0; OLD_BYTES], list)?;
+    queue(station, BULLETIN, routine, list)?;
     queue(station, Message::FLASH, flash, list)
 }
 
@@ -115,7 +118,7 @@ fn main() {
         bursts += 1;
     }
     let counts = &station.sender().counts;
-    list.end(counts);
+    list.end(counts, station.messages());
     std::fs::write(calls_file, list.calls).expect("CALLS can be written");
     std::fs::write(transcript_file, list.transcript).expect("TRANSCRIPT can be written");
     assert!(far.got.iter().zip(&mail).all(|(g, m)| *g == Some(*m)), "the mail that arrived is another");

@@ -1,14 +1,16 @@
 -- A queuing that is not refused is one that the ledger allows, and its bytes fit the stream.
 -- Assumes nothing.
-use mathlib.Core.Path.{_≡_, sym, _∙_}
+use mathlib.Core.Path.{_≡_, sym, ap, _∙_}
 use mathlib.Core.List.{List}
-use Prim.Native.Nat.{ℕ, _+_, _≤_, _<_}
+use Prim.Native.Nat.{ℕ, _+_, _-_, _≤_, _<_}
 use native.Mathlib.Omega.{arith}
 use lib.ListN.{length}
 use lib.Dec.{ltb}
 use borrow.Author.Tests.{ltb-true, ltb-false, lt-ltb, le-ltb}
 use Rattle.laws.proofs.Picks.{test}
-use Rattle.ledger.specs.Ledger.{Sender}
+use Rattle.ledger.specs.Queue.{messageBytes, goes, superseded}
+use Rattle.ledger.specs.Station.{Station}
+use Rattle.ledger.proofs.Queue.{length-enqueue}
 use Rattle.area.specs.Layout.{streamBytes}
 use Rattle.area.specs.Room.{queueRefusal}
 use Rattle.limits.specs.Limits.{maxFlying, maxWaiting, maxTaken}
@@ -43,9 +45,11 @@ module _ (w t n : ℕ) where
   pub queue-fits : (f : ℕ) → f ≤ maxFlying → queueRefusal w t n ≡ 0 → f + w + n ≤ streamBytes
   queue-fits f h e = omega (arith, not-refused e)
 
-module _ (z : Sizes) (s : Sender) (c : ℕ) (bs : List ℕ) where
-  pub queue-allowed : queueRefusal (length (s .waiting)) (takenOf s) (length bs) ≡ 0 → Allowed z (queues c bs) s
-  queue-allowed e = not-refused _ _ _ e
-
-  pub allowed-queue : Allowed z (queues c bs) s → queueRefusal (length (s .waiting)) (takenOf s) (length bs) ≡ 0
-  allowed-queue a = room _ _ _ (a .0) (a .1)
+-- 8 judged after the withdrawal, 9 with the bytes withdrawn
+pub queue-allowed : (z : Sizes) (st : Station) (c l : ℕ) (bs : List ℕ) → st .sender .waiting ≡ goes (st .queue)
+    → let left = length (st .sender .waiting) - length (messageBytes (superseded l bs (st .queue))) in
+    queueRefusal left (takenOf (st .sender) + st .withdrawn) (length bs) ≡ 0
+    → Allowed z (queues c l bs) st
+queue-allowed z st c l bs sh e =
+    let r = not-refused _ _ _ e in
+    (omega (arith, r .0, length-enqueue c l (st .queue) bs, ap length sh), omega (arith, r .1))

@@ -1,20 +1,19 @@
--- `queuing::enqueue` meets its contract: what `place` finds lies within the messages and the waiting bytes, and what `insert_in` and `insert` leave there
--- is what `queuedIn` says (Queuing.antt).
+-- `queuing::enqueue` meets its contract: what `withdrawn` and `put_in` leave is what `queuedIn` says (Queuing.antt).
 use denote.Ref.{now}
-use mathlib.Core.Path.{_≡_, sym, ap, subst, _∙_}
-use mathlib.Core.List.{_++_}
-use Prim.Native.Nat.{ℕ, _+_, _-_, _≤_}
+use mathlib.Core.Path.{_≡_, sym, ap, ap₂, subst, _∙_}
+use mathlib.Core.List.{List}
+use Prim.Native.Nat.{ℕ, _≤_, _<_}
 use native.Mathlib.Omega.{arith}
-use lib.ListN.{length}
+use lib.ListN.{length, getD, drop}
 use borrow.Author.Needs.{needs, length-unmapped}
-use Rattle.laws.specs.Bytes.{overwrite, part}
-use Rattle.limits.specs.Limits.{maxSlots}
-use Rattle.messages.specs.Messages.{entryOf, entriesIn, storeEntries, begunIn}
-use Rattle.messages.specs.MessagesCode.{insertRow}
-use Rattle.messages.specs.declared.Position.{Position}
-use Rattle.messages.proofs.Placed.{place-within}
+use Rattle.laws.specs.Bytes.{overwrite, Bytes}
+use Rattle.laws.proofs.Bytes.{length-over}
+use Rattle.limits.specs.Limits.{maxSlots, maxMessages}
+use Rattle.messages.specs.SoundCode.{Sized}
 use Rattle.record.proofs.View.{Arrays}
-use Rattle.queuing.proofs.Queuing.{queuedTo, queued-none, queued-some}
+use Rattle.queuing.specs.StationCode.{Room, stayBytes, stayStation, putStation, putArea}
+use Rattle.queuing.specs.declared.Station.{Station}
+use Rattle.queuing.proofs.Queuing.{queued-none, queued-some, queued-unlabelled, stay-room, plain-room}
 use Rattle.queuing.proofs.enqueue.Statement.{statement}
 use Rattle.queuing.proofs.enqueue.Tie as tie
 
@@ -30,92 +29,83 @@ arrays s =
       sentHeld = length-unmapped ℕ (b .held) maxSlots (s .good .0 .1 .1 .0 .1 .1 .1 .1 .1 .1 .0 .1 .1 .1 .1 .0 .1 .0 .1);
     }
 
--- once the place is found
-abbrev P : Type 0
-P = tie.After-place
+sized : (s : tie.Start) → Sized (s .args .t .messages)
+sized s =
+    let m = s .args .t .messages in
+    record {
+      left = length-unmapped ℕ (m .left) maxMessages (s .good .0 .1 .1 .1 .0 .1 .1 .0 .1 .0 .1);
+      class = length-unmapped ℕ (m .class) maxMessages (s .good .0 .1 .1 .1 .0 .1 .1 .1 .0 .1 .0 .1);
+      label = length-unmapped ℕ (m .label) maxMessages (s .good .0 .1 .1 .1 .0 .1 .1 .1 .1 .0 .1 .0 .1);
+    }
 
-abbrev S : P → tie.Start
-S p = p .before .before .before .before .before .before
+-- there are bytes
+abbrev S : tie.Else1 → tie.Start
+S d = d .before .before .before
 
-within : (p : P) → let t = S p .args .t in (p .place .result .row ≤ t .messages .n) × (p .place .result .bytes ≤ t .sender .counts .waiting)
-within p =
-    let t = S p .args .t in
-    subst (λ (x : Position). (x .row ≤ t .messages .n) × (x .bytes ≤ t .sender .counts .waiting)) (sym (p .place .ensures))
-    (place-within (t .messages) (t .sender .counts .waiting) (S p .args .class) (S p .pre .messages))
+some : (d : tie.Else1) → 1 ≤ length (now (S d .args .bytes))
+some d = let h = d .if1 .left in omega (arith, h)
 
-some : (p : P) → 1 ≤ length (now (S p .args .bytes))
-some p = let h = p .before .before .before .if1 .left in omega (arith, h)
+bytes : (d : tie.Else1) → Bytes (now (S d .args .a))
+bytes d = λ k. d .before .before .slice-known .given k .fits
 
 returns : tie.Need-returns
-returns c = let a = c .before .before .before .args in queued-none (a .class) (now (a .bytes)) (a .t) (now (a .a)) (c .if1 .taken)
+returns c = let a = c .before .before .before .args in queued-none (a .class) (a .label) (now (a .bytes)) (a .t) (now (a .a)) (c .if1 .taken)
 
-place-requires : tie.Need-place-requires
-place-requires c κs = search needs
-
-cast-first : tie.Need-cast-first
-cast-first c = search needs
-
-cast-end : tie.Need-cast-end
-cast-end c = search needs
-
-add-end : tie.Need-add-end
-add-end c = search needs
-
-add-from : tie.Need-add-from
-add-from c = let p = c .before .before .before in omega (arith, within p .1, S p .pre .stream)
-
-insert-in-requires : tie.Need-insert-in-requires
-insert-in-requires c κs =
-    let p = c .before .before .before .before in
-    let f = S p .pre in
-    (omega (arith, within p .1), omega (arith, within p .1, f .bytes), omega (arith, f .stream, f .area))
-
-cast-insert : tie.Need-cast-insert
-cast-insert c = search needs
-
-insert-requires : tie.Need-insert-requires
-insert-requires c κs = let p = c .before .before .before .before .before .before .before in (within p .0, S p .pre .row (some p))
-
-cast-w : tie.Need-cast-w
-cast-w c = search needs
-
-add-w : tie.Need-add-w
-add-w c = search needs
+put-in-requires : tie.Need-put-in-requires
+put-in-requires c κs = let s = S (c .before .before) in plain-room (s .args .t) (now (s .args .a)) (s .args .label) _ (s .pre) (some (c .before .before)) (c .before .if2 .taken)
 
 same-length : tie.Need-same-length
 same-length c = search needs
 
 returns-2 : tie.Need-returns-2
 returns-2 c =
-    let i = c .before .before in
-    let q = i .before .before .before in
-    let p = q .before .before .before .before .before in
-    let a = S p .args in
-    let m = a .t .messages in
-    let s = a .t .sender in
+    let e = c .before .before in
+    let d = e .before .before .before in
+    let s = S d in
+    let a = s .args in
+    ap₂ (λ (t : Station) (x : List ℕ). (t, x)) (e .put-in .ensures .0) (e .put-in .ensures .1)
+    ∙ queued-unlabelled (a .t) (now (a .a)) (arrays s) (bytes d) (sized s) (a .class) (a .label) (now (a .bytes)) (some d) (s .pre) (e .before .before .if2 .taken)
+
+withdrawn-requires : tie.Need-withdrawn-requires
+withdrawn-requires c κs = search needs
+
+put-in-requires-2 : tie.Need-put-in-requires-2
+put-in-requires-2 c κs =
+    let w = c .before .before .before in
+    let d = w .before .before .before in
+    let s = S d in
+    let a = s .args in
+    let x = w .withdrawn .last .1 .0 in
+    let n = length (now (a .bytes)) in
+    let f = a .t .sender .counts .flying in
+    subst (λ (t : Station). Room t x n) (sym (w .withdrawn .ensures .0))
+    (stay-room (a .t) (now (a .a)) (a .label) n (s .pre) (some d) (sized s) x
+    (ap length (w .withdrawn .ensures .1) ∙ length-over (now (a .a)) f (stayBytes (a .label) (a .t .messages) (drop f (now (a .a))))))
+
+same-length-2 : tie.Need-same-length-2
+same-length-2 c = search needs
+
+returns-3 : tie.Need-returns-3
+returns-3 c =
+    let e = c .before .before in
+    let w = e .before .before .before .before in
+    let d = w .before .before .before in
+    let s = S d in
+    let a = s .args in
     let bs = now (a .bytes) in
-    let e : s .counts .flying + s .counts .waiting - (s .counts .flying + p .place .result .bytes) ≡ s .counts .waiting - p .place .result .bytes = omega arith in
-    let e₁ = i .insert .ensures ∙ ap (λ (x : Position). storeEntries (begunIn m) (insertRow (x .row) (entryOf (length bs) (a .class)) (entriesIn m)) m) (p .place .ensures) in
-    let from : Position → ℕ = λ x. s .counts .flying + x .bytes in
-    let e₂ = q .insert-in .ensures ∙ ap (λ (k : ℕ). overwrite (now (a .a)) (from (p .place .result)) (bs ++ part (now (a .a)) (from (p .place .result)) k)) e
-    ∙ ap (λ (x : Position). overwrite (now (a .a)) (from x) (bs ++ part (now (a .a)) (from x) (s .counts .waiting - x .bytes))) (p .place .ensures) in
-    (λ j. (record { sender = queuedTo s (s .counts .waiting + length bs); messages = e₁ j }, e₂ j))
-    ∙ queued-some (a .t) (now (a .a)) (arrays (S p)) (λ k. p .before .before .before .before .before .slice-known .given k .fits) (a .class) bs (some p) (S p .pre)
+    ap₂ (λ (t : Station) (x : List ℕ). (t, x)) (e .put-in2 .ensures .0) (e .put-in2 .ensures .1)
+    ∙ ap₂ (λ (t : Station) (x : List ℕ). (putStation (a .class) (a .label) (length bs) t, putArea (a .class) bs t x)) (w .withdrawn .ensures .0) (w .withdrawn .ensures .1)
+    ∙ queued-some (a .t) (now (a .a)) (arrays s) (bytes d) (sized s) (a .class) (a .label) bs (some d) (s .pre)
 
 pub enqueue-spec : {M : Type 1} → statement M
 enqueue-spec =
     tie.close
     (tie.spec
     returns
-    place-requires
-    cast-first
-    cast-end
-    add-end
-    add-from
-    insert-in-requires
-    cast-insert
-    insert-requires
-    cast-w
-    add-w
+    put-in-requires
     same-length
-    returns-2)
+    returns-2
+    withdrawn-requires
+    put-in-requires-2
+    same-length-2
+    returns-3)

@@ -5,10 +5,11 @@ use mathlib.Core.Path.{_≡_, sym, ap, _∙_}
 use Prim.Native.Nat.{ℕ}
 use lib.ListN.{length}
 use borrow.Author.Needs.{needs, length-unmapped}
+use Rattle.messages.proofs.Kept.{ok-sound}
 use Rattle.record.proofs.View.{Arrays}
 use Rattle.refusals.specs.declared.Verdict.{Verdict}
 use Rattle.verdicts.specs.Verdicts.{passed, firstOf, roomVerdict, queueVerdict}
-use Rattle.verdicts.proofs.Passed.{is-passed, not-passed, standing-three, sound-taken}
+use Rattle.verdicts.proofs.Passed.{is-passed, not-passed, Stands, standing-three}
 use Rattle.sender.proofs.Answered.{queue-refused, queue-accepted, queue-fit}
 use Rattle.sender.proofs.queue.Statement.{statement}
 use Rattle.sender.proofs.queue.Tie as tie
@@ -31,17 +32,17 @@ abbrev Judged : Type 0
 Judged = tie.After-queue-verdict
 
 abbrev S : Judged → tie.Start
-S v = v .before .before .before .before .before .before
+S v = v .before .before .before .before .before
 
 abbrev verdict : tie.Start → Verdict
-verdict s = queueVerdict (s .args .p) (s .args .t) (now (s .args .a)) (s .args .class) (length (now (s .args .bytes)))
+verdict s = queueVerdict (s .args .p) (s .args .t) (now (s .args .a)) (s .args .class) (s .args .label) (length (now (s .args .bytes)))
 
 asked : (v : Judged) → v .queue-verdict .result ≡ verdict (S v)
 unfolding queueVerdict
 asked v =
     let t = S v .args .t in
     v .queue-verdict .ensures
-    ∙ ap (λ (u : Verdict). firstOf u (roomVerdict (t .sender .counts) (t .messages .n) (S v .args .class) (length (now (S v .args .bytes))))) (v .before .standing .ensures)
+    ∙ ap (λ (u : Verdict). firstOf u (roomVerdict (t .sender .counts) (t .messages) (S v .args .class) (S v .args .label) (length (now (S v .args .bytes))))) (v .before .standing .ensures)
 
 accepted : (c : tie.Else1) → passed (verdict (S (c .before .before))) ≡ true
 accepted c = is-passed _ _ _ (asked (c .before .before)) (c .before .number .ensures) (c .if1 .left)
@@ -50,10 +51,11 @@ standing-requires : tie.Need-standing-requires
 standing-requires c κs = search needs
 
 queue-verdict-requires : tie.Need-queue-verdict-requires
-queue-verdict-requires c κs e =
-    let s = c .before .before .before .before .before in
-    sound-taken (s .args .p) (s .args .t .sender) (now (s .args .a))
-    (standing-three (s .args .p) (s .args .t) (now (s .args .a)) false (sym (ap (λ (u : Verdict). passed u) (c .standing .ensures)) ∙ e) .2)
+queue-verdict-requires c κs =
+    let s = c .before .before .before .before in
+    let three : passed (c .standing .result) ≡ true → Stands (s .args .p) (s .args .t) (now (s .args .a)) =
+    λ e. standing-three (s .args .p) (s .args .t) (now (s .args .a)) false (sym (ap (λ (u : Verdict). passed u) (c .standing .ensures)) ∙ e) in
+    (λ e. three e .4, λ e. ok-sound _ _ (three e .3))
 
 number-requires : tie.Need-number-requires
 number-requires c κs = search needs
@@ -65,12 +67,12 @@ returns : tie.Need-returns
 returns c =
     let v = c .before .before in
     let s = S v in
-    queue-refused (s .args .p) (s .args .t) (now (s .args .a)) (s .args .class) (now (s .args .bytes)) _ (asked v) (not-passed _ _ _ (asked v) (c .before .number .ensures) (c .if1 .taken))
+    queue-refused (s .args .p) (s .args .t) (now (s .args .a)) (s .args .class) (s .args .label) (now (s .args .bytes)) _ (asked v) (not-passed _ _ _ (asked v) (c .before .number .ensures) (c .if1 .taken))
 
 enqueue-requires : tie.Need-enqueue-requires
 enqueue-requires c κs =
     let s = S (c .before .before .before) in
-    queue-fit (s .args .p) (s .args .t) (now (s .args .a)) (s .args .class) (now (s .args .bytes)) (arrays s) (accepted (c .before))
+    queue-fit (s .args .p) (s .args .t) (now (s .args .a)) (s .args .class) (s .args .label) (now (s .args .bytes)) (arrays s) (accepted (c .before))
 
 same-length-2 : tie.Need-same-length-2
 same-length-2 c = search needs
@@ -79,7 +81,7 @@ returns-2 : tie.Need-returns-2
 returns-2 c =
     let e = c .before .before .before .before in
     let s = S (e .before .before) in
-    queue-accepted (s .args .p) (s .args .t) (now (s .args .a)) (s .args .class) (now (s .args .bytes)) _ _ (asked (e .before .before)) (accepted e) (c .before .before .enqueue .ensures)
+    queue-accepted (s .args .p) (s .args .t) (now (s .args .a)) (s .args .class) (s .args .label) (now (s .args .bytes)) _ _ (asked (e .before .before)) (accepted e) (c .before .before .enqueue .ensures)
 
 pub queue-spec : {M : Type 1} → statement M
 queue-spec =

@@ -14,6 +14,9 @@ cast-number-2 c = search needs
 add-number : tie.Need-add-number
 add-number c = search needs
 
+add-number-2 : tie.Need-add-number-2
+add-number-2 c = search needs
+
 number-requires : tie.Need-number-requires
 number-requires c κs = search needs
 
@@ -58,6 +61,7 @@ tally-spec =
     cast-number
     cast-number-2
     add-number
+    add-number-2
     number-requires
     cast-number-3
     number-requires-2

@@ -21,6 +21,9 @@ number-requires c κs = search needs
 flag-requires : tie.Need-flag-requires
 flag-requires c κs = search needs
 
+cast-number : tie.Need-cast-number
+cast-number c = search needs
+
 number-requires-2 : tie.Need-number-requires-2
 number-requires-2 c κs = search needs
 
@@ -41,7 +44,7 @@ same-length c =
     let p6 = c .before .before in
     let p5 = p6 .before .before .before .before .before in
     let p4 = p5 .before .before .before .before .before in
-    let p3 = p4 .before .before .before .before in
+    let p3 = p4 .before .before .before .before .before in
     let p2 = p3 .before .before .before .before .before .before in
     let p1 = p2 .before .before .before .before in
     p6 .puts2 .kept .0 ∙ p5 .rows .kept .0 ∙ p4 .number2 .kept .0 ∙ p3 .flag .kept .0 ∙ p2 .number .kept .0 ∙ p1 .puts .kept .0
@@ -52,7 +55,7 @@ returns c =
     let p6 = c .before .before in
     let p5 = p6 .before .before .before .before .before in
     let p4 = p5 .before .before .before .before .before in
-    let p3 = p4 .before .before .before .before in
+    let p3 = p4 .before .before .before .before .before in
     let p2 = p3 .before .before .before .before .before .before in
     let p1 = p2 .before .before .before .before in
     let m = p1 .before .before .before .before .args .m in
@@ -68,6 +71,7 @@ messages-spec =
     puts-requires
     number-requires
     flag-requires
+    cast-number
     number-requires-2
     smaller-requires
     rows-requires
