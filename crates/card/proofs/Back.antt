@@ -25,7 +25,8 @@ unfolding num
 num-le8 v h =
     let w = v / 256 / 256 / 256 / 256 in
     let s : w < 4294967296 = omega arith in
-    ap (λ (x : ℕ). v % 256 + 256 * (v / 256 % 256 + 256 * (v / 256 / 256 % 256 + 256 * (v / 256 / 256 / 256 % 256 + 256 * x)))) (num-le4 w s) ∙ omega arith
+    ap (λ (x : ℕ). v % 256 + 256 * (v / 256 % 256 + 256 * (v / 256 / 256 % 256 + 256 * (v / 256 / 256 / 256 % 256 + 256 * x))))
+    (num-le4 w s) ∙ omega arith
 
 -- the number that was written after xs
 module _ (k : ℕ) (xs : List ℕ) (v : ℕ) (rest : List ℕ) where
@@ -34,18 +35,22 @@ module _ (k : ℕ) (xs : List ℕ) (v : ℕ) (rest : List ℕ) where
       ap (λ (l : List ℕ). num (take k l)) (drop-at xs (le k v ++ rest) i h) ∙ ap num (take-at (le k v) rest k (length-le k v)) ∙ e
 
 -- a row of them
-pub row-back : (k : ℕ) (vs xs rest : List ℕ) (i n : ℕ) → length xs ≡ i → length vs ≡ n → ((j : ℕ) → num (le k (getD vs j 0)) ≡ getD vs j 0)
+pub row-back : (k : ℕ) (vs xs rest : List ℕ) (i n : ℕ) → length xs ≡ i → length vs ≡ n →
+    ((j : ℕ) → num (le k (getD vs j 0)) ≡ getD vs j 0)
     → row k n (xs ++ (packed k vs ++ rest)) i ≡ vs
 unfolding row packed
 row-back k [] xs rest i zero h l e = refl
 row-back k [] xs rest i (suc n) h l e = absurd (omega arith)
 row-back k (v ∷ vs) xs rest i zero h l e = absurd (omega arith)
 row-back k (v ∷ vs) xs rest i (suc n) h l e =
-    let s : xs ++ ((le k v ++ packed k vs) ++ rest) ≡ xs ++ (le k v ++ (packed k vs ++ rest)) = ap (λ (r : List ℕ). xs ++ r) (append-assoc (le k v) (packed k vs) rest) in
-    let t : xs ++ (le k v ++ (packed k vs ++ rest)) ≡ (xs ++ le k v) ++ (packed k vs ++ rest) = sym (append-assoc xs (le k v) (packed k vs ++ rest)) in
+    let s : xs ++ ((le k v ++ packed k vs) ++ rest) ≡ xs ++ (le k v ++ (packed k vs ++ rest)) = ap (λ (r : List ℕ). xs ++ r)
+    (append-assoc (le k v) (packed k vs) rest) in
+    let t : xs ++ (le k v ++ (packed k vs ++ rest)) ≡ (xs ++ le k v) ++ (packed k vs ++ rest) = sym
+    (append-assoc xs (le k v) (packed k vs ++ rest)) in
     ap (λ (b : List ℕ). at k b i ∷ row k n b (i + k)) s
     ∙ (λ j. at-back k xs v (packed k vs ++ rest) i h (e 0) j
-    ∷ (ap (λ (b : List ℕ). row k n b (i + k)) t ∙ row-back k vs (xs ++ le k v) rest (i + k) n (length-append xs (le k v) ∙ (λ q. h q + length-le k v q)) (omega arith) (λ m. e (suc m))) j)
+    ∷ (ap (λ (b : List ℕ). row k n b (i + k)) t ∙ row-back k vs (xs ++ le k v) rest (i + k) n
+    (length-append xs (le k v) ∙ (λ q. h q + length-le k v q)) (omega arith) (λ m. e (suc m))) j)
 
 -- ---- floats
 

@@ -3,7 +3,7 @@ pub mod Groups
 pub mod Later
 pub mod Pack
 pub mod Puts
-pub mod Refused
+pub mod Refusals
 pub mod Round
 pub mod Row
 pub mod Sections

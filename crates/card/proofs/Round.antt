@@ -17,14 +17,15 @@ use Rattle.laws.proofs.Bytes.{part-in}
 use Rattle.laws.proofs.Span.{all-every}
 use Rattle.config.specs.declared.Profile.{Profile}
 use Rattle.config.specs.Ranges.{inRange, inOrder}
-use Rattle.card.specs.Card.{at, row, packed, bits32, bits64, bit, levelsOf, wavesOf, marksOf, thresholdsOf, doubles, wholes, singles}
+use Rattle.card.specs.Card.{at, row, packed, bits32, bits64, bit, levelsOf, wavesOf, marksOf, thresholdsOf, doubles, wholes}
+use Rattle.card.specs.Card.{singles}
 use Rattle.card.specs.Card.{smallsOf, places, optionsOf, cardOf, cardBytes, placeAt, flagAt, placeOk, airIn, marksIn, codesIn}
 use Rattle.card.specs.Card.{lengthsIn, holdsIn, profileIn, profileOf, versionBad, placesOk, fileRefusal, profileRefusal, readOf}
 use Rattle.card.specs.Card.{writeRefusal, writeOf}
 use Rattle.card.specs.Claims.{Typed, RoundTrip}
 use Rattle.card.proofs.Pack.{length-packed, row-long}
 use Rattle.card.proofs.Back.{num-le8}
-use Rattle.card.proofs.Refused.{read-good, write-good}
+use Rattle.card.proofs.Refusals.{read-good, write-good}
 use Rattle.card.proofs.Sections.{levels-back, waves-back, thresholds-back, options-back, card-long, card-counts, marks-long}
 use Rattle.card.proofs.Groups.{numbers-row, doubles-row, singles-row, slots-back, pre-back, rate-back, most-back, acks-back}
 use Rattle.card.proofs.Groups.{marks-row, margin-back}

@@ -14,7 +14,8 @@ use Rattle.laws.specs.Little.{num, le}
 use Rattle.laws.proofs.Tests.{all-none, all-more}
 use Rattle.config.specs.declared.Marks.{Marks}
 use Rattle.config.specs.declared.Profile.{Profile}
-use Rattle.card.specs.Card.{at, bits32, bits64, section, levelsOf, wavesOf, marksOf, thresholdsOf, doubles, wholes, singles, smallsOf}
+use Rattle.card.specs.Card.{at, bits32, bits64, section, levelsOf, wavesOf, marksOf, thresholdsOf, doubles, wholes, singles}
+use Rattle.card.specs.Card.{smallsOf}
 use Rattle.card.specs.Card.{places, optionsOf, cardOf, levelsIn, wavesIn, thresholdsIn, optionsIn, optionsOk, countsOk}
 use Rattle.card.specs.Claims.{TypedMarks, Typed}
 use Rattle.card.proofs.Pack.{length-packed, row-long}
@@ -99,14 +100,17 @@ module _ (p : Profile) (t : Typed p) where
 
   pub waves-back : wavesIn (cardOf p) ≡ wavesOf (p .air)
   unfolding cardOf
-  waves-back = section-at pre₂ (length (wavesOf (p .air))) (wavesOf (p .air) ++ (section (thresholdsOf p) ++ section (optionsOf p))) 411 long₂ 48 ∙ take-at (wavesOf (p .air)) _ 48 waves-long
+  waves-back = section-at pre₂ (length (wavesOf (p .air)))
+      (wavesOf (p .air) ++ (section (thresholdsOf p) ++ section (optionsOf p))) 411 long₂ 48 ∙ take-at (wavesOf (p .air)) _ 48 waves-long
 
   pub thresholds-back : thresholdsIn (cardOf p) ≡ thresholdsOf p
   thresholds-back =
-      ap thresholdsIn by₃ ∙ section-at pre₃ (length (thresholdsOf p)) (thresholdsOf p ++ section (optionsOf p)) 461 long₃ 144 ∙ take-at (thresholdsOf p) _ 144 thresholds-long
+      ap thresholdsIn by₃ ∙ section-at pre₃ (length (thresholdsOf p)) (thresholdsOf p ++ section (optionsOf p)) 461 long₃ 144 ∙ take-at
+      (thresholdsOf p) _ 144 thresholds-long
 
   pub options-back : optionsIn (cardOf p) ≡ optionsOf p
-  options-back = ap optionsIn by₄ ∙ section-at pre₄ (length (optionsOf p)) (optionsOf p) 607 long₄ 142 ∙ take-all 142 (optionsOf p) (omega (arith, options-long))
+  options-back = ap optionsIn by₄ ∙ section-at pre₄ (length (optionsOf p)) (optionsOf p) 607 long₄ 142 ∙ take-all 142 (optionsOf p)
+      (omega (arith, options-long))
 
   pub card-long : length (cardOf p) ≡ 751
   card-long = ap length by₄ ∙ length-append pre₄ (section (optionsOf p)) ∙ omega (arith, long₄, options-long)
@@ -118,7 +122,9 @@ module _ (p : Profile) (t : Typed p) where
 
   count₁ : at 2 (cardOf p) 1 ≡ 408
   unfolding cardOf num
-  count₁ = count-at (1 ∷ []) (length (levelsOf (p .air))) (levelsOf (p .air) ++ (section (wavesOf (p .air)) ++ (section (thresholdsOf p) ++ section (optionsOf p)))) 1 refl (spelled _ 408 levels-long refl) ∙ levels-long
+  count₁ = count-at (1 ∷ []) (length (levelsOf (p .air)))
+      (levelsOf (p .air) ++ (section (wavesOf (p .air)) ++ (section (thresholdsOf p) ++ section (optionsOf p)))) 1 refl
+      (spelled _ 408 levels-long refl) ∙ levels-long
 
   count₂ : at 2 (cardOf p) 411 ≡ 48
   unfolding cardOf num
@@ -126,11 +132,13 @@ module _ (p : Profile) (t : Typed p) where
 
   count₃ : at 2 (cardOf p) 461 ≡ 144
   unfolding num
-  count₃ = ap (λ (b : List ℕ). at 2 b 461) by₃ ∙ count-at pre₃ (length (thresholdsOf p)) _ 461 long₃ (spelled _ 144 thresholds-long refl) ∙ thresholds-long
+  count₃ = ap (λ (b : List ℕ). at 2 b 461) by₃ ∙ count-at pre₃ (length (thresholdsOf p)) _ 461 long₃
+      (spelled _ 144 thresholds-long refl) ∙ thresholds-long
 
   count₄ : at 2 (cardOf p) 607 ≡ 142
   unfolding num
-  count₄ = ap (λ (b : List ℕ). at 2 b 607) by₄ ∙ count-at pre₄ (length (optionsOf p)) _ 607 long₄ (spelled _ 142 options-long refl) ∙ options-long
+  count₄ = ap (λ (b : List ℕ). at 2 b 607) by₄ ∙ count-at pre₄ (length (optionsOf p)) _ 607 long₄ (spelled _ 142 options-long refl)
+      ∙ options-long
 
   version : getD (cardOf p) 0 0 ≡ 1
   unfolding cardOf
@@ -140,4 +148,5 @@ module _ (p : Profile) (t : Typed p) where
   unfolding countsOk
   card-counts =
       all-more _ _ (eq-eqb _ _ count₁) (all-more _ _ (eq-eqb _ _ count₂) (all-more _ _ (eq-eqb _ _ count₃)
-      (all-more _ _ (λ j. optionsOk (version j) (count₄ j)) (all-more _ _ (eq-eqb (length (cardOf p)) (609 + at 2 (cardOf p) 607) (omega (arith, card-long, count₄))) all-none))))
+      (all-more _ _ (λ j. optionsOk (version j) (count₄ j))
+      (all-more _ _ (eq-eqb (length (cardOf p)) (609 + at 2 (cardOf p) 607) (omega (arith, card-long, count₄))) all-none))))

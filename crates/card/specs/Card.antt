@@ -68,7 +68,8 @@ thresholdsOf p = marksOf (p .plain) ++ marksOf (p .eff)
 -- the options: eight doubles,
 unfoldable pub doubles : Profile → List Float
 doubles p =
-    p .air .«cue_s» ∷ p .lengths .«max_burst_s» ∷ p .lengths .«max_burst_long_s» ∷ p .lengths .«burst_overhead» ∷ p .lengths .«turnaround_s»
+    p .air .«cue_s» ∷ p .lengths .«max_burst_s» ∷ p .lengths .«max_burst_long_s» ∷ p .lengths .«burst_overhead»
+    ∷ p .lengths .«turnaround_s»
     ∷ p .«hold_times» .«fail_hold_s» ∷ p .«hold_times» .«fail_hold_max_s» ∷ p .«hold_times» .«loss_hold_s» ∷ []
 
 -- nine whole numbers,
@@ -86,13 +87,15 @@ smallsOf p = p .«max_level» ∷ p .«skip_slices_from» ∷ p .power ∷ le 8 
 -- fifteen places that are on or off, harq_stretch last
 unfoldable pub places : Profile → List Bool
 places p =
-    p .lengths .«burst_climb_db» .set ∷ p .«start_margin_db» .set ∷ p .«pin_level» .set ∷ p .lengths .«burst_adapt» ∷ p .«eff_snr» ∷ p .goodput
+    p .lengths .«burst_climb_db» .set ∷ p .«start_margin_db» .set ∷ p .«pin_level» .set ∷ p .lengths .«burst_adapt» ∷ p .«eff_snr»
+    ∷ p .goodput
     ∷ p .harq ∷ p .«pick_family» ∷ p .«smooth_target» ∷ p .«hold_by_goodput» ∷ p .«slice_slots» ∷ p .«merge_pieces» ∷ p .cue
     ∷ p .«harq_partial» ∷ p .«harq_stretch» ∷ []
 
 unfoldable pub optionsOf : Profile → List ℕ
 optionsOf p =
-    packed 8 (map bits64 (doubles p)) ++ (packed 4 (wholes p) ++ (packed 4 (map bits32 (singles p)) ++ (smallsOf p ++ map bit (places p))))
+    packed 8 (map bits64 (doubles p)) ++
+    (packed 4 (wholes p) ++ (packed 4 (map bits32 (singles p)) ++ (smallsOf p ++ map bit (places p))))
 
 -- ---- the file
 

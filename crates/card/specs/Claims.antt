@@ -17,7 +17,8 @@ use Rattle.card.specs.Card.{cardBytes, optionsBytes, countsOk, readOf, w
 abbrev pub madeOne : List ℕ → List ℕ
 madeOne b = 1 ∷ (part b 1 606 ++ (le 2 optionsBytes ++ part b 609 optionsBytes))
 
--- "A version 1 reader given a version from 2 to 15 .. gives exactly what it would of the same file made version 1". Claimed of a file whose
+-- "A version 1 reader given a version from 2 to 15 .. gives exactly what it would of the same file made version 1". Claimed of a file
+-- whose
 -- counts agree: another is refused by 14, its file made version 1 need not be (docs/DIFFERENCES.md)
 abbrev pub LaterVersions : Type 0
 LaterVersions = (b : List ℕ) (before : Profile) → 2 ≤ getD b 0 0 → getD b 0 0 ≤ 15 → countsOk b ≡ true
@@ -51,7 +52,8 @@ pub record Typed (p : Profile) : Type 0 where
   pub singles : Floats binary32 4 (singles p)
   pub pin : p .«pin_level» .level < 18446744073709551616
 
--- "Write, then read, gives the profile back": every profile of its types that is not refused, values beside an option that is off among them
+-- "Write, then read, gives the profile back": every profile of its types that is not refused, values beside an option that is off among
+-- them
 abbrev pub RoundTrip : Type 0
 RoundTrip = (p : Profile) (before : Profile) (out : List ℕ) → Typed p → writeOf p out .0 ≡ 0
     → readOf (take cardBytes (writeOf p out .1)) before ≡ (0, p)

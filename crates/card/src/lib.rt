@@ -18,25 +18,28 @@ pub struct Found {
     pub profile: Profile,
 }
 
+fn refused(refusal: u8, before: Profile) -> Found
+    ensures { λ r. ⌜ (r .refusal ≡ refusal) × (r .profile ≡ before) ⌝ }
+{
+    Found {
+        refusal,
+        profile: before,
+    }
+}
+
 // A profile out of a file. Refusals 13, 14, 1, 2.
 pub fn read(b: &[u8], before: Profile) -> Found
     ensures { λ r. ⌜ (r .refusal, r .profile) ≡ readOf (now (b .entry)) before ⌝ }
 {
     let file = reading::file_refusal(b);
     if file != 0 {
-        return Found {
-            refusal: file,
-            profile: before,
-        };
+        return refused(file, before);
     }
-    let os = &b[609..751];
+    let os = &b[609..CARD_BYTES];
     let p = reading::profile(&b[3..411], &b[413..461], &b[463..607], os);
     let refusal = reading::profile_refusal(os, p);
     if refusal != 0 {
-        return Found {
-            refusal,
-            profile: before,
-        };
+        return refused(refusal, before);
     }
     Found {
         refusal: 0,

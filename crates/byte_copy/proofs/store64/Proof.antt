@@ -31,7 +31,8 @@ same-length c = search needs
 returns : tie.Need-returns
 returns c =
     let s = c .before .before .before .before .before .before .before .before .before in
-    c .before .before .store322 .ensures ∙ ap (λ (l : List ℕ). overwrite l (s .args .at + 4) (le 4 (s .args .v / 4294967296))) (c .before .before .before .before .before .before .store32 .ensures) ∙ store8 (now (s .args .a)) (s .args .at) (s .args .v)
+    c .before .before .store322 .ensures ∙ ap (λ (l : List ℕ). overwrite l (s .args .at + 4) (le 4 (s .args .v / 4294967296)))
+    (c .before .before .before .before .before .before .store32 .ensures) ∙ store8 (now (s .args .a)) (s .args .at) (s .args .v)
 
 pub store64-spec : {M : Type 1} → statement M
 store64-spec =

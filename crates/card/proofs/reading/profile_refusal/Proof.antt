@@ -20,18 +20,37 @@ in-range-requires c κs = search needs
 
 returns-2 : tie.Need-returns-2
 unfolding profileRefusal
-returns-2 c = rw (told-yes _ _ (c .before .before .before .places-ok .ensures) (not-false _ (c .before .before .if1 .left)), told-no _ _ (c .before .in-range .ensures) (not-true _ (c .if2 .taken))) refl
+returns-2 c =
+    rw (
+      told-yes _ _ (c .before .before .before .places-ok .ensures) (not-false _ (c .before .before .if1 .left)),
+      told-no _ _
+          (c .before .in-range .ensures) (not-true _ (c .if2 .taken)),
+    ) refl
 
 in-order-requires : tie.Need-in-order-requires
 in-order-requires c κs = search needs
 
 returns-3 : tie.Need-returns-3
 unfolding profileRefusal inOrder
-returns-3 c = rw (told-yes _ _ (c .before .before .before .before .before .places-ok .ensures) (not-false _ (c .before .before .before .before .if1 .left)), told-yes _ _ (c .before .before .before .in-range .ensures) (not-false _ (c .before .before .if2 .left)), told-no _ _ (c .before .in-order .ensures) (not-true _ (c .if3 .taken))) refl
+returns-3 c =
+    rw (
+      told-yes _ _ (c .before .before .before .before .before .places-ok .ensures)
+          (not-false _ (c .before .before .before .before .if1 .left)),
+      told-yes _ _ (c .before .before .before .in-range .ensures)
+          (not-false _ (c .before .before .if2 .left)),
+      told-no _ _ (c .before .in-order .ensures) (not-true _ (c .if3 .taken)),
+    ) refl
 
 returns-4 : tie.Need-returns-4
 unfolding profileRefusal inOrder
-returns-4 c = rw (told-yes _ _ (c .before .before .before .before .before .places-ok .ensures) (not-false _ (c .before .before .before .before .if1 .left)), told-yes _ _ (c .before .before .before .in-range .ensures) (not-false _ (c .before .before .if2 .left)), told-yes _ _ (c .before .in-order .ensures) (not-false _ (c .if3 .left))) refl
+returns-4 c =
+    rw (
+      told-yes _ _ (c .before .before .before .before .before .places-ok .ensures)
+          (not-false _ (c .before .before .before .before .if1 .left)),
+      told-yes _ _ (c .before .before .before .in-range .ensures)
+          (not-false _ (c .before .before .if2 .left)),
+      told-yes _ _ (c .before .in-order .ensures) (not-false _ (c .if3 .left)),
+    ) refl
 
 pub profile-refusal-spec : {M : Type 1} → statement M
 profile-refusal-spec =

@@ -29,10 +29,14 @@ same-length c = search needs
 returns : tie.Need-returns
 unfolding optionsOf wholes
 returns c =
-    counted _ _ _ _ _ 142 (c .before .before .before .before .before .before .before .before .before .before .before .before .before .before .before .before .before .before .before .before .before .before .store16 .ensures)
-    (joins _ _ _ _ _ _ 64 78 (c .before .before .before .before .before .before .before .before .before .before .before .before .before .before .before .before .before .before .put-doubles .ensures)
-    (joins _ _ _ _ _ _ 36 42 (c .before .before .before .before .before .before .before .before .before .before .before .before .before .before .put-wholes .ensures)
-    (joins _ _ _ _ _ _ 16 26 (c .before .before .before .before .before .before .before .before .before .before .put-singles .ensures) (joins _ _ _ _ _ _ 11 15 (c .before .before .before .before .before .before .put-smalls .ensures) (c .before .before .put-places .ensures)))))
+    let c6 = c .before .before .before .before .before .before in
+    let c12 = c6 .before .before .before .before .before .before in
+    let c18 = c12 .before .before .before .before .before .before in
+    counted _ _ _ _ _ 142 (c18 .before .before .before .before .store16 .ensures)
+    (joins _ _ _ _ _ _ 64 78 (c18 .put-doubles .ensures)
+    (joins _ _ _ _ _ _ 36 42 (c12 .before .before .put-wholes .ensures)
+    (joins _ _ _ _ _ _ 16 26 (c6 .before .before .before .before .put-singles .ensures)
+    (joins _ _ _ _ _ _ 11 15 (c6 .put-smalls .ensures) (c .before .before .put-places .ensures)))))
 
 pub put-options-spec : {M : Type 1} → statement M
 put-options-spec =

@@ -13,7 +13,8 @@ use Rattle.laws.proofs.Tests.{all-at}
 use Rattle.laws.proofs.Picks.{test}
 use Rattle.config.specs.declared.Profile.{Profile}
 use Rattle.config.specs.Ranges.{inRange, inOrder}
-use Rattle.card.specs.Card.{at, versionBad, optionsOk, countsOk, fileRefusal, profileRefusal, readRefusal, readOf, optionsIn, profileOf, cardOf, writeRefusal, writeOf}
+use Rattle.card.specs.Card.{at, versionBad, optionsOk, countsOk, fileRefusal, profileRefusal, readRefusal, readOf, optionsIn}
+use Rattle.card.specs.Card.{profileOf, cardOf, writeRefusal, writeOf}
 
 -- ---- the version
 
@@ -50,7 +51,8 @@ pub read-file : (b : List ℕ) (before : Profile) (r : ℕ) → r ≡ fileRefusa
 unfolding readRefusal readOf
 read-file b before r e n = rw (← e) (rw (ne-eqb r 0 n) (rw (ne-eqb r 0 n) refl))
 
-module _ (b : List ℕ) (before : Profile) (f r : ℕ) (file : f ≡ fileRefusal b) (good : f ≡ 0) (e : r ≡ profileRefusal (optionsIn b) (profileOf b)) where
+module _ (b : List ℕ) (before : Profile) (f r : ℕ) (file : f ≡ fileRefusal b) (good : f ≡ 0)
+    (e : r ≡ profileRefusal (optionsIn b) (profileOf b)) where
   whole : readRefusal b ≡ r
   unfolding readRefusal
   whole = rw (← file, eq-eqb f 0 good) (sym e)
