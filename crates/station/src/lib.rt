@@ -38,10 +38,10 @@ fn keep(t: &mut Station, refusal: u8, next: Station)
 }
 
 // Stores the profile that was read, unless a number refuses its file: then nothing is written.
-fn keep_profile(p: &mut Profile, refusal: u8, read: Profile)
-    ensures { λ _. ⌜ now (p .exit) ≡ kept (now (p .entry)) refusal read ⌝ }
+fn keep_profile(p: &mut Profile, number: u8, read: Profile)
+    ensures { λ _. ⌜ now (p .exit) ≡ kept (now (p .entry)) number read ⌝ }
 {
-    if refusal == 0 {
+    if number == 0 {
         *p = read;
     }
 }
