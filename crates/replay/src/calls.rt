@@ -145,7 +145,13 @@ pub(crate) fn levels(line: &[u8], r: Read, run: Run, p: Profile, t: &mut [u8]) -
     levels_call(q, p, run, t)
 }
 
-// The profile as a file, in the output.
+// The profile as a file, in so much of the output.
+fn carded(p: Profile, most: usize, out: &mut [u8]) -> u8 {
+    let lent = least(most, out);
+    card::write(p, &mut out[..lent])
+}
+
+// The answer; the file stands in the output.
 fn card_text(t: &mut [u8], n: usize, refusal: u8, out: &[u8]) -> usize {
     if refusal != 0 {
         return transcript::answer(t, n, b"card", refusal);
@@ -159,8 +165,7 @@ pub(crate) fn card(line: &[u8], r: Read, run: Run, p: Profile, t: &mut [u8]) -> 
         return failed(run);
     }
     let mut out = [0u8; OUT_BYTES];
-    let lent = least(run.out, &out);
-    let refusal = card::write(p, &mut out[..lent]);
+    let refusal = carded(p, run.out, &mut out);
     let n = card_text(t, run.text, refusal, &out);
     with_text(run, n)
 }
@@ -179,10 +184,11 @@ pub(crate) fn card_in(line: &[u8], before: Profile) -> LoadLine {
     let file = hex(line, r, &mut bytes);
     let len = least(file.value as usize, &bytes);
     let found = card::read(&bytes[..len], before);
+    let profile = found.profile;
     LoadLine {
         ok: done(line, file),
         refusal: found.refusal,
-        profile: found.profile,
+        profile,
     }
 }
 

@@ -129,6 +129,12 @@ fn is_load(line: &[u8], run: Run) -> bool {
     (run.stage >= LINES) & r.ok
 }
 
+// The file was taken.
+fn loaded(run: Run, area: &mut [u8], t: &mut [u8]) -> Run {
+    let n = transcript::answer(t, run.text, b"load", 0);
+    with_text(start(run, area), n)
+}
+
 // `load`: where the file is taken, the sender before it ends, and a fresh one starts under the profile read.
 fn load(line: &[u8], run: Run, p: Profile, s: Station, area: &mut [u8], t: &mut [u8]) -> Step {
     let q = calls::card_in(line, p);
@@ -148,11 +154,11 @@ fn load(line: &[u8], run: Run, p: Profile, s: Station, area: &mut [u8], t: &mut 
             s,
         };
     }
-    let run = start(begin(run, s.sender.counts, t), area);
-    let n = transcript::answer(t, run.text, b"load", 0);
+    let run = begin(run, s.sender.counts, t);
+    let p = q.profile;
     Step {
-        run: with_text(run, n),
-        p: q.profile,
+        run: loaded(run, area, t),
+        p,
         s: fresh(),
     }
 }
