@@ -284,6 +284,8 @@ def show(program, count, seed):
         b = bytearray(file_of(next(good)))
         for _ in range(r.randint(0, 2)):
             b[r.choice([0, 1, 607, 608, r.randrange(609), 609 + r.randrange(142), 736 + r.randrange(15)])] = r.randrange(256)
+        if r.random() < 0.2:
+            b[673:681] = struct.pack('<II', r.randint(18, 512), r.randint(18, 512))
         b = bytes(b[:r.choice([751, 751, 751, 751, 750, 0])])
         refusal = read(b)[0]
         with tempfile.NamedTemporaryFile() as f:
