@@ -1,4 +1,4 @@
-/* The sender of an HF station: six calls over one record and one work area, a lookup, the link log, and the levels within reach.
+/* The sender of an HF station: six calls over one record and one work area, a lookup, the link log, the levels within reach, and profiles as files.
  *
  * Link with libstation.a (`rt staticlib station`). A sender is a struct vanitycrow_station and a work area of VANITYCROW_AREA_BYTES
  * bytes, all zero at first; vanitycrow_fresh makes the record. Each call changes both, and nothing else may. One profile serves a sender
@@ -18,9 +18,9 @@ extern "C" {
 #endif
 
 /* The version of this interface (CHANGELOG.md). */
-#define VANITYCROW_VERSION "0.8.0"
+#define VANITYCROW_VERSION "0.9.0"
 #define VANITYCROW_VERSION_MAJOR 0
-#define VANITYCROW_VERSION_MINOR 8
+#define VANITYCROW_VERSION_MINOR 9
 #define VANITYCROW_VERSION_PATCH 0
 
 #define VANITYCROW_AREA_BYTES 49152
@@ -31,6 +31,7 @@ extern "C" {
 #define VANITYCROW_MAX_MESSAGES 256 /* messages that may wait */
 #define VANITYCROW_MAX_CLASS 3 /* classes of messages: VANITYCROW_FLASH to VANITYCROW_ROUTINE */
 #define VANITYCROW_ADIF_BYTES 256 /* least output of a link log */
+#define VANITYCROW_CARD_BYTES 751 /* a profile as a file of version 1 (docs/CARD.md) */
 #define VANITYCROW_LAST_SECOND 4102444799u /* since 1970: the end of 2099 */
 
 /* What a call answers. */
@@ -48,6 +49,8 @@ enum {
     VANITYCROW_SHORT_OUTPUT = 10,        /* the output is shorter than VANITYCROW_MAX_SLOTS long frames */
     VANITYCROW_BAD_CLASS = 11,           /* a message's class is above VANITYCROW_MAX_CLASS */
     VANITYCROW_TOO_MANY_MESSAGES = 12,   /* more than VANITYCROW_MAX_MESSAGES messages would wait */
+    VANITYCROW_BAD_VERSION = 13,         /* a profile's file has a version byte of 0 or above 15 */
+    VANITYCROW_BAD_CARD = 14,            /* it is empty, or a count doesn't agree with version or length; written: the output is under VANITYCROW_CARD_BYTES */
     VANITYCROW_BAD_RANGE = 19,           /* the lowest report is above the highest */
     VANITYCROW_BAD_CALL_SIGN = 20,       /* not 1 to 12 capitals, digits and slashes */
     VANITYCROW_BAD_LINK_TIME = 21,       /* past VANITYCROW_LAST_SECOND, or the end before the start */
@@ -341,6 +344,13 @@ struct vanitycrow_logged vanitycrow_adif(const uint8_t *call, size_t call_len, u
 /* The levels that a sender under this profile can choose for a report known only within a range: report q is q - 24 dB, low and high are
  * its lowest and highest value, class_ is the channel's class as reported. Needs no sender. Refusals 1 2 19. */
 struct vanitycrow_listing vanitycrow_levels(const struct vanitycrow_profile *p, struct vanitycrow_class class_, uint8_t low, uint8_t high);
+
+/* The profile as a file of VANITYCROW_CARD_BYTES bytes at the start of out; what lies past them keeps its bytes. Refusals 1 2 14. */
+uint8_t vanitycrow_write_profile(const struct vanitycrow_profile *p, uint8_t *out, size_t n);
+
+/* The profile of a file of n bytes, into *p. Of a file of version 2 to 15, what its version adds is passed over. Where the file is refused, *p keeps every
+ * byte. Refusals 13 14 1 2, in this order; 1 also where a place that is on or off is neither. */
+uint8_t vanitycrow_read_profile(const uint8_t *file, size_t n, struct vanitycrow_profile *p);
 
 #ifdef __cplusplus
 }

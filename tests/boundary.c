@@ -26,6 +26,20 @@ static void record_bools(const char *what, const struct vanitycrow_station *t) {
     bools(what, s->gear.holds.hold_all, VANITYCROW_LEVELS);
 }
 
+/* Of a card, over a profile of bytes 255. */
+static void read_bools(void) {
+    struct vanitycrow_profile p;
+    uint8_t file[VANITYCROW_CARD_BYTES];
+    const bool *single[] = {
+        &p.lengths.burst_adapt, &p.lengths.burst_climb_db.set, &p.eff_snr, &p.start_margin_db.set, &p.pin_level.set, &p.goodput, &p.harq, &p.pick_family,
+        &p.smooth_target, &p.hold_by_goodput, &p.slice_slots, &p.harq_stretch, &p.merge_pieces, &p.cue, &p.harq_partial,
+    };
+    same("a card", vanitycrow_write_profile(&open_one.p, file, sizeof file), 0);
+    memset(&p, 0xFF, sizeof p);
+    same("a card read", vanitycrow_read_profile(file, sizeof file, &p), 0);
+    for (size_t i = 0; i < sizeof single / sizeof *single; i++) bools("a card's places", single[i], 1);
+}
+
 static void written_bools(void) {
     struct vanitycrow_station t;
     memset(&t, 0xFF, sizeof t);
@@ -73,6 +87,8 @@ static void no_memory(void) {
     same("a burst into an empty output", vanitycrow_data_burst(&t->p, &t->record, t->area, n, t->out, 0).refusal, 10);
     same("a link log of no call sign", vanitycrow_adif(NULL, 0, 0, 0, 0, t->out, OUT_BYTES).refusal, 20);
     same("a link log into nothing", vanitycrow_adif((const uint8_t *)"A", 1, 0, 0, 0, NULL, 0).refusal, 22);
+    same("a card into nothing", vanitycrow_write_profile(&t->p, NULL, 0), 14);
+    same("a card of nothing", vanitycrow_read_profile(NULL, 0, &t->p), 14);
 }
 
 int main(void) {
@@ -81,6 +97,7 @@ int main(void) {
         return 1;
     }
     written_bools();
+    read_bools();
     no_memory();
     printf("%u checks, %u failed\n", checks, failures);
     return failures != 0;

@@ -79,11 +79,14 @@ static void check_fields(const struct field *f, size_t n, uint8_t number, check_
 
 /* ---- the profile: refusals 1 and 2 */
 
-/* All calls, of a sender that is not connected and of one that is; and the levels within reach, of a range and of none. */
+/* All calls, of a sender that is not connected and of one that is; the levels within reach, of a range and of none; and a card, into an output
+ * that is long enough and into one that is not. */
 static void profile_check(const char *what, uint8_t number) {
     struct vanitycrow_profile p = subject.p;
     expect_levels(what, &subject, 0, 255, number);
     expect_levels(what, &subject, 255, 0, number ? number : 19);
+    expect_card(what, &subject, VANITYCROW_CARD_BYTES, number);
+    expect_card(what, &subject, VANITYCROW_CARD_BYTES - 1, number ? number : 14);
     memcpy(&subject, &fresh_one, sizeof subject);
     subject.p = p;
     expect_all(what, &subject, &given, number);

@@ -117,6 +117,17 @@ static inline void expect_levels(const char *what, const struct station *t, uint
     failures++;
 }
 
+/* Writes the profile as a file into so much output, over a copy: no byte past the file may change, and none where it is refused. */
+static inline void expect_card(const char *what, const struct station *t, size_t room, uint8_t number) {
+    memcpy(&tried, t, sizeof tried);
+    uint8_t got = vanitycrow_write_profile(&tried.p, tried.out, room);
+    checks++;
+    if (got == 0) memcpy(tried.out, t->out, VANITYCROW_CARD_BYTES);
+    if (got == number && memcmp(t, &tried, sizeof tried) == 0) return;
+    printf("fields: %s: a card into %zu bytes: %u, not %u, or bytes changed\n", what, room, (unsigned)got, (unsigned)number);
+    failures++;
+}
+
 /* Makes all seven calls; where they are not refused by `number`, those out of turn are by 4. */
 static void expect_all(const char *what, const struct station *t, const struct arguments *g, uint8_t number) {
     for (int c = 0; c < CALLS; c++) {

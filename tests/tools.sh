@@ -151,8 +151,11 @@ printf 'pub demand3 : Unit\ndemand3 = tt\n' >"$small/crates/demand/proofs/Theore
 printf 'pub single-class : Unit\nsingle-class = tt\n' >"$small/crates/demand/proofs/Single.antt"
 printf 'pub in-binary32 : Unit\nin-binary32 = tt\n\npub in-binary64 : Unit\nin-binary64 = tt\n\npub in-conversions : Unit\nin-conversions = tt\n' \
     >"$small/crates/rounding/proofs/Theorem.antt"
-mkdir -p "$small/crates/verdicts/proofs" "$small/crates/calendar/proofs" "$small/crates/adif/proofs" "$small/crates/reachable/proofs" "$small/crates/far_station/proofs"
+mkdir -p "$small/crates/verdicts/proofs" "$small/crates/calendar/proofs" "$small/crates/adif/proofs" "$small/crates/reachable/proofs" "$small/crates/far_station/proofs" \
+    "$small/crates/card/proofs"
 printf 'pub cannot-force : Unit\ncannot-force = tt\n' >"$small/crates/far_station/proofs/Theorem.antt"
+printf 'pub round-trip : Unit\nround-trip = tt\n' >"$small/crates/card/proofs/Round.antt"
+printf 'pub later-versions : Unit\nlater-versions = tt\n' >"$small/crates/card/proofs/Later.antt"
 printf 'pub lists : Unit\nlists = tt\n' >"$small/crates/reachable/proofs/Laws.antt"
 printf 'pub by-claim : Unit\nby-claim = tt\n\npub under-claim : Unit\nunder-claim = tt\n\npub agree : Unit\nagree = tt\n' >"$small/crates/reachable/proofs/Answers.antt"
 for law in queue reply burst lookup; do

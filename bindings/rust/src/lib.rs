@@ -20,6 +20,8 @@ pub const MAX_SLOTS: usize = 64;
 pub const MAX_MESSAGES: usize = 256;
 /// Least output of a link log.
 pub const ADIF_BYTES: usize = 256;
+/// Bytes of a profile as a file of version 1.
+pub const CARD_BYTES: usize = 751;
 /// The end of 2099, in seconds since 1970: a link log knows no later time.
 pub const LAST_SECOND: u64 = 4_102_444_799;
 
@@ -38,6 +40,8 @@ pub enum Refusal {
     ShortOutput = 10,
     BadClass = 11,
     TooManyMessages = 12,
+    BadVersion = 13,
+    BadCard = 14,
     BadRange = 19,
     BadCallSign = 20,
     BadLinkTime = 21,
@@ -67,6 +71,8 @@ fn told(number: u8) -> Result<(), Refusal> {
         10 => Err(ShortOutput),
         11 => Err(BadClass),
         12 => Err(TooManyMessages),
+        13 => Err(BadVersion),
+        14 => Err(BadCard),
         19 => Err(BadRange),
         20 => Err(BadCallSign),
         21 => Err(BadLinkTime),
@@ -95,6 +101,23 @@ pub fn levels(profile: &Profile, class: ChanClass, low: u8, high: u8) -> Result<
     // SAFETY: the pointer is that of a live borrow, and nothing is written.
     let listing = unsafe { raw::vanitycrow_levels(profile, class, low, high) };
     told(listing.refusal).map(|()| listing)
+}
+
+impl Profile {
+    /// The profile as a file, to carry to another station (docs/CARD.md).
+    pub fn to_card(&self) -> Result<[u8; CARD_BYTES], Refusal> {
+        let mut file = [0; CARD_BYTES];
+        // SAFETY: pointers and lengths are those of live borrows that don't overlap.
+        told(unsafe { raw::vanitycrow_write_profile(self, file.as_mut_ptr(), file.len()) }).map(|()| file)
+    }
+
+    /// The profile of a file. Of a file of version 2 to 15, what its version adds is passed over.
+    pub fn from_card(file: &[u8]) -> Result<Profile, Refusal> {
+        // SAFETY: all zeros is a value of Profile, which has only numbers, bools and arrays of them.
+        let mut profile = unsafe { std::mem::zeroed() };
+        // SAFETY: pointers and lengths are those of live borrows that don't overlap.
+        told(unsafe { raw::vanitycrow_read_profile(file.as_ptr(), file.len(), &mut profile) }).map(|()| profile)
+    }
 }
 
 /// The four classes. A message once begun is finished; then the lowest class waiting goes, the earliest of it first.

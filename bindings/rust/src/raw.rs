@@ -170,4 +170,6 @@ extern "C" {
     pub fn vanitycrow_find(p: *const Profile, t: *const Station, a: *const u8, a_len: usize, off: u32) -> Place;
     pub fn vanitycrow_adif(call: *const u8, call_len: usize, on: u64, off: u64, acked: u32, out: *mut u8, n: usize) -> Logged;
     pub fn vanitycrow_levels(p: *const Profile, class: ChanClass, low: u8, high: u8) -> Listing;
+    pub fn vanitycrow_write_profile(p: *const Profile, out: *mut u8, n: usize) -> u8;
+    pub fn vanitycrow_read_profile(file: *const u8, n: usize, p: *mut Profile) -> u8;
 }

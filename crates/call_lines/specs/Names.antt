@@ -28,4 +28,4 @@ unfoldable pub callOf : List ℕ → Named
 callOf chars =
     orCalls (asking chars) chars
     ((text "burst", 6) ∷ (text "piece", 7) ∷ (text "log", 8) ∷ (text "state", 9) ∷ (text "area", 10) ∷ (text "out", 11)
-    ∷ (text "levels", 12) ∷ (text "messages", 13) ∷ [])
+    ∷ (text "levels", 12) ∷ (text "messages", 13) ∷ (text "card", 14) ∷ [])

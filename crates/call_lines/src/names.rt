@@ -33,6 +33,8 @@ pub const LEVELS: u8 = 12;
 
 pub const MESSAGES: u8 = 13;
 
+pub const CARD: u8 = 14;
+
 // A line's call, and how far the line was read.
 pub struct Named {
     pub call: u8,
@@ -90,5 +92,6 @@ pub fn call_of(line: &[u8]) -> Named
     let n = or(n, line, b"area", AREA);
     let n = or(n, line, b"out", OUT);
     let n = or(n, line, b"levels", LEVELS);
-    or(n, line, b"messages", MESSAGES)
+    let n = or(n, line, b"messages", MESSAGES);
+    or(n, line, b"card", CARD)
 }

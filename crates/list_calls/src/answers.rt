@@ -6,7 +6,6 @@ use call_lines::names::Named;
 use call_lines::names::PIECE;
 use config::Profile;
 use numbered::Burst;
-use profile_table::profile_of;
 use queuing::Station;
 use words::Read;
 use words::done;
@@ -14,7 +13,6 @@ use words::whole;
 ghost use mathlib.Core.Path.{_≡_};
 ghost use mathlib.Core.Bool.{false};
 ghost use Rattle.text.specs.Buffer.{appended};
-ghost use Rattle.profile_table.specs.Table.{profileOf};
 ghost use Rattle.list_calls.specs.Answers.{said, frameSize, burstText, burstSaid, pieceText, pieceSaid, answered, askSaid, saidOf};
 
 // What a line left: whether it was right, what is used of the transcript's buffer, and the record.
@@ -149,11 +147,11 @@ fn asked(
     }
 }
 
-// A burst, the question for a piece, a queuing or a reply, under the profile of a table.
+// A burst, the question for a piece, a queuing or a reply.
 pub fn say(
     call: Named,
     line: &[u8],
-    v: &[u64; 147],
+    p: Profile,
     s: Station,
     area: &mut [u8],
     out: &mut [u8],
@@ -161,9 +159,8 @@ pub fn say(
     n: usize,
 ) -> Said
     ensures { λ q. ⌜ (q, (now (area .exit), (now (out .exit), now (t .exit))))
-        ≡ saidOf (profileOf (now (v .entry))) s (now (area .entry)) (now (out .entry)) (now (line .entry)) call (n, now (t .entry)) ⌝ }
+        ≡ saidOf p s (now (area .entry)) (now (out .entry)) (now (line .entry)) call (n, now (t .entry)) ⌝ }
 {
-    let p = profile_of(v);
     if call.call == BURST {
         return burst(line, call.read, p, s, area, out, t, n);
     }

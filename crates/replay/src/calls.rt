@@ -11,6 +11,7 @@ use call_lines::names::LOG;
 use call_lines::names::Named;
 use call_lines::names::OUT;
 use call_lines::range_words;
+use card::CARD_BYTES;
 use config::Profile;
 use list_calls::answers::say;
 use messages::Messages;
@@ -20,7 +21,9 @@ use words::Input;
 use words::Number;
 use words::Read;
 use words::done;
+use words::hex;
 use words::whole;
+use words::word;
 
 // Bytes that a line can have as HEX: its 65,536 characters have no more pairs.
 const BYTES: usize = 32768;
@@ -36,9 +39,10 @@ pub struct Run {
     pub text: usize,
 }
 
-// The run and its record.
+// The run, the profile and the record.
 pub struct Step {
     pub run: Run,
+    pub p: Profile,
     pub s: Station,
 }
 
@@ -64,10 +68,10 @@ pub(crate) fn asked(
     n: Named,
     line: &[u8],
     run: Run,
+    p: Profile,
     s: Station,
     area: &mut [u8],
     t: &mut [u8],
-    v: &[u64; 147],
 ) -> Step {
     let mut out = [0u8; OUT_BYTES];
     let lent = least(run.area, area);
@@ -75,7 +79,7 @@ pub(crate) fn asked(
     let q = say(
         n,
         line,
-        v,
+        p,
         s,
         &mut area[..lent],
         &mut out[..most],
@@ -84,7 +88,7 @@ pub(crate) fn asked(
     );
     let run = left(run, q.ok, q.text);
     let s = q.next;
-    Step { run, s }
+    Step { run, p, s }
 }
 
 // The answer to a link's line; its record stands in the output.
@@ -138,6 +142,53 @@ pub(crate) fn levels(line: &[u8], r: Read, run: Run, p: Profile, t: &mut [u8]) -
         return failed(run);
     }
     levels_call(q, p, run, t)
+}
+
+// The profile as a file, in so much of the output.
+fn carded(p: Profile, most: usize, out: &mut [u8]) -> u8 {
+    let lent = least(most, out);
+    card::write(p, &mut out[..lent])
+}
+
+// The answer; the file stands in the output.
+fn card_text(t: &mut [u8], n: usize, refusal: u8, out: &[u8]) -> usize {
+    if refusal != 0 {
+        return transcript::answer(t, n, b"card", refusal);
+    }
+    let len = least(CARD_BYTES, out);
+    transcript::card(t, n, &out[..len])
+}
+
+pub(crate) fn card(line: &[u8], r: Read, run: Run, p: Profile, t: &mut [u8]) -> Run {
+    if !done(line, r) {
+        return failed(run);
+    }
+    let mut out = [0u8; OUT_BYTES];
+    let refusal = carded(p, run.out, &mut out);
+    let n = card_text(t, run.text, refusal, &out);
+    with_text(run, n)
+}
+
+// A line that hands in a file: whether it was right, and what reading the file gives.
+pub struct LoadLine {
+    pub ok: bool,
+    pub refusal: u8,
+    pub profile: Profile,
+}
+
+// The line begins with `load`.
+pub(crate) fn card_in(line: &[u8], before: Profile) -> LoadLine {
+    let mut bytes = [0u8; BYTES];
+    let r = word(line, b"load");
+    let file = hex(line, r, &mut bytes);
+    let len = least(file.value as usize, &bytes);
+    let found = card::read(&bytes[..len], before);
+    let profile = found.profile;
+    LoadLine {
+        ok: done(line, file),
+        refusal: found.refusal,
+        profile,
+    }
 }
 
 // usual: the profile's max_burst_s.

@@ -6,6 +6,7 @@ mod input;
 use buffer::flush;
 use buffer::room;
 use byte_copy::least;
+use call_lines::names::CARD;
 use call_lines::names::LEVELS;
 use call_lines::names::MESSAGES;
 use call_lines::names::NO_CALL;
@@ -17,6 +18,7 @@ use calls::Run;
 use calls::Step;
 use calls::failed;
 use calls::with_text;
+use config::Profile;
 use input::next_line;
 use limits::AREA_BYTES;
 use profile_table::LINES;
@@ -81,35 +83,30 @@ fn profile_step(line: &[u8], run: Run, area: &mut [u8], v: &mut [u64; 147]) -> R
 }
 
 // What changes neither the record nor the work area.
-fn look(
-    n: Named,
-    line: &[u8],
-    run: Run,
-    s: Station,
-    area: &[u8],
-    t: &mut [u8],
-    v: &[u64; 147],
-) -> Run {
+fn look(n: Named, line: &[u8], run: Run, p: Profile, s: Station, area: &[u8], t: &mut [u8]) -> Run {
     if n.call == STATE {
-        let usual = profile_of(v).lengths.max_burst_s;
+        let usual = p.lengths.max_burst_s;
         return calls::show(line, n.read, run, usual, s, area, t);
     }
     if n.call == MESSAGES {
         return calls::list(line, n.read, run, s.messages, t);
     }
     if n.call == LEVELS {
-        return calls::levels(line, n.read, run, profile_of(v), t);
+        return calls::levels(line, n.read, run, p, t);
+    }
+    if n.call == CARD {
+        return calls::card(line, n.read, run, p, t);
     }
     calls::aside(n, line, run, t)
 }
 
-fn call(line: &[u8], run: Run, s: Station, area: &mut [u8], t: &mut [u8], v: &[u64; 147]) -> Step {
+fn call(line: &[u8], run: Run, p: Profile, s: Station, area: &mut [u8], t: &mut [u8]) -> Step {
     let n = call_of(line);
     if (n.call == NO_CALL) | (n.call > PIECE) {
-        let run = look(n, line, run, s, area, t, v);
-        return Step { run, s };
+        let run = look(n, line, run, p, s, area, t);
+        return Step { run, p, s };
     }
-    calls::asked(n, line, run, s, area, t, v)
+    calls::asked(n, line, run, p, s, area, t)
 }
 
 // A remark, or an empty line.
@@ -124,6 +121,46 @@ fn passed_over(line: &[u8]) -> bool {
 fn is_call(line: &[u8], run: Run) -> bool {
     let r = word(line, b"profile");
     (run.stage == LINES) & !passed_over(line) & !done(line, r)
+}
+
+// Whether a line hands in a profile's file: between profiles.
+fn is_load(line: &[u8], run: Run) -> bool {
+    let r = word(line, b"load");
+    (run.stage >= LINES) & r.ok
+}
+
+// The file was taken.
+fn loaded(run: Run, area: &mut [u8], t: &mut [u8]) -> Run {
+    let n = transcript::answer(t, run.text, b"load", 0);
+    with_text(start(run, area), n)
+}
+
+// `load`: where the file is taken, the sender before it ends, and a fresh one starts under the profile read.
+fn load(line: &[u8], run: Run, p: Profile, s: Station, area: &mut [u8], t: &mut [u8]) -> Step {
+    let q = calls::card_in(line, p);
+    if !q.ok {
+        return Step {
+            run: failed(run),
+            p,
+            s,
+        };
+    }
+    let refusal = q.refusal;
+    if refusal != 0 {
+        let n = transcript::answer(t, run.text, b"load", refusal);
+        return Step {
+            run: with_text(run, n),
+            p,
+            s,
+        };
+    }
+    let run = begin(run, s.sender.counts, s.messages.withdrawn, t);
+    let p = q.profile;
+    Step {
+        run: loaded(run, area, t),
+        p,
+        s: fresh(),
+    }
 }
 
 // A line that is none.
@@ -153,20 +190,26 @@ fn no_call(
 fn step(
     line: &[u8],
     run: Run,
+    p: Profile,
     s: Station,
     area: &mut [u8],
     t: &mut [u8],
     v: &mut [u64; 147],
 ) -> Step {
-    if is_call(line, run) {
-        return call(line, run, s, area, t, v);
+    if is_load(line, run) {
+        return load(line, run, p, s, area, t);
     }
+    if is_call(line, run) {
+        return call(line, run, p, s, area, t);
+    }
+    let listed = run.stage < LINES;
     let w = s.messages.withdrawn;
     let run = no_call(line, run, s.sender.counts, w, area, t, v);
     if run.stage < LINES {
-        return Step { run, s: fresh() };
+        return Step { run, p, s: fresh() };
     }
-    Step { run, s }
+    let p = if listed { profile_of(v) } else { p };
+    Step { run, p, s }
 }
 
 fn next(n: u64) -> u64 {
@@ -187,7 +230,8 @@ fn finish(q: Step, n: u64, t: &mut [u8]) {
     flush(t, k);
 }
 
-fn none_yet() -> Step {
+// The profile of a table of zeros stands for none.
+fn none_yet(v: &[u64; 147]) -> Step {
     Step {
         run: Run {
             input: Input {
@@ -202,6 +246,7 @@ fn none_yet() -> Step {
             out: 0,
             text: 0,
         },
+        p: profile_of(v),
         s: fresh(),
     }
 }
@@ -233,12 +278,12 @@ fn stopped(run: Run) -> bool {
 
 fn replay(chunk: &mut [u8], line: &mut [u8], area: &mut [u8], t: &mut [u8]) {
     let mut v = [0u64; 147];
-    let mut q = none_yet();
+    let mut q = none_yet(&v);
     let mut n: u64 = 0;
     while n < 18446744073709551615 {
         let run = read(q.run, chunk, line, t);
         let len = least(run.input.len, line);
-        q = step(&line[..len], run, q.s, area, t, &mut v);
+        q = step(&line[..len], run, q.p, q.s, area, t, &mut v);
         if stopped(q.run) {
             finish(q, n, t);
             return;

@@ -1,4 +1,4 @@
--- The record is stored only where the call is accepted: a refused call answers with the record that it got.
+-- The record is stored only where the call is accepted: a refused call answers with the record that it got. So is a profile that is read.
 -- Assumes nothing.
 use mathlib.Core.Path.{_≡_, refl, sym, ap, ap₂, _∙_}
 use mathlib.Core.List.{List, []}
@@ -28,26 +28,29 @@ use Rattle.numbered.specs.declared.Left.{Left}
 use Rattle.numbered.specs.declared.Burst.{Burst}
 use Rattle.numbered.specs.declared.LeftBurst.{LeftBurst}
 use Rattle.numbered.specs.Numbered.{answerNumber, burstNumber}
+use Rattle.card.specs.Card.{profileOf, readRefusal, readOf}
+use Rattle.card.specs.declared.Found.{Found}
 use Rattle.station.specs.Exported.{left, leftBurst}
 use Rattle.station.specs.ExportedCode.{kept}
 
--- ---- `keep`
+-- ---- `keep` and `keep_profile`
 
-picked : (b : Bool) (x y : Station) → T b → x ≡ cond b x y
+picked : {A : Type 0} (b : Bool) (x y : A) → T b → x ≡ cond b x y
 picked true x y h = refl
 picked false x y h = absurd h
 
-passed-over : (b : Bool) (x y : Station) → T (not b) → y ≡ cond b x y
+passed-over : {A : Type 0} (b : Bool) (x y : A) → T (not b) → y ≡ cond b x y
 passed-over true x y h = absurd h
 passed-over false x y h = refl
 
-module _ (t : Station) (n : ℕ) (next : Station) where
+module _ {A : Type 0} (t : A) (n : ℕ) (next : A) where
   pub keeping1 : T (eqb n 0) → next ≡ kept t n next
   keeping1 = picked (eqb n 0) next t
 
   pub keeping2 : T (not (eqb n 0)) → t ≡ kept t n next
   keeping2 = passed-over (eqb n 0) next t
 
+module _ (t : Station) (n : ℕ) (next : Station) where
   -- THE NEXT RECORD stands there, stored or not, if a refused call answers with the record that it got
   kept-is : (v : Verdict) → n ≡ numberOf v → (passed v ≡ false → next ≡ t) → kept t n next ≡ next
   kept-is v e same = by (λ (x : Station). x ≡ next) (eqb n 0) (λ b. refl) (λ b. sym (same (ap (λ (x : ℕ). eqb x 0) (sym e) ∙ b)))
@@ -115,3 +118,16 @@ module _ (p : Profile) (t : Station) (a : List ℕ) where
       let stored : after ≡ r .next =
       k ∙ ap₂ (kept t) (e .0) (e .1) ∙ kept-is t (r .burst .refusal) (r .next) v n same in
       ap₂ (λ (y : Burst) (z : Station). (leftBurst y z, (b, o))) is stored ∙ said
+
+-- ---- a profile that is read: after card's call, which answers r, and `keep_profile`, which leaves `after`
+
+pub read-in : (file : List ℕ) (p : Profile) (r : Found) → (r .refusal, r .profile) ≡ readOf file p → Unit {0}
+    → (after : Profile) → after ≡ kept p (r .refusal) (r .profile) → (r .refusal, after) ≡ readOf file p
+unfolding readOf
+read-in file p r said u after k =
+    let n : r .refusal ≡ readRefusal file = ap (λ (x : ℕ × Profile). x .0) said in
+    let d : r .profile ≡ cond (eqb (readRefusal file) 0) (profileOf file) p = ap (λ (x : ℕ × Profile). x .1) said in
+    let same : eqb (r .refusal) 0 ≡ false → r .profile ≡ p =
+    λ e. d ∙ ap (λ (c : Bool). cond c (profileOf file) p) (ap (λ (m : ℕ). eqb m 0) (sym n) ∙ e) in
+    let stored : after ≡ r .profile = k ∙ by (λ (x : Profile). x ≡ r .profile) (eqb (r .refusal) 0) (λ e. refl) (λ e. sym (same e)) in
+    ap (λ (x : Profile). (r .refusal, x)) stored ∙ said

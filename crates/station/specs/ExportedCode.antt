@@ -2,8 +2,7 @@
 use mathlib.Core.Bool.{cond}
 use Prim.Native.Nat.{ℕ}
 use lib.Dec.{eqb}
-use Rattle.queuing.specs.declared.Station.{Station}
 
--- the record after a call that got t and answers with this number and this next record
-abbrev pub kept : Station → ℕ → Station → Station
+-- what lies behind a reference after a call that found t there and answers with this number and this next value
+abbrev pub kept : {A : Type 0} → A → ℕ → A → A
 kept t refusal next = cond (eqb refusal 0) next t

@@ -1,6 +1,6 @@
 // The thin layer: a station program holds one record, and each call of the sender changes it. The calls are exported, for C to link: a
-// slice goes as a pointer and a length. No call requires anything; the profile is read where it lies. The link log and the levels within
-// reach need no record.
+// slice goes as a pointer and a length. No call requires anything; the profile is read where it lies. The link log, the levels within
+// reach and a profile on a card need no record.
 use adif::Logged;
 use config::Profile;
 use numbered::Burst;
@@ -24,6 +24,7 @@ ghost use Rattle.refusals.specs.declared.Reply.the-variants as R;
 ghost use Rattle.numbered.specs.Numbered.{answerNumber, burstNumber, findNumber};
 ghost use Rattle.adif.specs.Adif.{logOf};
 ghost use Rattle.reachable.specs.Reachable.{listingUnder};
+ghost use Rattle.card.specs.Card.{writeOf, readOf};
 ghost use Rattle.station.specs.Exported.{left, leftBurst};
 ghost use Rattle.station.specs.ExportedCode.{kept};
 
@@ -33,6 +34,15 @@ fn keep(t: &mut Station, refusal: u8, next: Station)
 {
     if refusal == 0 {
         *t = next;
+    }
+}
+
+// Stores the profile that was read, unless a number refuses its file: then nothing is written.
+fn keep_profile(p: &mut Profile, number: u8, read: Profile)
+    ensures { λ _. ⌜ now (p .exit) ≡ kept (now (p .entry)) number read ⌝ }
+{
+    if number == 0 {
+        *p = read;
     }
 }
 
@@ -198,4 +208,22 @@ pub extern "C" fn vanitycrow_levels(p: &Profile, class: ChanClass, low: u8, high
     ensures { λ r. ⌜ r ≡ listingUnder (now (p .entry)) class low high ⌝ }
 {
     reachable::levels_under(*p, class, low, high)
+}
+
+// The profile as a file of version 1 at the start of the output.
+#[no_mangle]
+pub extern "C" fn vanitycrow_write_profile(p: &Profile, out: &mut [u8]) -> u8
+    ensures { λ r. ⌜ (r, now (out .exit)) ≡ writeOf (now (p .entry)) (now (out .entry)) ⌝ }
+{
+    card::write(*p, out)
+}
+
+// The profile of a file, which takes the place of *p; a refused file leaves *p as it is.
+#[no_mangle]
+pub extern "C" fn vanitycrow_read_profile(file: &[u8], p: &mut Profile) -> u8
+    ensures { λ r. ⌜ (r, now (p .exit)) ≡ readOf (now (file .entry)) (now (p .entry)) ⌝ }
+{
+    let q = card::read(file, *p);
+    keep_profile(p, q.refusal, q.profile);
+    q.refusal
 }

@@ -51,6 +51,10 @@ pieceLine bytes = text "piece" ++ hex bytes ++ text "\n"
 abbrev pub logLine : List ℕ → List ℕ
 logLine chars = text "log ok " ++ chars ++ text "\n"
 
+-- `card ok HEX`
+abbrev pub cardLine : List ℕ → List ℕ
+cardLine bytes = text "card ok" ++ hex bytes ++ text "\n"
+
 -- LEVEL:Q
 abbrev pub levelWord : ℕ → ℕ → List ℕ
 levelWord level q = numberWord level ++ afterColon q

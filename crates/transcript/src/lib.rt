@@ -5,7 +5,7 @@ use text::puts;
 ghost use mathlib.Core.Path.{_≡_};
 ghost use Rattle.text.specs.Buffer.{appended};
 ghost use Rattle.laws.specs.Text.{text};
-ghost use Rattle.transcript.specs.Answers.{answerLine, pieceLine, logLine, errorLine};
+ghost use Rattle.transcript.specs.Answers.{answerLine, pieceLine, logLine, cardLine, errorLine};
 
 pub mod burst;
 pub mod reached;
@@ -45,6 +45,15 @@ pub fn log(t: &mut [u8], n: usize, chars: &[u8]) -> usize
 {
     let n = puts(t, n, b"log ok ");
     let n = puts(t, n, chars);
+    puts(t, n, b"\n")
+}
+
+// A profile's file.
+pub fn card(t: &mut [u8], n: usize, bytes: &[u8]) -> usize
+    ensures { λ r. ⌜ (r, now (t .exit)) ≡ appended (n, now (t .entry)) (cardLine (now (bytes .entry))) ⌝ }
+{
+    let n = puts(t, n, b"card ok");
+    let n = hex(t, n, bytes);
     puts(t, n, b"\n")
 }
 

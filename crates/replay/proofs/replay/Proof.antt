@@ -61,14 +61,14 @@ same-length-3 c =
     let p = c .before .before .before .before .before .before .before .before .before .before in
     let q = p .before .before .before .before .before .before .before .before .before .before .before in
     let i = q .before .before .before .before .before .loop .inv in
-    p .step .kept .1 .1 .1 .0 ∙ i .1 .1 .1 .0
+    p .step .kept .1 .1 .1 .1 .0 ∙ i .1 .1 .1 .0
 
 same-length-4 : tie.Need-same-length-4 Inv-loop μ-loop
 same-length-4 c =
     let p = c .before .before .before .before .before .before .before .before .before .before in
     let q = p .before .before .before .before .before .before .before .before .before .before .before in
     let i = q .before .before .before .before .before .loop .inv in
-    c .before .before .finish .kept .1 .1 .0 ∙ p .step .kept .1 .1 .1 .1 .0 ∙ i .1 .1 .1 .1
+    c .before .before .finish .kept .1 .1 .0 ∙ p .step .kept .1 .1 .1 .1 .1 .0 ∙ i .1 .1 .1 .1
 
 returns : tie.Need-returns Inv-loop μ-loop
 returns c = search needs
@@ -98,8 +98,8 @@ loop-again c =
         (
           q .read .kept .1 .1 .0 ∙ i .1 .1 .0,
           (
-            p .step .kept .1 .1 .1 .0 ∙ i .1 .1 .1 .0,
-            (p .step .kept .1 .1 .1 .1 .0 ∙ i .1 .1 .1 .1),
+            p .step .kept .1 .1 .1 .1 .0 ∙ i .1 .1 .1 .0,
+            (p .step .kept .1 .1 .1 .1 .1 .0 ∙ i .1 .1 .1 .1),
           ),
         ),
       ),

@@ -55,10 +55,17 @@ slice-aggregate-or-8 c = search needs
 or-requires-8 : tie.Need-or-requires-8
 or-requires-8 c κs = search needs
 
+slice-aggregate-or-9 : tie.Need-slice-aggregate-or-9
+slice-aggregate-or-9 c = search needs
+
+or-requires-9 : tie.Need-or-requires-9
+or-requires-9 c κs = search needs
+
 returns : tie.Need-returns
 unfolding callOf
 returns c =
-    let p8 = c .before .before in
+    let p9 = c .before .before in
+    let p8 = p9 .before .before in
     let p7 = p8 .before .before in
     let p6 = p7 .before .before in
     let p5 = p6 .before .before in
@@ -67,7 +74,8 @@ returns c =
     let p2 = p3 .before .before in
     let p1 = p2 .before .before in
     rw (
-      c .or8 .ensures,
+      c .or9 .ensures,
+      p9 .or8 .ensures,
       p8 .or7 .ensures,
       p7 .or6 .ensures,
       p6 .or5 .ensures,
@@ -99,4 +107,6 @@ call-of-spec =
     or-requires-7
     slice-aggregate-or-8
     or-requires-8
+    slice-aggregate-or-9
+    or-requires-9
     returns)

@@ -7,9 +7,6 @@ use Rattle.list_calls.proofs.Laws.{kept, kept-both}
 use Rattle.list_calls.proofs.answers.say.Statement.{statement}
 use Rattle.list_calls.proofs.answers.say.Tie as tie
 
-profile-of-requires : tie.Need-profile-of-requires
-profile-of-requires c κs = search needs
-
 burst-requires : tie.Need-burst-requires
 burst-requires c κs = search needs
 
@@ -25,9 +22,8 @@ same-length-3 c = search needs
 returns : tie.Need-returns
 unfolding saidOf
 returns c =
-    rw (← c .before .before .before .before .before .before .before .before .before .before .before .before .profile-of .ensures)
-    (cond-yes _ _ _ _ (eq-eqb _ _ (c .before .before .before .before .before .before .before .before .before .before .if1 .taken))
-    (c .before .before .before .before .before .before .burst .ensures))
+    cond-yes _ _ _ _ (eq-eqb _ _ (c .before .before .before .before .before .before .before .before .before .before .if1 .taken))
+    (c .before .before .before .before .before .before .burst .ensures)
 
 piece-requires : tie.Need-piece-requires
 piece-requires c κs = search needs
@@ -41,9 +37,8 @@ same-length-5 c = search needs
 returns-2 : tie.Need-returns-2
 unfolding saidOf
 returns-2 c =
-    rw (← c .before .before .before .before .before .before .before .before .before .profile-of .ensures)
-    (cond-no _ _ _ _ (ne-eqb _ _ (c .before .before .before .before .before .before .before .if1 .left))
-    (cond-yes _ _ _ _ (eq-eqb _ _ (c .before .before .before .before .before .if2 .taken)) (kept-both (c .before .before .piece .ensures))))
+    cond-no _ _ _ _ (ne-eqb _ _ (c .before .before .before .before .before .before .before .if1 .left))
+    (cond-yes _ _ _ _ (eq-eqb _ _ (c .before .before .before .before .before .if2 .taken)) (kept-both (c .before .before .piece .ensures)))
 
 asked-requires : tie.Need-asked-requires
 asked-requires c κs = search needs
@@ -57,16 +52,14 @@ same-length-7 c = search needs
 returns-3 : tie.Need-returns-3
 unfolding saidOf
 returns-3 c =
-    rw (← c .before .before .before .before .before .before .before .before .before .before .before .profile-of .ensures)
-    (cond-no _ _ _ _ (ne-eqb _ _ (c .before .before .before .before .before .before .before .before .before .if1 .left))
+    cond-no _ _ _ _ (ne-eqb _ _ (c .before .before .before .before .before .before .before .before .before .if1 .left))
     (cond-no _ _ _ _ (ne-eqb _ _ (c .before .before .before .before .before .before .before .if2 .left))
-    (kept (c .before .before .before .before .asked .ensures))))
+    (kept (c .before .before .before .before .asked .ensures)))
 
 pub say-spec : {M : Type 1} → statement M
 say-spec =
     tie.close
     (tie.spec
-    profile-of-requires
     burst-requires
     same-length
     same-length-2

@@ -1,0 +1,9 @@
+pub mod Back
+pub mod Groups
+pub mod Later
+pub mod Pack
+pub mod Puts
+pub mod Refusals
+pub mod Round
+pub mod Row
+pub mod Sections

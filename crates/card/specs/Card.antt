@@ -1,0 +1,272 @@
+-- A profile as a file (document 02, Change 3): "a one-byte version, then four sections in a fixed order, each after its two-byte count of
+-- bytes, low byte first: levels, waves, thresholds, options". Inside a section "each number low byte first and each float by its bits".
+-- Definitions only.
+use Prim.Native.Nat.{ℕ, zero, suc, _+_}
+use mathlib.Core.Bool.{Bool, false, cond, not, _&&_, _||_}
+use mathlib.Core.List.{List, [], _∷_, _++_, map}
+use lib.Dec.{leb, ltb, eqb}
+use lib.ListN.{length, getD}
+use lib.Ieee.{Float, binary32, binary64, ofBits, toBits, ne}
+use Rattle.laws.specs.Tests.{all}
+use Rattle.laws.specs.Span.{every, upto}
+use Rattle.laws.specs.Bytes.{overwrite, part}
+use Rattle.laws.specs.Little.{num, le}
+use Rattle.harq.specs.declared.Harq.{Harq}
+use Rattle.config.specs.declared.Air.{Air}
+use Rattle.config.specs.declared.Marks.{Marks}
+use Rattle.config.specs.declared.Lengths.{Lengths}
+use Rattle.config.specs.declared.MaybeDb.{MaybeDb}
+use Rattle.config.specs.declared.MaybeLevel.{MaybeLevel}
+use Rattle.config.specs.declared.HoldTimes.{HoldTimes}
+use Rattle.config.specs.declared.Profile.{Profile}
+use Rattle.config.specs.Ranges.{inRange, inOrder}
+
+-- ---- numbers and floats
+
+-- a float by its bits; any NaN as all ones
+abbrev pub bits64 : Float → ℕ
+bits64 x = cond (ne x x) 18446744073709551615 (toBits binary64 x)
+
+abbrev pub bits32 : Float → ℕ
+bits32 x = cond (ne x x) 4294967295 (toBits binary32 x)
+
+-- off is 0, on is 1
+abbrev pub bit : Bool → ℕ
+bit b = cond b 1 0
+
+-- each number as k bytes
+unfoldable pub packed : ℕ → List ℕ → List ℕ
+packed k [] = []
+packed k (v ∷ vs) = le k v ++ packed k vs
+
+-- the number of k bytes at a place, and n of them in a row
+abbrev pub at : ℕ → List ℕ → ℕ → ℕ
+at k bs i = num (part bs i k)
+
+unfoldable pub row : ℕ → ℕ → List ℕ → ℕ → List ℕ
+row k zero bs i = []
+row k (suc n) bs i = at k bs i ∷ row k n bs (i + k)
+
+-- ---- the sections
+
+-- for every level slot_bits, then pre_s, rate and max_bits
+unfoldable pub levelsOf : Air → List ℕ
+levelsOf a =
+    packed 4 (a .«slot_bits») ++ (packed 8 (map bits64 (a .«pre_s»)) ++ (packed 8 (map bits64 (a .rate)) ++ packed 4 (a .«max_bits»)))
+
+-- for every wave ack_s
+unfoldable pub wavesOf : Air → List ℕ
+wavesOf a = packed 8 (map bits64 (a .«ack_s»))
+
+-- for every level a threshold, then the margin; plain, then eff
+unfoldable pub marksOf : Marks → List ℕ
+marksOf m = packed 4 (map bits32 (m .«thresholds_db»)) ++ le 4 (bits32 (m .«margin_db»))
+
+unfoldable pub thresholdsOf : Profile → List ℕ
+thresholdsOf p = marksOf (p .plain) ++ marksOf (p .eff)
+
+-- the options: eight doubles,
+unfoldable pub doubles : Profile → List Float
+doubles p =
+    p .air .«cue_s» ∷ p .lengths .«max_burst_s» ∷ p .lengths .«max_burst_long_s» ∷ p .lengths .«burst_overhead»
+    ∷ p .lengths .«turnaround_s»
+    ∷ p .«hold_times» .«fail_hold_s» ∷ p .«hold_times» .«fail_hold_max_s» ∷ p .«hold_times» .«loss_hold_s» ∷ []
+
+-- nine whole numbers,
+unfoldable pub wholes : Profile → List ℕ
+wholes p = p .«short_bytes» ∷ p .«long_bytes» ∷ p .codes .mother ∷ p .codes .ends
+
+-- four singles; a value beside an option that is off stands there too
+unfoldable pub singles : Profile → List Float
+singles p = p .lengths .«burst_steady_db» ∷ p .lengths .«burst_climb_db» .db ∷ p .«cue_below_db» ∷ p .«start_margin_db» .db ∷ []
+
+-- the highest level, skip_slices_from and the power table in a byte each, and the pinned level,
+unfoldable pub smallsOf : Profile → List ℕ
+smallsOf p = p .«max_level» ∷ p .«skip_slices_from» ∷ p .power ∷ le 8 (p .«pin_level» .level)
+
+-- fifteen places that are on or off, harq_stretch last
+unfoldable pub places : Profile → List Bool
+places p =
+    p .lengths .«burst_climb_db» .set ∷ p .«start_margin_db» .set ∷ p .«pin_level» .set ∷ p .lengths .«burst_adapt» ∷ p .«eff_snr»
+    ∷ p .goodput
+    ∷ p .harq ∷ p .«pick_family» ∷ p .«smooth_target» ∷ p .«hold_by_goodput» ∷ p .«slice_slots» ∷ p .«merge_pieces» ∷ p .cue
+    ∷ p .«harq_partial» ∷ p .«harq_stretch» ∷ []
+
+unfoldable pub optionsOf : Profile → List ℕ
+optionsOf p =
+    packed 8 (map bits64 (doubles p)) ++
+    (packed 4 (wholes p) ++ (packed 4 (map bits32 (singles p)) ++ (smallsOf p ++ map bit (places p))))
+
+-- ---- the file
+
+abbrev pub levelsBytes : ℕ
+levelsBytes = 408
+
+abbrev pub wavesBytes : ℕ
+wavesBytes = 48
+
+abbrev pub thresholdsBytes : ℕ
+thresholdsBytes = 144
+
+abbrev pub optionsBytes : ℕ
+optionsBytes = 142
+
+abbrev pub cardBytes : ℕ
+cardBytes = 751
+
+abbrev pub section : List ℕ → List ℕ
+section bs = le 2 (length bs) ++ bs
+
+-- "Writing makes version 1"
+unfoldable pub cardOf : Profile → List ℕ
+cardOf p = 1 ∷ (section (levelsOf (p .air)) ++ (section (wavesOf (p .air)) ++ (section (thresholdsOf p) ++ section (optionsOf p))))
+
+-- ---- read, where the counts agree
+
+abbrev pub doubleAt : List ℕ → ℕ → Float
+doubleAt bs i = ofBits binary64 (at 8 bs i)
+
+abbrev pub singleAt : List ℕ → ℕ → Float
+singleAt bs i = ofBits binary32 (at 4 bs i)
+
+-- one of the fifteen places
+abbrev pub placeAt : List ℕ → ℕ → ℕ
+placeAt os i = getD os (127 + i) 0
+
+abbrev pub flagAt : List ℕ → ℕ → Bool
+flagAt os i = eqb (placeAt os i) 1
+
+-- an optional dB value: its place, and the value beside it
+abbrev pub optionAt : List ℕ → ℕ → ℕ → MaybeDb
+optionAt os i j = record { set = flagAt os i; db = singleAt os j }
+
+abbrev pub pinIn : List ℕ → MaybeLevel
+pinIn os = record { set = flagAt os 2; level = at 8 os 119 }
+
+unfoldable pub airIn : List ℕ → List ℕ → List ℕ → Air
+airIn ls ws os =
+    record {
+      «slot_bits» = row 4 17 ls 0;
+      «pre_s» = map (ofBits binary64) (row 8 17 ls 68);
+      rate = map (ofBits binary64) (row 8 17 ls 204);
+      «max_bits» = row 4 17 ls 340;
+      «ack_s» = map (ofBits binary64) (row 8 6 ws 0);
+      «cue_s» = doubleAt os 0;
+    }
+
+unfoldable pub marksIn : List ℕ → ℕ → Marks
+marksIn ts i = record { «thresholds_db» = map (ofBits binary32) (row 4 17 ts i); «margin_db» = singleAt ts (i + 68) }
+
+unfoldable pub codesIn : List ℕ → Harq
+codesIn os = record { mother = at 4 os 72; ends = row 4 6 os 76 }
+
+unfoldable pub lengthsIn : List ℕ → Lengths
+lengthsIn os =
+    record {
+      «max_burst_s» = doubleAt os 8;
+      «max_burst_long_s» = doubleAt os 16;
+      «burst_overhead» = doubleAt os 24;
+      «turnaround_s» = doubleAt os 32;
+      «burst_adapt» = flagAt os 3;
+      «burst_steady_db» = singleAt os 100;
+      «burst_climb_db» = optionAt os 0 104;
+    }
+
+unfoldable pub holdsIn : List ℕ → HoldTimes
+holdsIn os = record { «fail_hold_s» = doubleAt os 40; «fail_hold_max_s» = doubleAt os 48; «loss_hold_s» = doubleAt os 56 }
+
+-- of levels, waves, thresholds and options
+unfoldable pub profileIn : List ℕ → List ℕ → List ℕ → List ℕ → Profile
+profileIn ls ws ts os =
+    record {
+      air = airIn ls ws os;
+      «short_bytes» = at 4 os 64;
+      «long_bytes» = at 4 os 68;
+      codes = codesIn os;
+      lengths = lengthsIn os;
+      «hold_times» = holdsIn os;
+      plain = marksIn ts 0;
+      eff = marksIn ts 72;
+      «eff_snr» = flagAt os 4;
+      «cue_below_db» = singleAt os 108;
+      «start_margin_db» = optionAt os 1 112;
+      «max_level» = getD os 116 0;
+      «skip_slices_from» = getD os 117 0;
+      «pin_level» = pinIn os;
+      goodput = flagAt os 5;
+      power = getD os 118 0;
+      harq = flagAt os 6;
+      «pick_family» = flagAt os 7;
+      «smooth_target» = flagAt os 8;
+      «hold_by_goodput» = flagAt os 9;
+      «slice_slots» = flagAt os 10;
+      «harq_stretch» = flagAt os 14;
+      «merge_pieces» = flagAt os 11;
+      cue = flagAt os 12;
+      «harq_partial» = flagAt os 13;
+    }
+
+-- the sections of version 1: what later versions add behind the options is passed over
+abbrev pub levelsIn : List ℕ → List ℕ
+levelsIn b = part b 3 levelsBytes
+
+abbrev pub wavesIn : List ℕ → List ℕ
+wavesIn b = part b 413 wavesBytes
+
+abbrev pub thresholdsIn : List ℕ → List ℕ
+thresholdsIn b = part b 463 thresholdsBytes
+
+abbrev pub optionsIn : List ℕ → List ℕ
+optionsIn b = part b 609 optionsBytes
+
+abbrev pub profileOf : List ℕ → Profile
+profileOf b = profileIn (levelsIn b) (wavesIn b) (thresholdsIn b) (optionsIn b)
+
+-- ---- the refusals
+
+-- 13: "a version byte of 0 or above 15"; an empty file has none
+unfoldable pub versionBad : List ℕ → Bool
+versionBad [] = false
+versionBad (v ∷ b) = eqb v 0 || ltb 15 v
+
+-- the options' count: fixed in version 1; "in later versions only the options section may be longer, at its end"
+abbrev pub optionsOk : ℕ → ℕ → Bool
+optionsOk v n = cond (eqb v 1) (eqb n optionsBytes) (leb optionsBytes n)
+
+-- 14: "an empty file, or a count that doesn't agree with the version or the file's length"; "the sections fill the file exactly"
+unfoldable pub countsOk : List ℕ → Bool
+countsOk b =
+    all (eqb (at 2 b 1) levelsBytes ∷ eqb (at 2 b 411) wavesBytes ∷ eqb (at 2 b 461) thresholdsBytes
+    ∷ optionsOk (getD b 0 0) (at 2 b 607) ∷ eqb (length b) (609 + at 2 b 607) ∷ [])
+
+-- 1: a place that is neither on nor off, or what document 01's ranges refuse
+abbrev pub placeOk : List ℕ → ℕ → Bool
+placeOk os i = leb (placeAt os i) 1
+
+unfoldable pub placesOk : List ℕ → Bool
+placesOk os = every (placeOk os) (upto 0 15)
+
+-- "Reading refuses a version byte of 0 or above 15 with 13, then an empty file, or a count .. with 14,
+unfoldable pub fileRefusal : List ℕ → ℕ
+fileRefusal b = cond (versionBad b) 13 (cond (not (countsOk b)) 14 0)
+
+-- then what 1 and 2 refuse"
+unfoldable pub profileRefusal : List ℕ → Profile → ℕ
+profileRefusal os p = cond (not (placesOk os && inRange p)) 1 (cond (not (inOrder p)) 2 0)
+
+unfoldable pub readRefusal : List ℕ → ℕ
+readRefusal b = cond (eqb (fileRefusal b) 0) (profileRefusal (optionsIn b) (profileOf b)) (fileRefusal b)
+
+-- "refuses by 1 and 2, then by 14 an output shorter than the file"
+unfoldable pub writeRefusal : Profile → ℕ → ℕ
+writeRefusal p n = cond (not (inRange p)) 1 (cond (not (inOrder p)) 2 (cond (ltb n cardBytes) 14 0))
+
+-- ---- the calls
+
+-- the number, and the profile: `before`, which was handed in, where the file is refused
+unfoldable pub readOf : List ℕ → Profile → ℕ × Profile
+readOf b before = (readRefusal b, cond (eqb (readRefusal b) 0) (profileOf b) before)
+
+-- the number, and every byte of the output: "what lies past the bytes written is kept"
+unfoldable pub writeOf : Profile → List ℕ → ℕ × List ℕ
+writeOf p out = (writeRefusal p (length out), cond (eqb (writeRefusal p (length out)) 0) (overwrite out 0 (cardOf p)) out)

@@ -1,0 +1,3 @@
+pub mod Card
+pub mod CardCode
+pub mod Claims

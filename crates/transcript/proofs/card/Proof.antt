@@ -1,0 +1,47 @@
+-- `transcript::card` meets its contract.
+use mathlib.Core.Path.{_∙_}
+use borrow.Author.Needs.{needs}
+use Rattle.text.proofs.Laws.{by, _⨾_}
+use Rattle.transcript.proofs.card.Statement.{statement}
+use Rattle.transcript.proofs.card.Tie as tie
+
+slice-aggregate-puts : tie.Need-slice-aggregate-puts
+slice-aggregate-puts c = search needs
+
+puts-requires : tie.Need-puts-requires
+puts-requires c κs = search needs
+
+hex-requires : tie.Need-hex-requires
+hex-requires c κs = search needs
+
+slice-aggregate-puts-2 : tie.Need-slice-aggregate-puts-2
+slice-aggregate-puts-2 c = search needs
+
+puts-requires-2 : tie.Need-puts-requires-2
+puts-requires-2 c κs = search needs
+
+same-length : tie.Need-same-length
+same-length c =
+    let p3 = c .before .before in
+    let p2 = p3 .before .before .before .before .before in
+    let p1 = p2 .before .before .before .before in
+    p3 .puts2 .kept .0 ∙ p2 .hex .kept .0 ∙ p1 .puts .kept .0
+
+returns : tie.Need-returns
+returns c =
+    let p3 = c .before .before in
+    let p2 = p3 .before .before .before .before .before in
+    let p1 = p2 .before .before .before .before in
+    (by (p1 .puts .ensures) ⨾ by (p2 .hex .ensures) ⨾ by (p3 .puts2 .ensures)) .is
+
+pub card-spec : {M : Type 1} → statement M
+card-spec =
+    tie.close
+    (tie.spec
+    slice-aggregate-puts
+    puts-requires
+    hex-requires
+    slice-aggregate-puts-2
+    puts-requires-2
+    same-length
+    returns)
