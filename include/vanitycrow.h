@@ -264,7 +264,7 @@ struct vanitycrow_turn { struct vanitycrow_maybe_db report; };
 /* The n frames of a burst. */
 struct vanitycrow_frames {
     uint32_t off[VANITYCROW_MAX_SLOTS];   /* the payload's offset among all bytes taken */
-    uint32_t len[VANITYCROW_MAX_SLOTS];   /* bytes of payload */
+    uint32_t len[VANITYCROW_MAX_SLOTS];   /* bytes of payload, 1 to 254 */
     uint32_t start[VANITYCROW_MAX_SLOTS]; /* of its coded bits, in the mother code */
     uint32_t bits[VANITYCROW_MAX_SLOTS];  /* coded bits to send */
     size_t n;

@@ -42,6 +42,9 @@ vectors classes 40 2 5 12 14 15 21 32 33 41 51
 vectors classes 70 9 18 42 53
 
 examples=$here/../examples
-for list in "$vectors"/*.calls "$vectors"/changes/levels-*.calls "$vectors"/changes/classes-*.calls "$examples/levels.calls" "$examples/classes.calls"; do
+for list in "$vectors"/*.calls "$vectors"/changes/levels-*.calls "$vectors"/changes/classes-*.calls "$examples/levels.calls" "$examples/classes.calls" \
+    "$vectors/changes/frames-of-263-and-264.calls"; do
     "$here/run" transcript "$list" >"${list%.calls}.transcript"
 done
+# Longer frames: by the edited original.
+"$here/run-edited" transcript "$vectors/changes/frames-of-265-and-512.calls" >"$vectors/changes/frames-of-265-and-512.transcript"

@@ -75,6 +75,7 @@ impl<'a> Driver<'a> {
         let loss_in = r.pick(&[2, 3, 6, 12]);
         let state_in = r.pick(&[4, 6, 12]);
         let largest_queue = r.pick(&[60, 400, 2000, 6000]);
+        let profile = profiles::compared(profile);
         MADE.with_borrow_mut(|made| made.push(Item::Profile(profile.clone())));
         Self {
             r,
