@@ -18,7 +18,7 @@ extern "C" {
 #endif
 
 /* The version of this interface (CHANGELOG.md). */
-#define VANITYCROW_VERSION "0.7.0"
+#define VANITYCROW_VERSION "0.8.0"
 #define VANITYCROW_VERSION_MAJOR 0
 #define VANITYCROW_VERSION_MINOR 6
 #define VANITYCROW_VERSION_PATCH 0

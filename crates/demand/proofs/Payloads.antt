@@ -58,6 +58,7 @@ find-most m k n o [] a = omega arith
 find-most m k n o (p ∷ ps) a = test (eqb o (p .off)) (λ e. rw e (a .2)) (λ e. rw e (find-most m (end p) n o ps (a .3)))
 
 -- frames that carry pieces are no longer than these
-pub none-reserved : (m n : ℕ) (bs : List ℕ) (ps : List Piece) (fs : List Frame) → m ≤ longestPayload → Ascend m 0 n ps → Carry bs ps fs → NoneReserved fs
+pub none-reserved : (m n : ℕ) (bs : List ℕ) (ps : List Piece) (fs : List Frame)
+    → m ≤ longestPayload → Ascend m 0 n ps → Carry bs ps fs → NoneReserved fs
 none-reserved m n bs ps [] h a c = tt
 none-reserved m n bs ps (f ∷ fs) h a c = (omega (arith, h, c .1, find-most m 0 n (f .off) ps a), none-reserved m n bs ps fs h a (c .3))
