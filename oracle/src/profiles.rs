@@ -16,13 +16,13 @@ fn set_whole(p: &mut Profile, line: usize, at: usize, x: u64) {
 }
 
 /// `p` with frames of at most 264 bytes, unless it is refused: in longer ones the original sends payloads of 255 bytes, which are reserved
-/// (document 02, Change 5). The edited original is run with frames of all sizes.
+/// (document 02, Change 5). A longer one becomes 264, one in eight 263. The edited original is run with frames of all sizes.
 pub fn compared(mut p: Profile) -> Profile {
     if !edited() && p.refusal().is_none() {
-        for at in 0..2 {
-            let size = p.whole(FRAME_BYTES, at).min(264);
-            set_whole(&mut p, FRAME_BYTES, at, size);
-        }
+        let (short, long) = (p.whole(FRAME_BYTES, 0), p.whole(FRAME_BYTES, 1));
+        let long = long.min(if long % 8 == 7 { 263 } else { 264 });
+        set_whole(&mut p, FRAME_BYTES, 0, short.min(long));
+        set_whole(&mut p, FRAME_BYTES, 1, long);
     }
     p
 }
