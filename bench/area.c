@@ -1,4 +1,4 @@
-/* Times of the work area at its fullest: 2,048 pieces with 16,320 bytes, 16,384 bytes that wait, 64 held, 64 outstanding. */
+/* Times of the work area at its fullest: 2,048 pieces with 16,256 bytes, 16,384 bytes that wait, 64 held, 64 outstanding. */
 #include <stdbool.h>
 #include <stddef.h>
 #include <stdint.h>
@@ -13,7 +13,7 @@ bool vanitycrow_sound(const uint8_t *a, size_t a_len, size_t n, uint32_t shortes
 size_t vanitycrow_merge(uint8_t *a, size_t a_len, size_t n, uint32_t max, const uint32_t *held, size_t held_len);
 size_t vanitycrow_remove(uint8_t *a, size_t a_len, size_t n, size_t used, const uint32_t *gone, size_t gone_len);
 
-enum { SAMPLES = 201, CALLS = 20, AREA = 49152, STREAM = 32768, PIECES = 2048, SLOTS = 64, SHORT = 8, LONG = 255, FLYING = 16320, WAITING = 16384 };
+enum { SAMPLES = 201, CALLS = 20, AREA = 49152, STREAM = 32768, PIECES = 2048, SLOTS = 64, SHORT = 8, LONG = 254, FLYING = 16256, WAITING = 16384 };
 
 static uint8_t given[AREA], area[AREA];
 static uint32_t offs[PIECES], held[SLOTS], sent[SLOTS], held_bits[SLOTS], sent_bits[SLOTS], sent_held[SLOTS], next;
@@ -35,7 +35,7 @@ static uint32_t run_after(uint32_t from) {
 static void lay(enum lie how) {
     uint32_t from = 0;
     for (int i = 0; i < PIECES; i++) {
-        uint32_t len = i % 128 == 127 ? SHORT / 2 : SHORT;
+        uint32_t len = i % 32 == 31 ? SHORT - 2 : SHORT;
         if (how == APART) from++;
         if (how == MARKED && i % 32 == 0) from = run_after(from);
         offs[i] = from;
@@ -90,7 +90,7 @@ int main(void) {
     return measure("sound check of 2,048 pieces", TOGETHER, sound, 1, 10)
         || measure("merge, pieces together", TOGETHER, merge, 128, 60)
         || measure("merge, pieces apart", APART, merge, PIECES, 60)
-        || measure("merge, every piece marked", MARKED, merge, 172, 60)
+        || measure("merge, every piece marked", MARKED, merge, 126, 60)
         || measure("settle of 64 frames, pieces together", TOGETHER, settle, PIECES - SLOTS, 40)
         || measure("settle of 64 frames, every piece marked", MARKED, settle, PIECES - SLOTS, 40);
 }

@@ -18,9 +18,9 @@ extern "C" {
 #endif
 
 /* The version of this interface (CHANGELOG.md). */
-#define VANITYCROW_VERSION "0.9.0"
+#define VANITYCROW_VERSION "0.10.0"
 #define VANITYCROW_VERSION_MAJOR 0
-#define VANITYCROW_VERSION_MINOR 9
+#define VANITYCROW_VERSION_MINOR 10
 #define VANITYCROW_VERSION_PATCH 0
 
 #define VANITYCROW_AREA_BYTES 49152
@@ -271,7 +271,7 @@ struct vanitycrow_turn { struct vanitycrow_maybe_db report; };
 /* The n frames of a burst. */
 struct vanitycrow_frames {
     uint32_t off[VANITYCROW_MAX_SLOTS];   /* the payload's offset among all bytes taken */
-    uint32_t len[VANITYCROW_MAX_SLOTS];   /* bytes of payload */
+    uint32_t len[VANITYCROW_MAX_SLOTS];   /* bytes of payload, 1 to 254 */
     uint32_t start[VANITYCROW_MAX_SLOTS]; /* of its coded bits, in the mother code */
     uint32_t bits[VANITYCROW_MAX_SLOTS];  /* coded bits to send */
     size_t n;

@@ -51,7 +51,7 @@ edit empty-bursts sender.rs 's/room = room.max(1);//'
 
 # Frames.
 edit payload-altered sender.rs 's/f.payload = self.inflight\[&off\].clone();/&f.payload[0] ^= 1;/'
-edit payload-256 frame.rs 's/(size - HEADER - CRC).min(255)/(size - HEADER - CRC).min(256)/'
+edit payload-253 frame.rs 's/(size - HEADER - CRC).min(255)/(size - HEADER - CRC).min(253)/'
 edit check-sum frame.rs 's/0xEDB8_8320/0xEDB8_8322/'
 edit offset-order frame.rs 's/self.field.to_le_bytes()\[..3\]/self.field.to_be_bytes()[1..]/'
 edit fill frame.rs 's/b.resize(size - CRC, 0)/b.resize(size - CRC, 1)/'

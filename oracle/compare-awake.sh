@@ -7,18 +7,18 @@
 . "$(dirname "$0")/edited.sh"
 
 "$here/run" transcript /dev/null >/dev/null
-cat >"$scratch/edited.run" <<END
-#!/bin/sh
-exec "$scratch/target/release/oracle" transcript -
-END
-chmod +x "$scratch/edited.run"
 
-# edit NAME FILE SED: the comparison must find the edit within a minute.
-edit() {
-    asked "$1" || return 0
-    if ! build "$1" "$2" "$3"; then
-        missed=$((missed + 1))
-    elif "$here/run" compare "$scratch/edited.run" 60 7 >"$scratch/out" 2>"$scratch/err"; then
+# reads NAME BINARY: a program that writes the transcript of what it reads.
+reads() {
+    printf '#!/bin/sh\nexec "%s" transcript -\n' "$2" >"$scratch/$1.run"
+    chmod +x "$scratch/$1.run"
+}
+reads edited "$scratch/target/release/oracle"
+reads original "${CARGO_TARGET_DIR:-$here/target}/release/oracle"
+
+# finds NAME RUN PROGRAM: RUN's comparison with PROGRAM must find a difference within a minute.
+finds() {
+    if "$2" compare "$3" 60 7 >"$scratch/out" 2>"$scratch/err"; then
         echo "$1: NOT FOUND"
         missed=$((missed + 1))
     elif grep -q '^# difference' "$scratch/out"; then
@@ -26,6 +26,16 @@ edit() {
         caught=$((caught + 1))
     else
         echo "$1: the comparison ended without a difference: $(cat "$scratch/err")" >&2
+        missed=$((missed + 1))
+    fi
+}
+
+# edit NAME FILE SED: the comparison must find the edit.
+edit() {
+    asked "$1" || return 0
+    if build "$1" "$2" "$3"; then
+        finds "$1" "$here/run" "$scratch/edited.run"
+    else
         missed=$((missed + 1))
     fi
 }
@@ -115,5 +125,8 @@ edit adapt-level gear.rs 's/loss == 0.0 && self.level == at && steady/loss == 0.
 edit adapt-doubles gear.rs 's/self.burst_s \* 2.0/self.burst_s * 1.9/'
 edit adapt-last gear.rs 's/self.last_report_db = Some(snr_db);//'
 edit power-table gear.rs 's/crate::level::AIR_MEAN_TD_DB/crate::level::AIR_MEAN_DB/'
+
+# The other way round: with frames of all sizes the edited original of run-edited must differ from the original.
+! asked payload-255 || finds payload-255 "$here/run-edited" "$scratch/original.run"
 
 finish

@@ -61,7 +61,7 @@ static inline double burst_seconds(const struct vanitycrow_profile *p, const str
 }
 
 /* The test against the original's WINDOW_BYTES, 65,536, stops no chunk: where bytes are left waiting after a burst, one more frame does not fit.
- * That fewer fly at every cut, compare_tally says (16,320 at most). */
+ * That fewer fly at every cut, compare_tally says (16,256 at most). */
 static inline const char *compare_window(const struct vanitycrow_profile *p, const struct vanitycrow_sender *s,
                                          const struct vanitycrow_outgoing *o) {
     size_t whole = 0;

@@ -498,17 +498,17 @@ static void area_rows(void) {
     }
 }
 
-/* The most that may fly: 16,320 bytes; and the pieces that short frames would make of it, 2,048. */
+/* The most that may fly: 16,256 bytes; and the pieces that short frames would make of it, 2,048. */
 static void area_most(void) {
     struct vanitycrow_counts *c = &subject.record.sender.counts;
     for (uint32_t more = 0; more < 2; more++) {
         memcpy(&subject, &open_one, sizeof subject);
-        subject.p.long_bytes = 265;
-        for (uint32_t i = 0; i < 64; i++) put_row(i, 255 * i, 255);
-        put_row(64, 64 * 255, 1);
+        subject.p.long_bytes = 264;
+        for (uint32_t i = 0; i < 64; i++) put_row(i, 254 * i, 254);
+        put_row(64, 64 * 254, 1);
         c->pieces = 64 + more;
-        c->next_offset = c->flying = 16320 + more;
-        record_check("16,320 bytes fly, and one more", more ? 3 : 0);
+        c->next_offset = c->flying = 16256 + more;
+        record_check("16,256 bytes fly, and one more", more ? 3 : 0);
     }
     for (uint32_t more = 0; more < 2; more++) {
         memcpy(&subject, &open_one, sizeof subject);
@@ -519,6 +519,23 @@ static void area_most(void) {
         c->next_offset = c->flying = 2047 + 8 + more;
         record_check("2,048 short pieces, and one more", more ? 3 : 0);
     }
+}
+
+/* The longest frames on both sides of 264 bytes, and the most payload of each: length byte 255 is reserved. */
+static const struct { uint32_t size, most; } longest[] = {{263, 253}, {264, 254}, {265, 254}, {512, 254}};
+
+/* A piece of a whole payload, and of a byte more. */
+static void area_longest(void) {
+    struct vanitycrow_counts *c = &subject.record.sender.counts;
+    for (size_t i = 0; i < COUNT(longest); i++)
+        for (uint32_t more = 0; more < 2; more++) {
+            memcpy(&subject, &open_one, sizeof subject);
+            subject.p.long_bytes = longest[i].size;
+            c->pieces = 1;
+            c->next_offset = c->flying = longest[i].most + more;
+            put_row(0, 0, c->flying);
+            record_check("a piece of the longest payload, and of a byte more", more ? 3 : 0);
+        }
 }
 
 static void area_length(size_t length) {
@@ -963,6 +980,29 @@ static void output_lengths(void) {
     given = usual_arguments();
 }
 
+/* A burst of a payload's bytes, and of one more: that one flies in a second frame. */
+static void burst_check(uint32_t size, uint32_t most, uint32_t more) {
+    memcpy(&tried, &open_one, sizeof tried);
+    tried.p.long_bytes = size;
+    tried.record.sender.gear.level = 16;
+    given.bytes_len = most + more - 10; /* ten wait */
+    uint8_t refusal = make_call(QUEUE, &tried, &given);
+    struct vanitycrow_burst b = vanitycrow_data_burst(&tried.p, &tried.record, tried.area, given.area_len, tried.out, given.out_len);
+    const struct vanitycrow_frames *f = &b.outgoing.frames;
+    checks++;
+    if (!refusal && !b.refusal && f->n == 1 + more && f->off[0] == 0 && f->len[0] == most && tried.out[5] == most &&
+        (!more || (f->off[1] == most && f->len[1] == 1 && tried.out[size + 5] == 1)))
+        return;
+    printf("fields: %u bytes in frames of %u: other frames\n", (unsigned)(most + more), (unsigned)size);
+    failures++;
+}
+
+static void burst_lengths(void) {
+    for (size_t i = 0; i < COUNT(longest); i++)
+        for (uint32_t more = 0; more < 2; more++) burst_check(longest[i].size, longest[i].most, more);
+    given = usual_arguments();
+}
+
 /* Every pair of a lowest and a highest report. */
 static void level_ranges(void) {
     memcpy(&subject, &fresh_one, sizeof subject);
@@ -1073,6 +1113,7 @@ int main(void) {
     messages_in_turn();
     area_rows();
     area_most();
+    area_longest();
     area_lengths();
     reply_numbers();
     reply_times();
@@ -1089,6 +1130,7 @@ int main(void) {
     queue_many_withdrawals();
     queue_label_values();
     output_lengths();
+    burst_lengths();
     level_ranges();
     order_of_refusals();
     order_of_queue_refusals();

@@ -15,11 +15,11 @@ static inline struct vanitycrow_profile ladder_profile(void) {
     return p;
 }
 
-/* Long pieces of 255 bytes that short frames cut to 8: turns drop the level, good replies lift it, and pieces are cut and merged again. */
+/* Long pieces of 254 bytes that short frames cut to 8: turns drop the level, good replies lift it, and pieces are cut and merged again. */
 static inline struct vanitycrow_profile merge_profile(void) {
     struct vanitycrow_profile p = usual();
     p.short_bytes = 18;
-    p.long_bytes = 265;
+    p.long_bytes = 264;
     p.lengths.max_burst_s = 60;
     p.lengths.max_burst_long_s = 120;
     for (int l = 5; l < VANITYCROW_LEVELS; l++) p.air.rate[l] = 8400;

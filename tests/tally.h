@@ -187,7 +187,7 @@ static inline const char *compare_tally(const struct tally *t, const struct vani
     if (t->waiting != c->waiting) return "another count waiting";
     if (flying != c->flying) return "another count in flight";
     if (t->acknowledged != c->bytes_acked) return "another count acknowledged";
-    if (flying > 16320) return "more than 16,320 bytes fly";
+    if (flying > 16256) return "more than 16,256 bytes fly";
     if ((wrong = compare_messages(t, &s->messages, area + flying))) return wrong;
     return compare_pieces(t, c, area);
 }
@@ -204,7 +204,7 @@ static inline uint32_t check_sum(const uint8_t *b, size_t n) {
 
 /* One frame of `size` bytes: kind 3, flags 0, the offset's low 24 bits, length, the bytes taken there, zeros, check sum. */
 static inline const char *compare_frame(const struct tally *t, const uint8_t *f, size_t size, uint32_t off, uint32_t len) {
-    uint32_t most = size - 10 < 255 ? (uint32_t)size - 10 : 255, sum = check_sum(f, size - 4);
+    uint32_t most = size - 10 < 254 ? (uint32_t)size - 10 : 254, sum = check_sum(f, size - 4);
     if (len < 1 || len > most || (size_t)off + len > t->flown) return "a frame's bounds";
     if (f[0] != 3 || f[1] != 0 || f[5] != len) return "a frame's kind, flags or length";
     if (f[2] != (uint8_t)off || f[3] != (uint8_t)(off >> 8) || f[4] != (uint8_t)(off >> 16)) return "a frame's offset";

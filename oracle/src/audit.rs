@@ -21,7 +21,7 @@ use crate::progress::Progress;
 use crate::shrink::shrink;
 use crate::transcript;
 
-const FLYING_MOST: usize = 16_320;
+const FLYING_MOST: usize = 16_256;
 const PIECES_MOST: usize = 2_048;
 const HOLD_END_MOST: f64 = 1_001_000_000.0;
 
@@ -890,8 +890,10 @@ pub fn audit(seed: u64, lists: u64, calls: usize, kind: Option<&'static str>) ->
     }
     progress.done();
     println!(
-        "audit: no violation in {} lists, {} calls (seed {seed})",
-        reached.lists, reached.calls
+        "audit of {}: no violation in {} lists, {} calls (seed {seed})",
+        original(),
+        reached.lists,
+        reached.calls
     );
     print!("{}", reached.text());
     Ok(())

@@ -8,6 +8,7 @@ use std::time::{Duration, Instant};
 
 use crate::generate;
 use crate::list::{Item, text};
+use crate::profile::original;
 use crate::progress::Progress;
 use crate::shrink::shrink;
 use crate::transcript::transcript;
@@ -80,7 +81,7 @@ pub fn compare(program: &str, seconds: u64, seed: u64, kind: Option<&'static str
             let theirs = other(program, &list)?;
             let (line, want, got) = first_difference(transcript(&list).as_bytes(), &theirs);
             println!("# difference at line {line} of the transcript");
-            println!("# the original: {want}");
+            println!("# {}: {want}", original());
             println!("# the program:  {got}");
             println!("# seed {seed}, list {lists}, {length} calls, {kind}, shrunk");
             print!("{}", String::from_utf8_lossy(&list));
@@ -94,6 +95,9 @@ pub fn compare(program: &str, seconds: u64, seed: u64, kind: Option<&'static str
         progress.show(|| format!("compare: {lists} lists, {calls} calls alike"));
     }
     progress.done();
-    println!("compare: {lists} lists, {calls} calls, {lines} lines of transcript alike (seed {seed})");
+    println!(
+        "compare with {}: {lists} lists, {calls} calls, {lines} lines of transcript alike (seed {seed})",
+        original()
+    );
     Ok(())
 }

@@ -247,7 +247,7 @@ impl Decisions {
 fn generated(seed: u64, index: u64) -> Decisions {
     let kind = KINDS[(index % KINDS.len() as u64) as usize];
     let mut made: Option<Decisions> = None;
-    for item in generate::list(seed, index, CALLS, kind) {
+    for item in generate::list_of_all_frames(seed, index, CALLS, kind) {
         match item {
             Item::Profile(p) => made = Some(Decisions::new(p)),
             Item::Call(call) => made.as_mut().expect("a profile comes first").call(&call),

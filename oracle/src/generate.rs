@@ -1,13 +1,14 @@
 //! Generated call lists. The original is driven as a list is written, so
 //! replies answer what it sent.
 
-use std::cell::RefCell;
+use std::cell::{Cell, RefCell};
 
 use crate::harness::{AREA_BYTES, Answer, Burst, Harness, LAST_SECOND, WAITING_MOST};
 use crate::levels;
+use crate::link::frame::Frame;
 use crate::list::{AREA_MOST, Call, Item, LONGEST_LINE, OUT_MOST, Said, text};
 use crate::messages::MESSAGES_MOST;
-use crate::profile::{DBS, EFF_THRESHOLDS, FRAME_BYTES, LEVELS, ON, POWER, Profile, THRESHOLDS, Value, on, payload_of};
+use crate::profile::{DBS, EFF_THRESHOLDS, FRAME_BYTES, LEVELS, ON, POWER, Profile, THRESHOLDS, Value, on};
 use crate::profiles;
 use crate::rng::Rng;
 
@@ -32,6 +33,8 @@ enum Far {
 thread_local! {
     /// The list under way: what is left of it where the original panics.
     static MADE: RefCell<Vec<Item>> = const { RefCell::new(Vec::new()) };
+    /// Whether frames that are not compared are left as they are.
+    static ALL_FRAMES: Cell<bool> = const { Cell::new(false) };
 }
 
 /// The list under way, taken.
@@ -75,6 +78,11 @@ impl<'a> Driver<'a> {
         let loss_in = r.pick(&[2, 3, 6, 12]);
         let state_in = r.pick(&[4, 6, 12]);
         let largest_queue = r.pick(&[60, 400, 2000, 6000]);
+        let profile = if ALL_FRAMES.get() {
+            profile
+        } else {
+            profiles::compared(profile)
+        };
         MADE.with_borrow_mut(|made| made.push(Item::Profile(profile.clone())));
         Self {
             r,
@@ -238,7 +246,7 @@ impl<'a> Driver<'a> {
         let n = match self.r.below(20) {
             0 => 0,
             1 => room.min(self.largest_queue as usize),
-            2 => payload_of(self.h.profile.whole(FRAME_BYTES, 1)).min(room),
+            2 => Frame::max_payload(self.h.profile.whole(FRAME_BYTES, 1) as usize).min(room),
             _ => self.r.within(0, most) as usize,
         };
         let bytes = if self.r.once_in(10) {
@@ -854,7 +862,7 @@ impl Driver<'_> {
     fn message_len(&mut self, mail: Mail) -> usize {
         let room = WAITING_MOST - self.h.station.out.len();
         let frame = self.r.below(2) as usize;
-        let payload = payload_of(self.h.profile.whole(FRAME_BYTES, frame));
+        let payload = Frame::max_payload(self.h.profile.whole(FRAME_BYTES, frame) as usize);
         let n = match self.r.below(16) {
             0 => 0,
             1 | 2 => payload,
@@ -1319,6 +1327,14 @@ pub fn list(seed: u64, index: u64, calls: usize, kind: &str) -> Vec<Item> {
     }
     d.run(calls);
     made()
+}
+
+/// The same with frames of all sizes, for the gear alone: it reads no payload.
+pub fn list_of_all_frames(seed: u64, index: u64, calls: usize, kind: &str) -> Vec<Item> {
+    ALL_FRAMES.set(true);
+    let items = list(seed, index, calls, kind);
+    ALL_FRAMES.set(false);
+    items
 }
 
 /// A kind for list `index` where none is asked for.

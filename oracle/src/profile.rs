@@ -4,6 +4,7 @@
 use std::fmt;
 
 use crate::active::Numbers;
+use crate::link::frame::Frame;
 use crate::link::station::{Air, Config, Gear};
 
 #[derive(Clone, Copy, Debug)]
@@ -311,9 +312,23 @@ impl Profile {
     }
 }
 
-/// Payload bytes of a frame of `size` bytes.
+/// Whether the original was edited to payloads of at most 254 bytes (`oracle/run-edited`).
+pub fn edited() -> bool {
+    Frame::max_payload(512) == 254
+}
+
+/// What answers here.
+pub fn original() -> &'static str {
+    if edited() {
+        "the original, edited to payloads of at most 254 bytes"
+    } else {
+        "the original"
+    }
+}
+
+/// Payload bytes of a frame of `size` bytes, as document 02 (Change 5) has them.
 pub fn payload_of(size: u64) -> usize {
-    (size as usize - 10).min(255)
+    (size as usize - 10).min(254)
 }
 
 impl fmt::Display for Profile {

@@ -15,6 +15,18 @@ fn set_whole(p: &mut Profile, line: usize, at: usize, x: u64) {
     p.values[line][at] = Value::Whole(x);
 }
 
+/// `p` with frames of at most 264 bytes, unless it is refused: in longer ones the original sends payloads of 255 bytes, which are reserved
+/// (document 02, Change 5). A longer one becomes 264, one in eight 263. The edited original is run with frames of all sizes.
+pub fn compared(mut p: Profile) -> Profile {
+    if !edited() && p.refusal().is_none() {
+        let (short, long) = (p.whole(FRAME_BYTES, 0), p.whole(FRAME_BYTES, 1));
+        let long = long.min(if long % 8 == 7 { 263 } else { 264 });
+        set_whole(&mut p, FRAME_BYTES, 0, short.min(long));
+        set_whole(&mut p, FRAME_BYTES, 1, long);
+    }
+    p
+}
+
 fn frame_sizes(r: &mut Rng, p: &mut Profile) {
     let (a, b) = match r.below(8) {
         0 => (18, 512),

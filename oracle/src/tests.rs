@@ -744,3 +744,23 @@ fn lists_come_back_from_their_text() {
         .count();
     assert!((20..40).contains(&errors), "{errors} of 40 lists end in an error");
 }
+
+/// The original is run with long frames of at most 264 bytes, where it sends no payload of 255 bytes; with 263 and 264 too.
+#[test]
+fn frames_that_are_compared() {
+    assert!(!edited());
+    let mut seen = [false; 2];
+    for kind in generate::KINDS.into_iter().filter(|&kind| kind != "lines") {
+        for index in 0..60 {
+            for item in generate::list(5, index, 10, kind) {
+                let Item::Profile(p) = item else { continue };
+                let long = p.whole(FRAME_BYTES, 1);
+                assert!(long <= 264 || p.refusal().is_some(), "{kind}: frames of {long} bytes");
+                for (i, size) in [263, 264].into_iter().enumerate() {
+                    seen[i] |= long == size && p.refusal().is_none();
+                }
+            }
+        }
+    }
+    assert_eq!(seen, [true; 2]);
+}

@@ -66,7 +66,7 @@ fn compare_agrees_with_itself() {
     let same = wrapper("same", "");
     let o = oracle(&["compare", same.to_str().unwrap(), "1", "6"], "");
     assert!(o.status.success());
-    assert!(stdout(&o).starts_with("compare: "));
+    assert!(stdout(&o).starts_with("compare with the original: "));
 }
 
 #[test]
@@ -89,5 +89,5 @@ fn compare_finds_and_shrinks_a_difference() {
 fn audit_reports_what_it_reached() {
     let o = oracle(&["audit", "3", "60", "40"], "");
     assert!(o.status.success());
-    assert!(stdout(&o).starts_with("audit: no violation in 60 lists, "));
+    assert!(stdout(&o).starts_with("audit of the original: no violation in 60 lists, "));
 }

@@ -141,13 +141,13 @@ fn print(name: &[u8], value: u32) {
 }
 
 // The payloads: byte i is 7 i + 3 modulo 256.
-fn pattern() -> [u8; 255]
-    ensures { λ r. ⌜ 255 ≡ length r ⌝ }
+fn pattern() -> [u8; 254]
+    ensures { λ r. ⌜ 254 ≡ length r ⌝ }
 {
-    let mut p = [0u8; 255];
+    let mut p = [0u8; 254];
     let mut x: u32 = 3;
     let mut i = 0;
-    while i < 255 {
+    while i < 254 {
         p[i] = (x % 256) as u8;
         x = (x + 7) % 256;
         i += 1;
@@ -210,8 +210,8 @@ fn frame_cases(t: &[u32; 256])
     );
     frame_case(
         t,
-        b"255 bytes in 512, offset 4294967295: by the rule ",
-        255,
+        b"254 bytes in 512, offset 4294967295: by the rule ",
+        254,
         512,
         4294967295,
     );

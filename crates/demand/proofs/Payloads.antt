@@ -4,16 +4,20 @@ use Prim.Native.Nat.{ℕ, zero, suc, _+_, _-_, _≤_}
 use mathlib.Core.Path.{_≡_, refl, sym, ap, ap₂, _∙_, subst}
 use mathlib.Core.List.{List, [], _∷_, _++_, map, append-assoc}
 use native.Mathlib.Omega.{arith}
+use lib.Dec.{eqb}
 use lib.ListN.{length, take, drop, take-append-drop, length-append, length-take, length-drop}
 use Rattle.laws.proofs.Lists.{map-map, map-id, map-append}
+use Rattle.laws.proofs.Picks.{test}
+use Rattle.limits.specs.Limits.{longestPayload}
 use Rattle.frame.specs.Frame.{frameOf}
-use Rattle.ledger.specs.Ledger.{Piece, Sent, Frame, find}
+use Rattle.ledger.specs.Ledger.{Piece, Sent, Frame, end, find}
 use Rattle.ledger.specs.LedgerCode.{frames}
 use Rattle.ledger.specs.Tally.{Tally, unacked, byteOf, furthest, waits, sentOut, feed, went}
 use Rattle.ledger.proofs.Queue.{goes-flies}
 use Rattle.ledger.specs.ClaimCode.{Carry}
+use Rattle.ledger.specs.CoverCode.{Ascend}
 use Rattle.pieces.specs.Burst.{framesSent}
-use Rattle.demand.specs.Page.{byOffset, Taken, framesOfTaken}
+use Rattle.demand.specs.Page.{byOffset, Taken, NoneReserved, framesOfTaken}
 
 pub take-drop-more : (n o : ℕ) (bs ys : List ℕ) → n ≤ length (take n (drop o bs)) → take n (drop o (bs ++ ys)) ≡ take n (drop o bs)
 take-drop-more zero o bs ys h = refl
@@ -47,3 +51,14 @@ within bs ys ps (f ∷ fs) h = (
   omega (arith, h .0, h .1, ap length (h .2), length-take (f .len) (drop (f .off) bs), length-drop (f .off) bs, length-append bs ys),
   within bs ys ps fs (h .3),
 )
+
+-- a piece has at most m bytes
+find-most : (m k n o : ℕ) (ps : List Piece) → Ascend m k n ps → length (find o ps) ≤ m
+find-most m k n o [] a = omega arith
+find-most m k n o (p ∷ ps) a = test (eqb o (p .off)) (λ e. rw e (a .2)) (λ e. rw e (find-most m (end p) n o ps (a .3)))
+
+-- frames that carry pieces are no longer than these
+pub none-reserved : (m n : ℕ) (bs : List ℕ) (ps : List Piece) (fs : List Frame)
+    → m ≤ longestPayload → Ascend m 0 n ps → Carry bs ps fs → NoneReserved fs
+none-reserved m n bs ps [] h a c = tt
+none-reserved m n bs ps (f ∷ fs) h a c = (omega (arith, h, c .1, find-most m 0 n (f .off) ps a), none-reserved m n bs ps fs h a (c .3))

@@ -26,6 +26,7 @@ use Rattle.record.specs.Profiles.{sizesOf}
 use Rattle.outgoing.specs.declared.Outgoing.{Outgoing}
 use Rattle.outgoing.specs.Outgoing.{padded, framesOut, headed, outgoing, output, after, burstOf}
 use Rattle.outgoing.specs.Choosing.{choice, cue}
+use Rattle.invariant.proofs.Ledgers.{Kept}
 use Rattle.invariant.proofs.Well.{well-kept}
 use Rattle.ledger.specs.Station as St
 use Rattle.queuing.specs.Station.{viewStation}
@@ -40,7 +41,7 @@ use Rattle.demand.specs.Lists.{Call, bursts, shown, framesAnswered, next
 use Rattle.demand.specs.Page.{byOffset, Taken, framesOfTaken, sumOf, onAir, allowance, anyIncrement, anyWhole, messages, bytes, c, s, t, answer, leaves, Sends}
 use Rattle.demand.proofs.Answers.{burst-is, burst-told, burst-verdict}
 use Rattle.demand.proofs.Steps.{sizes, Ok, does-burst, taken}
-use Rattle.demand.proofs.Payloads.{sent-taken, sent-bytes, within}
+use Rattle.demand.proofs.Payloads.{sent-taken, sent-bytes, within, none-reserved}
 use Rattle.demand.proofs.OnTime.{on-time, sum-bits}
 
 module _ (p : Profile) (rg : Ranged p) (io : inOrder p ≡ true) (six : length (p .codes .ends) ≤ 6) (n : ℕ) (is : List Call)
@@ -95,10 +96,13 @@ module _ (p : Profile) (rg : Ranged p) (io : inOrder p ≡ true) (six : length (
       (subst (Carry (map byteOf (t′ .flown)) (s′ .pieces)) frames-are carried)
       ∙ ap₂ (framesOfTaken size) same-bytes (sym frames-are))
 
+  kept : Kept (sizesOf p) s′
+  kept =
+      burst-kept (sizesOf p) (sizes p rg io six) _ _ (choice-fits p rg (c p n is .0 .sender) (c p n is .1) (w .well) six)
+      (well-kept p (c p n is .0 .sender) (c p n is .1) (w .well))
+
   few : length (s′ .sent) ≤ maxSlots
-  few =
-      let k = burst-kept (sizesOf p) (sizes p rg io six) _ _ (choice-fits p rg (c p n is .0 .sender) (c p n is .1) (w .well) six) (well-kept p (c p n is .0 .sender) (c p n is .1) (w .well)) in
-      omega (arith, k .sound .outFew)
+  few = omega (arith, kept .sound .outFew)
 
   count-is : answer p n is out .frames .n ≡ length (s′ .sent)
   unfolding outgoing headed framesOut
@@ -137,6 +141,7 @@ module _ (p : Profile) (rg : Ranged p) (io : inOrder p ≡ true) (six : length (
   sends =
       record {
         frames = subst (λ (b : List ℕ). Taken b (framesAnswered (answer p n is out .frames))) same-bytes (within _ _ _ (framesAnswered (answer p n is out .frames)) carried);
+        lengths = none-reserved _ _ _ _ (framesAnswered (answer p n is out .frames)) (sizes p rg io six .most) (kept .sound .ascend) carried;
         output = written;
         some = some-frame;
         air = in-time;

@@ -12,7 +12,7 @@ use lib.Ieee.{Float, le}
 use lib.ListN.{length, take, drop}
 use Rattle.laws.specs.Bytes.{overwrite}
 use Rattle.laws.specs.Lists.{listed}
-use Rattle.limits.specs.Limits.{maxFlying, maxPieces}
+use Rattle.limits.specs.Limits.{longestPayload, maxFlying, maxPieces}
 use Rattle.float.specs.Pick.{maxF}
 use Rattle.frame.specs.Frame.{frameOf}
 use Rattle.config.specs.Durations.{frameBytes, dataAt}
@@ -72,7 +72,7 @@ pub record Accounts (ms : List Message) (t : Tally) (s : L.Station) : Type 0 whe
   pub holds : Hold (byOffset t) (s .sender .pieces)
   pub acked : s .sender .acked ≡ acknowledged (t .flown)
   pub next : s .sender .next ≡ length (t .flown)
-  -- at most 16,320 bytes fly, in at most 2,048 pieces
+  -- at most 16,256 bytes fly, in at most 2,048 pieces
   pub flying : inFlight (t .flown) ≤ maxFlying
   pub pieces : length (s .sender .pieces) ≤ maxPieces
 
@@ -88,6 +88,11 @@ pub record Further (t : Tally) (s : Sender) (e : Event) (s′ : Sender) : Type 0
 abbrev pub Taken : List ℕ → List Frame → Type 0
 Taken bytes [] = Unit {0}
 Taken bytes (f ∷ fs) = (1 ≤ f .len) × (f .off + f .len ≤ length bytes) × Taken bytes fs
+
+-- "A payload has at most 254 bytes": no frame's length, which is what its length byte says, is 255
+abbrev pub NoneReserved : List Frame → Type 0
+NoneReserved [] = Unit {0}
+NoneReserved (f ∷ fs) = (f .len ≤ longestPayload) × NoneReserved fs
 
 -- frames of `size` bytes, back to back, each with the bytes taken at its full offset, as many as its length says
 abbrev pub framesOfTaken : ℕ → List ℕ → List Frame → List ℕ
@@ -147,6 +152,7 @@ module _ (p : Profile) (n : ℕ) (is : List Call) where
     pub record Sends : Type 0 where
       -- the output has the answer's frames, each with the bytes taken at its full offset, and nothing else
       pub frames : Taken bytes (framesAnswered (answer .frames))
+      pub lengths : NoneReserved (framesAnswered (answer .frames))
       pub output : burstCall p (c .0) (c .1) out .1 .1
           ≡ overwrite out 0 (framesOfTaken (frameBytes p (c .0 .sender .gear .level)) bytes (framesAnswered (answer .frames)))
       -- where any byte flies or waits it has a frame

@@ -1,5 +1,5 @@
--- The test against WINDOW_BYTES never stops a chunk: at most 16,320 bytes are in flight when a burst cuts its first new piece, and it
--- cuts at most 64 of at most 255 bytes.
+-- The test against WINDOW_BYTES never stops a chunk: at most 16,256 bytes are in flight when a burst cuts its first new piece, and it
+-- cuts at most 64 of at most 254 bytes.
 -- Assumes nothing.
 use mathlib.Core.Path.{_≡_, refl, sym, ap, subst}
 use mathlib.Core.Bool.{true}

@@ -9,15 +9,16 @@ use lib.ListN.{length, replicate, length-append, length-replicate}
 use Rattle.laws.specs.Bytes.{overwrite, part}
 use Rattle.laws.proofs.Bytes.{over-cat, part-same}
 use Rattle.laws.specs.Little.{le}
+use Rattle.limits.specs.Limits.{longestPayload}
 use Rattle.frame.specs.V42.{fcs, number}
 use Rattle.frame.specs.Frame.{maxPayload, headOf, bodyOf, frameOf}
 
 -- a payload that is no longer than the most
 pub room : (size n : ℕ) → 10 ≤ size → n ≤ maxPayload size → n + 10 ≤ size
-room size n h k = omega (arith, min-le-left (size - 10) 255)
+room size n h k = omega (arith, min-le-left (size - 10) longestPayload)
 
-pub short : (size n : ℕ) → n ≤ maxPayload size → n < 256
-short size n k = omega (arith, min-le-right (size - 10) 255)
+pub short : (size n : ℕ) → n ≤ maxPayload size → n < 255
+short size n k = omega (arith, min-le-right (size - 10) longestPayload)
 
 pub length-body : (size off : ℕ) (payload : List ℕ) → length payload + 10 ≤ size → length (bodyOf size off payload) ≡ size - 4
 length-body size off payload k =

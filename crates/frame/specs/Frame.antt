@@ -6,7 +6,7 @@ use Rattle.laws.specs.Little.{le}
 use Rattle.limits.specs.Limits.{longestPayload}
 use Rattle.frame.specs.V42.{fcs, number}
 
--- Frame::max_payload: min(size - 10, 255)
+-- Frame::max_payload, and "a payload has at most 254 bytes" (document 02, Change 5): min(size - 10, 254)
 abbrev pub maxPayload : ℕ → ℕ
 maxPayload size = min (size - 10) longestPayload
 

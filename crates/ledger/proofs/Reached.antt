@@ -1,4 +1,4 @@
--- The limits 16,320 bytes and 2,048 pieces are reached exactly.
+-- The limits 16,256 bytes and 2,048 pieces are reached exactly.
 -- Assumes nothing.
 use Prim.Native.Nat.{ℕ, _≤_}
 use mathlib.Core.Path.{_≡_, refl}

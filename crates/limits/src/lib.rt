@@ -1,7 +1,7 @@
 // The papers' limits, each named once in code and once in specs/Limits.antt. The crate has no function.
 
-// Payload bytes of a frame at most: its length is one byte.
-pub const MAX_PAYLOAD: usize = 255;
+// Payload bytes of a frame at most: length byte 255 is reserved.
+pub const MAX_PAYLOAD: usize = 254;
 
 // Codewords that the peer holds, and frames of a burst, at most.
 pub const MAX_SLOTS: usize = 64;
@@ -12,8 +12,8 @@ pub const PARTIAL_MAX: usize = 62;
 // Frames that a short ack lists, and so the frames of a burst at a short level at most.
 pub const TINY_ACK_FRAMES: usize = 6;
 
-// Bytes in flight at most: 16,320.
-pub const MAX_FLYING: u32 = 64 * 255;
+// Bytes in flight at most: 16,256.
+pub const MAX_FLYING: u32 = 64 * 254;
 
 // Pieces at most.
 pub const MAX_PIECES: usize = 2048;

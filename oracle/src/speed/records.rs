@@ -141,7 +141,7 @@ fn profile(r: &mut Rng) -> Profile {
             _ => profiles::usual(r),
         };
         if p.refusal().is_none() {
-            return p;
+            return profiles::compared(p);
         }
     }
 }
@@ -249,7 +249,7 @@ impl Both {
         let (mut flying, mut shorts, mut offsets) = (0, 0, Vec::new());
         for _ in 0..r.below(70) {
             let len = r.within(1, long as u64) as usize;
-            if flying + len > 16320 || shorts + len.div_ceil(short) > 2048 {
+            if flying + len > 16256 || shorts + len.div_ceil(short) > 2048 {
                 break;
             }
             next += r.pick(&[0, 0, 1, 300]);

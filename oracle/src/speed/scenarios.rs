@@ -56,19 +56,19 @@ fn ladder() -> Profile {
     p
 }
 
-/// 64 frames of 512 bytes fit a burst.
+/// 64 frames of 264 bytes fit a burst.
 fn largest() -> Profile {
     let mut p = Profile::usual();
-    set(&mut p, FRAME_BYTES, 1, Value::Whole(512));
+    set(&mut p, FRAME_BYTES, 1, Value::Whole(264));
     set(&mut p, 16, 2, Value::F64(16_800.0));
     p
 }
 
-/// 255 bytes are cut to 32 pieces at the short levels; 64 frames of 8 bits fit a burst, and stay held for 4,096 of them.
+/// 254 bytes are cut to 32 pieces at the short levels; 64 frames of 8 bits fit a burst, and stay held for 4,096 of them.
 fn short_pieces(merge: bool) -> Profile {
     let mut p = pinned(16);
     set(&mut p, FRAME_BYTES, 0, Value::Whole(18));
-    set(&mut p, FRAME_BYTES, 1, Value::Whole(512));
+    set(&mut p, FRAME_BYTES, 1, Value::Whole(264));
     set(&mut p, 16, 0, Value::Whole(8));
     p.values[HARQ] = vec![Value::Whole(1); 7];
     set(&mut p, HARQ, 0, Value::Whole(16_384));
@@ -89,7 +89,7 @@ pub fn links() -> Vec<Link> {
         link("pinned 0", pinned(0), 8 * 22, all),
         link("Ladder", ladder(), WAITING_MOST, all),
         link("one third lost and held", Profile::usual(), WAITING_MOST, two_thirds),
-        link("64 frames of 512 bytes", largest(), WAITING_MOST, all),
+        link("64 frames of 264 bytes", largest(), WAITING_MOST, all),
     ]
 }
 
@@ -144,12 +144,12 @@ impl Link {
     }
 }
 
-/// A sender with 64 pieces of 255 bytes in flight, just before it cuts them to 2,048.
+/// A sender with 64 pieces of 254 bytes in flight, just before it cuts them to 2,048.
 pub fn before_split<M: Meter>(meter: M, merge: bool) -> Pair<M> {
     let mut pair = Pair::new(meter, &short_pieces(merge), REPORT_DB);
     pair.queue(&bytes());
     let sent = pair.burst();
-    assert_eq!((sent.frames, pair.original.out.len()), (64, 64));
+    assert_eq!((sent.frames, pair.original.out.len()), (64, 128));
     pair.turn(2, REPORT_DB);
     pair
 }

@@ -21,8 +21,8 @@ ends : (i count size : ℕ) → i < count → i * size + size ≤ count * size
 ends i count size h = let e : i * size + size ≡ (i + 1) * size = sym (add-mul i 1 size ∙ ap (λ (x : ℕ). i * size + x) (one-mul size)) in rw e (mul-le-mul-right size (omega arith))
 
 -- an offset is small
-offset : (i count n size : ℕ) → i < count → count ≤ 64 → n ≤ maxPayload size → i * n ≤ 16320
-offset i count n size h k m = mul-le-mul {m₁ = n} {n₂ = 64} {m₂ = 255} (omega arith) (omega (arith, short size n m))
+offset : (i count n size : ℕ) → i < count → count ≤ 64 → n ≤ maxPayload size → i * n ≤ 16256
+offset i count n size h k m = mul-le-mul {m₁ = n} {n₂ = 64} {m₂ = 254} (omega arith) (omega (arith, short size n m))
 
 abbrev Inv-loop : tie.InvT-loop
 Inv-loop out₀ count size payload t n i₀ out i =
@@ -46,7 +46,7 @@ start c = loop-of c .before .before .before .before
 fits : (c : tie.After-encode-arg Inv-loop μ-loop) → loop-of c .loop .i * start c .args .size + start c .args .size ≤ length (now (start c .args .out))
 fits c = le-trans (ends (loop-of c .loop .i) (start c .args .count) (start c .args .size) (c .before .before .loop-test .taken)) (start c .pre .2)
 
-near : (c : tie.After-encode-arg Inv-loop μ-loop) → loop-of c .loop .i * length (now (start c .args .payload)) ≤ 16320
+near : (c : tie.After-encode-arg Inv-loop μ-loop) → loop-of c .loop .i * length (now (start c .args .payload)) ≤ 16256
 near c =
     offset (loop-of c .loop .i) (start c .args .count) (length (now (start c .args .payload))) (start c .args .size) (c .before .before .loop-test .taken)
     (start c .pre .0) (start c .pre .3)

@@ -1,4 +1,4 @@
--- `pattern` meets its contract: 255 bytes.
+-- `pattern` meets its contract: 254 bytes.
 use mathlib.Core.Path.{_≡_}
 use Prim.Native.Nat.{_-_, _≤_, _<_}
 use lib.ListN.{length}
@@ -7,10 +7,10 @@ use Rattle.check_sums.proofs.pattern.Statement.{statement}
 use Rattle.check_sums.proofs.pattern.Tie as tie
 
 abbrev Inv-loop : tie.InvT-loop
-Inv-loop p₀ x₀ i₀ p x i = (i ≤ 255) × (x < 256) × (255 ≡ length p)
+Inv-loop p₀ x₀ i₀ p x i = (i ≤ 254) × (x < 256) × (254 ≡ length p)
 
 abbrev μ-loop : tie.MeasureT-loop
-μ-loop p₀ x₀ i₀ p x i = 255 - i
+μ-loop p₀ x₀ i₀ p x i = 254 - i
 
 loop-holds : tie.Need-loop-holds Inv-loop μ-loop
 loop-holds c = search needs
