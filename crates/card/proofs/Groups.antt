@@ -10,7 +10,7 @@ use Rattle.laws.specs.Little.{le}
 use Rattle.laws.proofs.Little.{num-le4}
 use Rattle.config.specs.declared.Air.{Air}
 use Rattle.config.specs.declared.Marks.{Marks}
-use Rattle.card.specs.Card.{row, packed, bits32, bits64, levelsOf, wavesOf, marksOf, singleAt}
+use Rattle.card.specs.Card.{row, packed, bits32, bits64, levelsOf, wavesOf, marksBytes, cardSingle}
 use Rattle.card.specs.Claims.{Floats, Numbers, TypedAir, TypedMarks}
 use Rattle.card.proofs.Pack.{row-long, length-packed}
 use Rattle.card.proofs.Back.{num-le8, at-back, row-back, double-back, double-small, single-back, single-small, floats-back}
@@ -107,19 +107,19 @@ module _ (xs : List ℕ) (m : Marks) (rest : List ℕ) (i : ℕ) (h : length xs 
   unfolding R
   longR = row-long bits32 4 17 (m .«thresholds_db») (t .thresholds .0)
 
-  whole : xs ++ (marksOf m ++ rest) ≡ xs ++ (R ++ (le 4 (bits32 (m .«margin_db»)) ++ rest))
-  unfolding marksOf R
+  whole : xs ++ (marksBytes m ++ rest) ≡ xs ++ (R ++ (le 4 (bits32 (m .«margin_db»)) ++ rest))
+  unfolding marksBytes R
   whole = ap (λ (r : List ℕ). xs ++ r) (append-assoc R (le 4 (bits32 (m .«margin_db»))) rest)
 
-  pub marks-row : map (ofBits binary32) (row 4 17 (xs ++ (marksOf m ++ rest)) i) ≡ m .«thresholds_db»
+  pub marks-row : map (ofBits binary32) (row 4 17 (xs ++ (marksBytes m ++ rest)) i) ≡ m .«thresholds_db»
   unfolding R
   marks-row = ap (λ (l : List ℕ). map (ofBits binary32) (row 4 17 l i)) whole ∙ singles-row xs _ i 17 h (m .«thresholds_db»)
       (t .thresholds)
 
-  pub margin-back : singleAt (xs ++ (marksOf m ++ rest)) (i + 68) ≡ m .«margin_db»
+  pub margin-back : cardSingle (xs ++ (marksBytes m ++ rest)) (i + 68) ≡ m .«margin_db»
   margin-back =
       let v = bits32 (m .«margin_db») in
       let long : length (xs ++ R) ≡ i + 68 = length-append xs R ∙ (λ j. h j + longR j) in
-      ap (λ (l : List ℕ). singleAt l (i + 68)) (whole ∙ sym (append-assoc xs R (le 4 v ++ rest)))
+      ap (λ (l : List ℕ). cardSingle l (i + 68)) (whole ∙ sym (append-assoc xs R (le 4 v ++ rest)))
       ∙ ap (ofBits binary32) (at-back 4 (xs ++ R) v rest (i + 68) long (num-le4 _ (single-small _ (t .margin)))) ∙ single-back _
       (t .margin)

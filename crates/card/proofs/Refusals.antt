@@ -13,7 +13,7 @@ use Rattle.laws.proofs.Tests.{all-at}
 use Rattle.laws.proofs.Picks.{test}
 use Rattle.config.specs.declared.Profile.{Profile}
 use Rattle.config.specs.Ranges.{inRange, inOrder}
-use Rattle.card.specs.Card.{at, versionBad, optionsOk, countsOk, fileRefusal, profileRefusal, readRefusal, readOf, optionsIn}
+use Rattle.card.specs.Card.{at, versionBad, optionsOk, countsAgree, fileRefusal, contentRefusal, readRefusal, readOf, optionsIn}
 use Rattle.card.specs.Card.{profileOf, cardOf, writeRefusal, writeOf}
 
 -- ---- the version
@@ -37,13 +37,13 @@ options-least v n e =
     (λ y. let h : leb 142 n ≡ true = rw y at e in leb-true 142 n h)
 
 -- a file whose counts agree has the four sections
-pub counts-long : (b : List ℕ) → countsOk b ≡ true → 751 ≤ length b
-unfolding countsOk
+pub counts-long : (b : List ℕ) → countsAgree b ≡ true → 751 ≤ length b
+unfolding countsAgree
 counts-long b e =
     omega (arith, options-least (getD b 0 0) (at 2 b 607) (all-at _ 3 e), eqb-true (length b) (609 + at 2 b 607) (all-at _ 4 e))
 
-pub counts-short : (b : List ℕ) → length b < 751 → false ≡ countsOk b
-counts-short b h = test (countsOk b) (λ e. absurd (omega (arith, counts-long b e))) (λ e. sym e)
+pub counts-short : (b : List ℕ) → length b < 751 → false ≡ countsAgree b
+counts-short b h = test (countsAgree b) (λ e. absurd (omega (arith, counts-long b e))) (λ e. sym e)
 
 -- ---- the file and then the profile
 
@@ -52,7 +52,7 @@ unfolding readRefusal readOf
 read-file b before r e n = rw (← e) (rw (ne-eqb r 0 n) (rw (ne-eqb r 0 n) refl))
 
 module _ (b : List ℕ) (before : Profile) (f r : ℕ) (file : f ≡ fileRefusal b) (good : f ≡ 0)
-    (e : r ≡ profileRefusal (optionsIn b) (profileOf b)) where
+    (e : r ≡ contentRefusal (optionsIn b) (profileOf b)) where
   whole : readRefusal b ≡ r
   unfolding readRefusal
   whole = rw (← file, eq-eqb f 0 good) (sym e)

@@ -17,10 +17,10 @@ use Rattle.laws.proofs.Bytes.{part-in}
 use Rattle.laws.proofs.Span.{all-every}
 use Rattle.config.specs.declared.Profile.{Profile}
 use Rattle.config.specs.Ranges.{inRange, inOrder}
-use Rattle.card.specs.Card.{at, row, packed, bits32, bits64, bit, levelsOf, wavesOf, marksOf, thresholdsOf, doubles, wholes}
+use Rattle.card.specs.Card.{at, row, packed, bits32, bits64, flagByte, levelsOf, wavesOf, marksBytes, thresholdsOf, doubles, wholes}
 use Rattle.card.specs.Card.{singles}
-use Rattle.card.specs.Card.{smallsOf, places, optionsOf, cardOf, cardBytes, placeAt, flagAt, placeOk, airIn, marksIn, codesIn}
-use Rattle.card.specs.Card.{lengthsIn, holdsIn, profileIn, profileOf, versionBad, placesOk, fileRefusal, profileRefusal, readOf}
+use Rattle.card.specs.Card.{smallsOf, onOffPlaces, optionsOf, cardOf, cardBytes, placeAt, cardFlag, placeOk, airIn, marksIn, codesIn}
+use Rattle.card.specs.Card.{lengthsIn, holdsIn, profileIn, profileOf, versionBad, placesOk, fileRefusal, contentRefusal, readOf}
 use Rattle.card.specs.Card.{writeRefusal, writeOf}
 use Rattle.card.specs.Claims.{Typed, RoundTrip}
 use Rattle.card.proofs.Pack.{length-packed, row-long}
@@ -30,11 +30,11 @@ use Rattle.card.proofs.Sections.{levels-back, waves-back, thresholds-ba
 use Rattle.card.proofs.Groups.{numbers-row, doubles-row, singles-row, slots-back, pre-back, rate-back, most-back, acks-back}
 use Rattle.card.proofs.Groups.{marks-row, margin-back}
 
-bit-back : (b : Bool) → eqb (bit b) 1 ≡ b
+bit-back : (b : Bool) → eqb (flagByte b) 1 ≡ b
 bit-back true = refl
 bit-back false = refl
 
-bit-small : (b : Bool) → leb (bit b) 1 ≡ true
+bit-small : (b : Bool) → leb (flagByte b) 1 ≡ true
 bit-small true = refl
 bit-small false = refl
 
@@ -51,7 +51,7 @@ module _ (p : Profile) (t : Typed p) where
   C = packed 4 (map bits32 (singles p))
 
   D : List ℕ
-  D = smallsOf p ++ map bit (places p)
+  D = smallsOf p ++ map flagByte (onOffPlaces p)
 
   longA : length A ≡ 64
   unfolding A
@@ -112,45 +112,45 @@ module _ (p : Profile) (t : Typed p) where
   pin-back =
       ap (λ (l : List ℕ). num (take 8 l)) (sym (drop-drop 3 116 (optionsOf p)) ∙ ap (drop 3) behind) ∙ num-le8 _ (t .pin)
 
-  behind-smalls : drop 127 (optionsOf p) ≡ map bit (places p)
+  behind-smalls : drop 127 (optionsOf p) ≡ map flagByte (onOffPlaces p)
   unfolding D smallsOf
   behind-smalls = sym (drop-drop 11 116 (optionsOf p)) ∙ ap (drop 11) behind
 
-  place-back : (i : ℕ) → placeAt (optionsOf p) i ≡ bit (getD (places p) i false)
+  place-back : (i : ℕ) → placeAt (optionsOf p) i ≡ flagByte (getD (onOffPlaces p) i false)
   place-back i =
-      sym (getD-drop 127 (optionsOf p) i 0) ∙ ap (λ (l : List ℕ). getD l i 0) behind-smalls ∙ List·getD-map bit (places p) i false
+      sym (getD-drop 127 (optionsOf p) i 0) ∙ ap (λ (l : List ℕ). getD l i 0) behind-smalls ∙ List·getD-map flagByte (onOffPlaces p) i false
 
-  flag-back : (i : ℕ) → flagAt (optionsOf p) i ≡ getD (places p) i false
-  flag-back i = ap (λ (n : ℕ). eqb n 1) (place-back i) ∙ bit-back (getD (places p) i false)
+  flag-back : (i : ℕ) → cardFlag (optionsOf p) i ≡ getD (onOffPlaces p) i false
+  flag-back i = ap (λ (n : ℕ). eqb n 1) (place-back i) ∙ bit-back (getD (onOffPlaces p) i false)
 
   places-good : placesOk (optionsOf p) ≡ true
   unfolding placesOk
-  places-good = all-every (placeOk (optionsOf p)) 15 (λ k h. ap (λ (n : ℕ). leb n 1) (place-back k) ∙ bit-small (getD (places p) k false))
+  places-good = all-every (placeOk (optionsOf p)) 15 (λ k h. ap (λ (n : ℕ). leb n 1) (place-back k) ∙ bit-small (getD (onOffPlaces p) k false))
 
   -- ---- the thresholds
 
   plain-back : marksIn (thresholdsOf p) 0 ≡ p .plain
   unfolding marksIn thresholdsOf
   plain-back = λ j. record {
-    «thresholds_db» = marks-row [] (p .plain) (marksOf (p .eff)) 0 refl (t .plain) j;
-    «margin_db» = margin-back [] (p .plain) (marksOf (p .eff)) 0 refl (t .plain) j;
+    «thresholds_db» = marks-row [] (p .plain) (marksBytes (p .eff)) 0 refl (t .plain) j;
+    «margin_db» = margin-back [] (p .plain) (marksBytes (p .eff)) 0 refl (t .plain) j;
   }
 
-  closed : thresholdsOf p ≡ marksOf (p .plain) ++ (marksOf (p .eff) ++ [])
+  closed : thresholdsOf p ≡ marksBytes (p .plain) ++ (marksBytes (p .eff) ++ [])
   unfolding thresholdsOf
-  closed = ap (λ (r : List ℕ). marksOf (p .plain) ++ r) (sym (append-nil (marksOf (p .eff))))
+  closed = ap (λ (r : List ℕ). marksBytes (p .plain) ++ r) (sym (append-nil (marksBytes (p .eff))))
 
   eff-back : marksIn (thresholdsOf p) 72 ≡ p .eff
   unfolding marksIn
   eff-back = ap (λ (l : List ℕ). marksIn l 72) closed ∙ (λ j. record {
-    «thresholds_db» = marks-row (marksOf (p .plain)) (p .eff) [] 72 (marks-long (p .plain) (t .plain)) (t .eff) j;
-    «margin_db» = margin-back (marksOf (p .plain)) (p .eff) [] 72 (marks-long (p .plain) (t .plain)) (t .eff) j;
+    «thresholds_db» = marks-row (marksBytes (p .plain)) (p .eff) [] 72 (marks-long (p .plain) (t .plain)) (t .eff) j;
+    «margin_db» = margin-back (marksBytes (p .plain)) (p .eff) [] 72 (marks-long (p .plain) (t .plain)) (t .eff) j;
   })
 
   -- ---- the profile
 
   profile-in : profileIn (levelsOf (p .air)) (wavesOf (p .air)) (thresholdsOf p) (optionsOf p) ≡ p
-  unfolding profileIn airIn codesIn lengthsIn holdsIn row doubles wholes singles places
+  unfolding profileIn airIn codesIn lengthsIn holdsIn row doubles wholes singles onOffPlaces
   profile-in = λ j. record {
     air = record {
       «slot_bits» = slots-back (p .air) (t .air) j;
@@ -211,13 +211,13 @@ module _ (p : Profile) (t : Typed p) where
   unfolding fileRefusal
   file-good = rw (version-good, card-counts p t) refl
 
-  accepted : inRange p ≡ true → inOrder p ≡ true → profileRefusal (optionsOf p) p ≡ 0
-  unfolding profileRefusal
+  accepted : inRange p ≡ true → inOrder p ≡ true → contentRefusal (optionsOf p) p ≡ 0
+  unfolding contentRefusal
   accepted a b = rw (places-good, a, b) refl
 
   card-read : (before : Profile) → inRange p ≡ true → inOrder p ≡ true → readOf (cardOf p) before ≡ (0, p)
   card-read before a b =
-      let e : 0 ≡ profileRefusal _ _ = sym (accepted a b) ∙ (λ j. profileRefusal (sym (options-back p t) j) (sym profile-back j)) in
+      let e : 0 ≡ contentRefusal _ _ = sym (accepted a b) ∙ (λ j. contentRefusal (sym (options-back p t) j) (sym profile-back j)) in
       sym (read-good (cardOf p) before 0 0 (sym file-good) refl e refl) ∙ (λ j. (0, profile-back j))
 
 -- ---- the claim

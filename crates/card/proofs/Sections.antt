@@ -14,9 +14,9 @@ use Rattle.laws.specs.Little.{num, le}
 use Rattle.laws.proofs.Tests.{all-none, all-more}
 use Rattle.config.specs.declared.Marks.{Marks}
 use Rattle.config.specs.declared.Profile.{Profile}
-use Rattle.card.specs.Card.{at, bits32, bits64, section, levelsOf, wavesOf, marksOf, thresholdsOf, doubles, wholes, singles}
+use Rattle.card.specs.Card.{at, bits32, bits64, section, levelsOf, wavesOf, marksBytes, thresholdsOf, doubles, wholes, singles}
 use Rattle.card.specs.Card.{smallsOf}
-use Rattle.card.specs.Card.{places, optionsOf, cardOf, levelsIn, wavesIn, thresholdsIn, optionsIn, optionsOk, countsOk}
+use Rattle.card.specs.Card.{onOffPlaces, optionsOf, cardOf, levelsIn, wavesIn, thresholdsIn, optionsIn, optionsOk, countsAgree}
 use Rattle.card.specs.Claims.{TypedMarks, Typed}
 use Rattle.card.proofs.Pack.{length-packed, row-long}
 use Rattle.card.proofs.Back.{at-back}
@@ -29,8 +29,8 @@ module _ (pre : List ℕ) (m : ℕ) (tail : List ℕ) (i : ℕ) (h : length pre 
   count-at : num (le 2 m) ≡ m → at 2 (pre ++ (le 2 m ++ tail)) i ≡ m
   count-at e = at-back 2 pre m tail i h e
 
-pub marks-long : (m : Marks) → TypedMarks m → length (marksOf m) ≡ 72
-unfolding marksOf
+pub marks-long : (m : Marks) → TypedMarks m → length (marksBytes m) ≡ 72
+unfolding marksBytes
 marks-long m t = simp length-append (omega (arith, row-long bits32 4 17 (m .«thresholds_db») (t .thresholds .0)))
 
 -- ---- a written file
@@ -58,7 +58,7 @@ module _ (p : Profile) (t : Typed p) where
   thresholds-long = simp length-append (omega (arith, marks-long (p .plain) (t .plain), marks-long (p .eff) (t .eff)))
 
   options-long : length (optionsOf p) ≡ 142
-  unfolding optionsOf smallsOf places
+  unfolding optionsOf smallsOf onOffPlaces
   options-long =
       simp length-append (omega (
         arith,
@@ -144,8 +144,8 @@ module _ (p : Profile) (t : Typed p) where
   unfolding cardOf
   version = refl
 
-  pub card-counts : countsOk (cardOf p) ≡ true
-  unfolding countsOk
+  pub card-counts : countsAgree (cardOf p) ≡ true
+  unfolding countsAgree
   card-counts =
       all-more _ _ (eq-eqb _ _ count₁) (all-more _ _ (eq-eqb _ _ count₂) (all-more _ _ (eq-eqb _ _ count₃)
       (all-more _ _ (λ j. optionsOk (version j) (count₄ j))

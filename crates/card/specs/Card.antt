@@ -31,8 +31,8 @@ abbrev pub bits32 : Float → ℕ
 bits32 x = cond (ne x x) 4294967295 (toBits binary32 x)
 
 -- off is 0, on is 1
-abbrev pub bit : Bool → ℕ
-bit b = cond b 1 0
+abbrev pub flagByte : Bool → ℕ
+flagByte b = cond b 1 0
 
 -- each number as k bytes
 unfoldable pub packed : ℕ → List ℕ → List ℕ
@@ -59,11 +59,11 @@ unfoldable pub wavesOf : Air → List ℕ
 wavesOf a = packed 8 (map bits64 (a .«ack_s»))
 
 -- for every level a threshold, then the margin; plain, then eff
-unfoldable pub marksOf : Marks → List ℕ
-marksOf m = packed 4 (map bits32 (m .«thresholds_db»)) ++ le 4 (bits32 (m .«margin_db»))
+unfoldable pub marksBytes : Marks → List ℕ
+marksBytes m = packed 4 (map bits32 (m .«thresholds_db»)) ++ le 4 (bits32 (m .«margin_db»))
 
 unfoldable pub thresholdsOf : Profile → List ℕ
-thresholdsOf p = marksOf (p .plain) ++ marksOf (p .eff)
+thresholdsOf p = marksBytes (p .plain) ++ marksBytes (p .eff)
 
 -- the options: eight doubles,
 unfoldable pub doubles : Profile → List Float
@@ -85,8 +85,8 @@ unfoldable pub smallsOf : Profile → List ℕ
 smallsOf p = p .«max_level» ∷ p .«skip_slices_from» ∷ p .power ∷ le 8 (p .«pin_level» .level)
 
 -- fifteen places that are on or off, harq_stretch last
-unfoldable pub places : Profile → List Bool
-places p =
+unfoldable pub onOffPlaces : Profile → List Bool
+onOffPlaces p =
     p .lengths .«burst_climb_db» .set ∷ p .«start_margin_db» .set ∷ p .«pin_level» .set ∷ p .lengths .«burst_adapt» ∷ p .«eff_snr»
     ∷ p .goodput
     ∷ p .harq ∷ p .«pick_family» ∷ p .«smooth_target» ∷ p .«hold_by_goodput» ∷ p .«slice_slots» ∷ p .«merge_pieces» ∷ p .cue
@@ -95,7 +95,7 @@ places p =
 unfoldable pub optionsOf : Profile → List ℕ
 optionsOf p =
     packed 8 (map bits64 (doubles p)) ++
-    (packed 4 (wholes p) ++ (packed 4 (map bits32 (singles p)) ++ (smallsOf p ++ map bit (places p))))
+    (packed 4 (wholes p) ++ (packed 4 (map bits32 (singles p)) ++ (smallsOf p ++ map flagByte (onOffPlaces p))))
 
 -- ---- the file
 
@@ -123,25 +123,25 @@ cardOf p = 1 ∷ (section (levelsOf (p .air)) ++ (section (wavesOf (p .air)) ++ 
 
 -- ---- read, where the counts agree
 
-abbrev pub doubleAt : List ℕ → ℕ → Float
-doubleAt bs i = ofBits binary64 (at 8 bs i)
+abbrev pub cardDouble : List ℕ → ℕ → Float
+cardDouble bs i = ofBits binary64 (at 8 bs i)
 
-abbrev pub singleAt : List ℕ → ℕ → Float
-singleAt bs i = ofBits binary32 (at 4 bs i)
+abbrev pub cardSingle : List ℕ → ℕ → Float
+cardSingle bs i = ofBits binary32 (at 4 bs i)
 
 -- one of the fifteen places
 abbrev pub placeAt : List ℕ → ℕ → ℕ
 placeAt os i = getD os (127 + i) 0
 
-abbrev pub flagAt : List ℕ → ℕ → Bool
-flagAt os i = eqb (placeAt os i) 1
+abbrev pub cardFlag : List ℕ → ℕ → Bool
+cardFlag os i = eqb (placeAt os i) 1
 
 -- an optional dB value: its place, and the value beside it
 abbrev pub optionAt : List ℕ → ℕ → ℕ → MaybeDb
-optionAt os i j = record { set = flagAt os i; db = singleAt os j }
+optionAt os i j = record { set = cardFlag os i; db = cardSingle os j }
 
 abbrev pub pinIn : List ℕ → MaybeLevel
-pinIn os = record { set = flagAt os 2; level = at 8 os 119 }
+pinIn os = record { set = cardFlag os 2; level = at 8 os 119 }
 
 unfoldable pub airIn : List ℕ → List ℕ → List ℕ → Air
 airIn ls ws os =
@@ -151,11 +151,11 @@ airIn ls ws os =
       rate = map (ofBits binary64) (row 8 17 ls 204);
       «max_bits» = row 4 17 ls 340;
       «ack_s» = map (ofBits binary64) (row 8 6 ws 0);
-      «cue_s» = doubleAt os 0;
+      «cue_s» = cardDouble os 0;
     }
 
 unfoldable pub marksIn : List ℕ → ℕ → Marks
-marksIn ts i = record { «thresholds_db» = map (ofBits binary32) (row 4 17 ts i); «margin_db» = singleAt ts (i + 68) }
+marksIn ts i = record { «thresholds_db» = map (ofBits binary32) (row 4 17 ts i); «margin_db» = cardSingle ts (i + 68) }
 
 unfoldable pub codesIn : List ℕ → Harq
 codesIn os = record { mother = at 4 os 72; ends = row 4 6 os 76 }
@@ -163,17 +163,17 @@ codesIn os = record { mother = at 4 os 72; ends = row 4 6 os 76 }
 unfoldable pub lengthsIn : List ℕ → Lengths
 lengthsIn os =
     record {
-      «max_burst_s» = doubleAt os 8;
-      «max_burst_long_s» = doubleAt os 16;
-      «burst_overhead» = doubleAt os 24;
-      «turnaround_s» = doubleAt os 32;
-      «burst_adapt» = flagAt os 3;
-      «burst_steady_db» = singleAt os 100;
+      «max_burst_s» = cardDouble os 8;
+      «max_burst_long_s» = cardDouble os 16;
+      «burst_overhead» = cardDouble os 24;
+      «turnaround_s» = cardDouble os 32;
+      «burst_adapt» = cardFlag os 3;
+      «burst_steady_db» = cardSingle os 100;
       «burst_climb_db» = optionAt os 0 104;
     }
 
 unfoldable pub holdsIn : List ℕ → HoldTimes
-holdsIn os = record { «fail_hold_s» = doubleAt os 40; «fail_hold_max_s» = doubleAt os 48; «loss_hold_s» = doubleAt os 56 }
+holdsIn os = record { «fail_hold_s» = cardDouble os 40; «fail_hold_max_s» = cardDouble os 48; «loss_hold_s» = cardDouble os 56 }
 
 -- of levels, waves, thresholds and options
 unfoldable pub profileIn : List ℕ → List ℕ → List ℕ → List ℕ → Profile
@@ -187,23 +187,23 @@ profileIn ls ws ts os =
       «hold_times» = holdsIn os;
       plain = marksIn ts 0;
       eff = marksIn ts 72;
-      «eff_snr» = flagAt os 4;
-      «cue_below_db» = singleAt os 108;
+      «eff_snr» = cardFlag os 4;
+      «cue_below_db» = cardSingle os 108;
       «start_margin_db» = optionAt os 1 112;
       «max_level» = getD os 116 0;
       «skip_slices_from» = getD os 117 0;
       «pin_level» = pinIn os;
-      goodput = flagAt os 5;
+      goodput = cardFlag os 5;
       power = getD os 118 0;
-      harq = flagAt os 6;
-      «pick_family» = flagAt os 7;
-      «smooth_target» = flagAt os 8;
-      «hold_by_goodput» = flagAt os 9;
-      «slice_slots» = flagAt os 10;
-      «harq_stretch» = flagAt os 14;
-      «merge_pieces» = flagAt os 11;
-      cue = flagAt os 12;
-      «harq_partial» = flagAt os 13;
+      harq = cardFlag os 6;
+      «pick_family» = cardFlag os 7;
+      «smooth_target» = cardFlag os 8;
+      «hold_by_goodput» = cardFlag os 9;
+      «slice_slots» = cardFlag os 10;
+      «harq_stretch» = cardFlag os 14;
+      «merge_pieces» = cardFlag os 11;
+      cue = cardFlag os 12;
+      «harq_partial» = cardFlag os 13;
     }
 
 -- the sections of version 1: what later versions add behind the options is passed over
@@ -234,8 +234,8 @@ abbrev pub optionsOk : ℕ → ℕ → Bool
 optionsOk v n = cond (eqb v 1) (eqb n optionsBytes) (leb optionsBytes n)
 
 -- 14: "an empty file, or a count that doesn't agree with the version or the file's length"; "the sections fill the file exactly"
-unfoldable pub countsOk : List ℕ → Bool
-countsOk b =
+unfoldable pub countsAgree : List ℕ → Bool
+countsAgree b =
     all (eqb (at 2 b 1) levelsBytes ∷ eqb (at 2 b 411) wavesBytes ∷ eqb (at 2 b 461) thresholdsBytes
     ∷ optionsOk (getD b 0 0) (at 2 b 607) ∷ eqb (length b) (609 + at 2 b 607) ∷ [])
 
@@ -248,14 +248,14 @@ placesOk os = every (placeOk os) (upto 0 15)
 
 -- "Reading refuses a version byte of 0 or above 15 with 13, then an empty file, or a count .. with 14,
 unfoldable pub fileRefusal : List ℕ → ℕ
-fileRefusal b = cond (versionBad b) 13 (cond (not (countsOk b)) 14 0)
+fileRefusal b = cond (versionBad b) 13 (cond (not (countsAgree b)) 14 0)
 
 -- then what 1 and 2 refuse"
-unfoldable pub profileRefusal : List ℕ → Profile → ℕ
-profileRefusal os p = cond (not (placesOk os && inRange p)) 1 (cond (not (inOrder p)) 2 0)
+unfoldable pub contentRefusal : List ℕ → Profile → ℕ
+contentRefusal os p = cond (not (placesOk os && inRange p)) 1 (cond (not (inOrder p)) 2 0)
 
 unfoldable pub readRefusal : List ℕ → ℕ
-readRefusal b = cond (eqb (fileRefusal b) 0) (profileRefusal (optionsIn b) (profileOf b)) (fileRefusal b)
+readRefusal b = cond (eqb (fileRefusal b) 0) (contentRefusal (optionsIn b) (profileOf b)) (fileRefusal b)
 
 -- "refuses by 1 and 2, then by 14 an output shorter than the file"
 unfoldable pub writeRefusal : Profile → ℕ → ℕ

@@ -11,7 +11,7 @@ use Rattle.laws.specs.Little.{le}
 use Rattle.config.specs.declared.Profile.{Profile}
 use Rattle.config.specs.declared.Air.{Air}
 use Rattle.config.specs.declared.Marks.{Marks}
-use Rattle.card.specs.Card.{cardBytes, optionsBytes, countsOk, readOf, writeOf, doubles, wholes, singles}
+use Rattle.card.specs.Card.{cardBytes, optionsBytes, countsAgree, readOf, writeOf, doubles, wholes, singles}
 
 -- "the same file made version 1, the further bytes cut off and the count lowered"
 abbrev pub madeOne : List ℕ → List ℕ
@@ -21,7 +21,7 @@ madeOne b = 1 ∷ (part b 1 606 ++ (le 2 optionsBytes ++ part b 609 optionsBytes
 -- whose
 -- counts agree: another is refused by 14, its file made version 1 need not be (docs/DIFFERENCES.md)
 abbrev pub LaterVersions : Type 0
-LaterVersions = (b : List ℕ) (before : Profile) → 2 ≤ getD b 0 0 → getD b 0 0 ≤ 15 → countsOk b ≡ true
+LaterVersions = (b : List ℕ) (before : Profile) → 2 ≤ getD b 0 0 → getD b 0 0 ≤ 15 → countsAgree b ≡ true
     → readOf b before ≡ readOf (madeOne b) before
 
 -- ---- what the profile's types say of it: lengths of arrays, numbers by their width, floats by their format

@@ -23,12 +23,12 @@ use harq::Harq;
 ghost use mathlib.Core.Path.{_≡_};
 ghost use Prim.Native.Nat.{_+_, _≤_, _<_};
 ghost use lib.ListN.{length, getD};
-ghost use Rattle.card.specs.Card.{at as valueAt, flagAt, optionAt, pinIn, airIn, marksIn, codesIn, lengthsIn, holdsIn, profileIn};
-ghost use Rattle.card.specs.Card.{versionBad, optionsOk, countsOk, fileRefusal, placesOk, profileRefusal};
+ghost use Rattle.card.specs.Card.{at as valueAt, cardFlag, optionAt, pinIn, airIn, marksIn, codesIn, lengthsIn, holdsIn, profileIn};
+ghost use Rattle.card.specs.Card.{versionBad, optionsOk, countsAgree, fileRefusal, placesOk, contentRefusal};
 
 fn flag(os: &[u8], i: usize) -> bool
     requires { ⌜ 127 + i < length (now os) ⌝ }
-    ensures { λ r. ⌜ r ≡ flagAt (now (os .entry)) i ⌝ }
+    ensures { λ r. ⌜ r ≡ cardFlag (now (os .entry)) i ⌝ }
 {
     os[127 + i] == 1
 }
@@ -185,7 +185,7 @@ fn count(b: &[u8], at: usize) -> usize
 }
 
 fn counts_ok(b: &[u8]) -> bool
-    ensures { λ r. ⌜ r ≡ countsOk (now (b .entry)) ⌝ }
+    ensures { λ r. ⌜ r ≡ countsAgree (now (b .entry)) ⌝ }
 {
     if b.len() < CARD_BYTES {
         return false;
@@ -225,7 +225,7 @@ fn places_ok(os: &[u8]) -> bool
 // 1 and 2.
 pub(crate) fn profile_refusal(os: &[u8], p: Profile) -> u8
     requires { ⌜ 142 ≤ length (now os) ⌝ }
-    ensures { λ r. ⌜ r ≡ profileRefusal (now (os .entry)) p ⌝ }
+    ensures { λ r. ⌜ r ≡ contentRefusal (now (os .entry)) p ⌝ }
 {
     if !places_ok(os) {
         return 1;

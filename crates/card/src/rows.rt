@@ -13,7 +13,7 @@ ghost use Prim.Native.Nat.{_+_, _*_, _≤_};
 ghost use lib.ListN.{length};
 ghost use lib.Ieee.{binary32, binary64, ofBits};
 ghost use Rattle.laws.specs.Bytes.{overwrite};
-ghost use Rattle.card.specs.Card.{at as valueAt, row, doubleAt, singleAt, bits32, bits64, bit, packed};
+ghost use Rattle.card.specs.Card.{at as valueAt, row, cardDouble, cardSingle, bits32, bits64, flagByte, packed};
 
 pub(crate) fn u32_at(a: &[u8], at: usize) -> u32
     requires { ⌜ at + 4 ≤ length (now a) ⌝ }
@@ -24,14 +24,14 @@ pub(crate) fn u32_at(a: &[u8], at: usize) -> u32
 
 pub(crate) fn f64_at(a: &[u8], at: usize) -> f64
     requires { ⌜ at + 8 ≤ length (now a) ⌝ }
-    ensures { λ r. ⌜ r ≡ doubleAt (now (a .entry)) at ⌝ }
+    ensures { λ r. ⌜ r ≡ cardDouble (now (a .entry)) at ⌝ }
 {
     of_bits64(load64(a, at))
 }
 
 pub(crate) fn f32_at(a: &[u8], at: usize) -> f32
     requires { ⌜ at + 4 ≤ length (now a) ⌝ }
-    ensures { λ r. ⌜ r ≡ singleAt (now (a .entry)) at ⌝ }
+    ensures { λ r. ⌜ r ≡ cardSingle (now (a .entry)) at ⌝ }
 {
     of_bits32(load32(a, at))
 }
@@ -135,7 +135,7 @@ pub(crate) fn put_f32s(out: &mut [u8], at: usize, x: &[f32])
 }
 
 fn bit_of(b: bool) -> u8
-    ensures { λ r. ⌜ r ≡ bit b ⌝ }
+    ensures { λ r. ⌜ r ≡ flagByte b ⌝ }
 {
     if b {
         return 1;
@@ -145,7 +145,7 @@ fn bit_of(b: bool) -> u8
 
 pub(crate) fn put_flags(out: &mut [u8], at: usize, x: &[bool])
     requires { ⌜ at + length (now x) ≤ length (now out) ⌝ }
-    ensures { λ _. ⌜ now (out .exit) ≡ overwrite (now (out .entry)) at (map bit (now (x .entry))) ⌝ }
+    ensures { λ _. ⌜ now (out .exit) ≡ overwrite (now (out .entry)) at (map flagByte (now (x .entry))) ⌝ }
 {
     let mut l: usize = 0;
     while l < x.len() {

@@ -12,8 +12,8 @@ use harq::Harq;
 ghost use mathlib.Core.List.{[], _∷_, map};
 ghost use Prim.Native.Nat.{_+_, _≤_};
 ghost use lib.ListN.{length};
-ghost use Rattle.card.specs.Card.{bits32, bits64, bit, packed, section, levelsOf, wavesOf, marksOf, thresholdsOf, doubles, singles};
-ghost use Rattle.card.specs.Card.{smallsOf, places, optionsOf, cardOf};
+ghost use Rattle.card.specs.Card.{bits32, bits64, flagByte, packed, section, levelsOf, wavesOf, marksBytes, thresholdsOf, doubles, singles};
+ghost use Rattle.card.specs.Card.{smallsOf, onOffPlaces, optionsOf, cardOf};
 ghost use Rattle.card.specs.CardCode.{Puts};
 
 fn put_version(out: &mut [u8])
@@ -49,7 +49,7 @@ fn put_waves(out: &mut [u8], a: Air)
 
 fn put_marks(out: &mut [u8], at: usize, m: Marks)
     requires { ⌜ at + 72 ≤ length (now out) ⌝ }
-    ensures { λ _. ⌜ Puts (now (out .entry)) (now (out .exit)) at (marksOf m) 72 ⌝ }
+    ensures { λ _. ⌜ Puts (now (out .entry)) (now (out .exit)) at (marksBytes m) 72 ⌝ }
 {
     let thresholds = m.thresholds_db;
     let margin = [m.margin_db];
@@ -120,7 +120,7 @@ fn put_smalls(out: &mut [u8], p: Profile)
 
 fn put_places(out: &mut [u8], p: Profile)
     requires { ⌜ 751 ≤ length (now out) ⌝ }
-    ensures { λ _. ⌜ Puts (now (out .entry)) (now (out .exit)) 736 (map bit (places p)) 15 ⌝ }
+    ensures { λ _. ⌜ Puts (now (out .entry)) (now (out .exit)) 736 (map flagByte (onOffPlaces p)) 15 ⌝ }
 {
     let x = [
         p.lengths.burst_climb_db.set,

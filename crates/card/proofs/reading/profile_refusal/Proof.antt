@@ -3,7 +3,7 @@ use mathlib.Core.Path.{refl}
 use borrow.Author.Tests.{not-true, not-false}
 use Rattle.laws.proofs.Picks.{told-yes, told-no}
 use Rattle.config.specs.Ranges.{inOrder}
-use Rattle.card.specs.Card.{profileRefusal}
+use Rattle.card.specs.Card.{contentRefusal}
 use borrow.Author.Needs.{needs}
 use Rattle.card.proofs.reading.profile_refusal.Statement.{statement}
 use Rattle.card.proofs.reading.profile_refusal.Tie as tie
@@ -12,14 +12,14 @@ places-ok-requires : tie.Need-places-ok-requires
 places-ok-requires c κs = search needs
 
 returns : tie.Need-returns
-unfolding profileRefusal
+unfolding contentRefusal
 returns c = rw (told-no _ _ (c .before .places-ok .ensures) (not-true _ (c .if1 .taken))) refl
 
 in-range-requires : tie.Need-in-range-requires
 in-range-requires c κs = search needs
 
 returns-2 : tie.Need-returns-2
-unfolding profileRefusal
+unfolding contentRefusal
 returns-2 c =
     rw (
       told-yes _ _ (c .before .before .before .places-ok .ensures) (not-false _ (c .before .before .if1 .left)),
@@ -31,7 +31,7 @@ in-order-requires : tie.Need-in-order-requires
 in-order-requires c κs = search needs
 
 returns-3 : tie.Need-returns-3
-unfolding profileRefusal inOrder
+unfolding contentRefusal inOrder
 returns-3 c =
     rw (
       told-yes _ _ (c .before .before .before .before .before .places-ok .ensures)
@@ -42,7 +42,7 @@ returns-3 c =
     ) refl
 
 returns-4 : tie.Need-returns-4
-unfolding profileRefusal inOrder
+unfolding contentRefusal inOrder
 returns-4 c =
     rw (
       told-yes _ _ (c .before .before .before .before .before .places-ok .ensures)

@@ -1,6 +1,6 @@
 -- `writing::put_places`: a row of flags. Assumes nothing.
 use mathlib.Core.Path.{refl}
-use Rattle.card.specs.Card.{places}
+use Rattle.card.specs.Card.{onOffPlaces}
 use borrow.Author.Needs.{needs}
 use Rattle.card.proofs.writing.put_places.Statement.{statement}
 use Rattle.card.proofs.writing.put_places.Tie as tie
@@ -15,7 +15,7 @@ same-length : tie.Need-same-length
 same-length c = search needs
 
 returns : tie.Need-returns
-unfolding places
+unfolding onOffPlaces
 returns c = (c .before .before .put-flags .ensures, refl)
 
 pub put-places-spec : {M : Type 1} → statement M
