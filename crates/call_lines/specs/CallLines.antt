@@ -5,9 +5,10 @@ use mathlib.Core.List.{List}
 use Prim.Native.Nat.{ℕ, _%_}
 use lib.Dec.{ltb, eqb}
 use lib.Ieee.{binary64, ofBits}
+use lib.ListN.{take, replicate}
 use Rattle.words.specs.declared.Read.{Read}
-use Rattle.words.specs.Words.{decimalOf, bitsOf, flagOf, noneOf, hexCount}
-use Rattle.words.specs.Lines.{readAs, isDone}
+use Rattle.words.specs.Words.{decimalOf, bitsOf, flagOf, noneOf, hexCount, hexInto}
+use Rattle.words.specs.Lines.{charsOf, nextWord, readAs, isDone}
 use Rattle.profile_table.specs.Table.{singleOf}
 use Rattle.call_lines.specs.declared.Hearing.{Hearing}
 use Rattle.call_lines.specs.declared.ClassWords.{ClassWords}
@@ -24,6 +25,14 @@ use Rattle.call_lines.specs.declared.RangeLine.{RangeLine}
 -- a number too wide for its field is the largest
 abbrev pub fieldByte : ℕ → ℕ
 fieldByte n = cond (ltb n 256) n 255
+
+-- room for the bytes of a line's HEX: its 65,536 characters have no more pairs
+abbrev pub hexRoom : List ℕ
+hexRoom = replicate 32768 0
+
+-- the bytes of the HEX that comes next, so many of them
+abbrev pub bytesIn : ℕ → List ℕ → Read → List ℕ
+bytesIn n chars r = take n (hexInto hexRoom (charsOf chars (nextWord chars r)))
 
 -- T, W and HERE
 unfoldable pub heardFirst : List ℕ → Read → Hearing

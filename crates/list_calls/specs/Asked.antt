@@ -4,7 +4,7 @@ use mathlib.Core.Bool.{Bool, true, false, cond}
 use mathlib.Core.List.{List, []}
 use Prim.Native.Nat.{ℕ}
 use lib.Dec.{eqb}
-use lib.ListN.{length, take, replicate}
+use lib.ListN.{length}
 use Rattle.config.specs.declared.Profile.{Profile}
 use Rattle.queuing.specs.declared.Station.{Station}
 use Rattle.refusals.specs.declared.Reply.the-variants as R
@@ -12,9 +12,7 @@ use Rattle.numbered.specs.declared.Left.{Left}
 use Rattle.numbered.specs.Numbered.{answerNumber}
 use Rattle.sender.specs.Calls.{queueOf, receiveOf}
 use Rattle.words.specs.declared.Read.{Read}
-use Rattle.words.specs.Words.{hexInto}
-use Rattle.words.specs.Lines.{charsOf, nextWord}
-use Rattle.call_lines.specs.CallLines.{connectLine, shortLine, turnLine, longLine, longWishes, queueLine}
+use Rattle.call_lines.specs.CallLines.{hexRoom, bytesIn, connectLine, shortLine, turnLine, longLine, longWishes, queueLine}
 use Rattle.call_lines.specs.declared.ConnectLine.{ConnectLine}
 use Rattle.call_lines.specs.declared.ShortLine.{ShortLine}
 use Rattle.call_lines.specs.declared.TurnLine.{TurnLine}
@@ -46,23 +44,15 @@ turnAsked p s a chars r =
     let q : TurnLine = turnLine chars r in
     asked (q .ok) s a (answerNumber (receiveOf p s a (q .heard) (R.Turn (q .reply)) []))
 
--- room for the bytes of a line's HEX
-abbrev pub room : List ℕ
-room = replicate 32768 0
-
--- the bytes of the HEX that comes next, so many of them
-abbrev pub bytesIn : ℕ → List ℕ → Read → List ℕ
-bytesIn n chars r = take n (hexInto room (charsOf chars (nextWord chars r)))
-
 unfoldable pub longAsked : Profile → Station → List ℕ → List ℕ → Read → Asked × List ℕ
 longAsked p s a chars r =
-    let q : LongLine = longLine (length room) chars r in
+    let q : LongLine = longLine (length hexRoom) chars r in
     asked (q .ok) s a (answerNumber (receiveOf p s a (q .heard) (R.LongAck (q .reply))
     (bytesIn (q .payload) chars (longWishes chars r .read))))
 
 unfoldable pub queueAsked : Profile → Station → List ℕ → List ℕ → Read → Asked × List ℕ
 queueAsked p s a chars r =
-    let q : QueueLine = queueLine (length room) chars r in
+    let q : QueueLine = queueLine (length hexRoom) chars r in
     asked (q .ok) s a (answerNumber (queueOf p s a (q .class) (q .label) (bytesIn (q .len) chars r)))
 
 -- by the call's number (Names.antt of `call_lines`)

@@ -5,20 +5,22 @@ mod input;
 
 use buffer::flush;
 use buffer::room;
+use byte_copy::copy_in;
 use byte_copy::least;
-use call_lines::names::CARD;
-use call_lines::names::LEVELS;
-use call_lines::names::MESSAGES;
+use call_lines::names::AREA;
 use call_lines::names::NO_CALL;
 use call_lines::names::Named;
+use call_lines::names::OUT;
 use call_lines::names::PIECE;
-use call_lines::names::STATE;
 use call_lines::names::call_of;
 use calls::Run;
 use calls::Step;
+use calls::asked;
 use calls::failed;
+use calls::left;
+use calls::lend;
+use calls::showed;
 use calls::with_text;
-use config::Profile;
 use input::next_line;
 use limits::AREA_BYTES;
 use profile_table::LINES;
@@ -36,6 +38,9 @@ use words::word;
 // Bytes of output that a profile lends, zeros at each call that writes there.
 pub(crate) const OUT_BYTES: usize = 32768;
 
+// Bytes that a line can have as HEX: its 65,536 characters have no more pairs.
+const HEX_BYTES: usize = 32768;
+
 // No whole profile was read yet: `stage` is past every stage.
 const NO_PROFILE: usize = 1000;
 
@@ -45,6 +50,13 @@ fn clear(area: &mut [u8]) {
     while i < area.len() {
         area[i] = 0;
         i += 1;
+    }
+}
+
+// A file is kept in the place of the one before it.
+fn keep_file(file: &mut [u8], bytes: &[u8]) {
+    if bytes.len() <= file.len() {
+        copy_in(file, 0, bytes);
     }
 }
 
@@ -63,6 +75,7 @@ fn start(run: Run, area: &mut [u8]) -> Run {
     clear(area);
     let mut after = run;
     after.stage = LINES;
+    after.file = 0;
     after.area = AREA_BYTES;
     after.out = OUT_BYTES;
     after
@@ -80,33 +93,6 @@ fn profile_step(line: &[u8], run: Run, area: &mut [u8], v: &mut [u64; 147]) -> R
     let mut after = run;
     after.stage = k + 1;
     after
-}
-
-// What changes neither the record nor the work area.
-fn look(n: Named, line: &[u8], run: Run, p: Profile, s: Station, area: &[u8], t: &mut [u8]) -> Run {
-    if n.call == STATE {
-        let usual = p.lengths.max_burst_s;
-        return calls::show(line, n.read, run, usual, s, area, t);
-    }
-    if n.call == MESSAGES {
-        return calls::list(line, n.read, run, s.messages, t);
-    }
-    if n.call == LEVELS {
-        return calls::levels(line, n.read, run, p, t);
-    }
-    if n.call == CARD {
-        return calls::card(line, n.read, run, p, t);
-    }
-    calls::aside(n, line, run, t)
-}
-
-fn call(line: &[u8], run: Run, p: Profile, s: Station, area: &mut [u8], t: &mut [u8]) -> Step {
-    let n = call_of(line);
-    if (n.call == NO_CALL) | (n.call > PIECE) {
-        let run = look(n, line, run, p, s, area, t);
-        return Step { run, p, s };
-    }
-    calls::asked(n, line, run, p, s, area, t)
 }
 
 // A remark, or an empty line.
@@ -129,38 +115,48 @@ fn is_load(line: &[u8], run: Run) -> bool {
     (run.stage >= LINES) & r.ok
 }
 
-// The file was taken.
-fn loaded(run: Run, area: &mut [u8], t: &mut [u8]) -> Run {
-    let n = transcript::answer(t, run.text, b"load", 0);
-    with_text(start(run, area), n)
+// The file of n bytes is taken: it stands for the profile.
+fn loaded(run: Run, n: usize, area: &mut [u8], t: &mut [u8]) -> Run {
+    let mut after = start(run, area);
+    after.file = n;
+    after.text = transcript::answer(t, run.text, b"load", 0);
+    after
 }
 
-// `load`: where the file is taken, the sender before it ends, and a fresh one starts under the profile read.
-fn load(line: &[u8], run: Run, p: Profile, s: Station, area: &mut [u8], t: &mut [u8]) -> Step {
-    let q = calls::card_in(line, p);
+// What a line that asks no sender leaves: the run, and whether a fresh sender starts.
+struct Other {
+    run: Run,
+    anew: bool,
+}
+
+// `load`: where the file is taken, the sender before it ends, and a fresh one starts under the profile read. w: the bytes withdrawn.
+fn load(
+    line: &[u8],
+    run: Run,
+    c: Counts,
+    w: u32,
+    area: &mut [u8],
+    t: &mut [u8],
+    v: &[u64; 147],
+    file: &mut [u8],
+) -> Other {
+    let mut bytes = [0u8; HEX_BYTES];
+    let q = look_lines::load(line, &mut bytes, profile_of(v));
     if !q.ok {
-        return Step {
-            run: failed(run),
-            p,
-            s,
-        };
+        let run = failed(run);
+        return Other { run, anew: false };
     }
     let refusal = q.refusal;
     if refusal != 0 {
         let n = transcript::answer(t, run.text, b"load", refusal);
-        return Step {
-            run: with_text(run, n),
-            p,
-            s,
-        };
+        let run = with_text(run, n);
+        return Other { run, anew: false };
     }
-    let run = begin(run, s.sender.counts, s.messages.withdrawn, t);
-    let p = q.profile;
-    Step {
-        run: loaded(run, area, t),
-        p,
-        s: fresh(),
-    }
+    let n = least(q.len, &bytes);
+    keep_file(file, &bytes[..n]);
+    let run = begin(run, c, w, t);
+    let run = loaded(run, n, area, t);
+    Other { run, anew: true }
 }
 
 // A line that is none.
@@ -186,30 +182,120 @@ fn no_call(
     failed(run)
 }
 
-// One line. The record is fresh from `profile` to the end of the profile.
-fn step(
+// A line that asks no sender. The record is fresh from `profile` to the end of the profile.
+fn other_line(
+    n: Named,
     line: &[u8],
     run: Run,
-    p: Profile,
+    c: Counts,
+    w: u32,
+    area: &mut [u8],
+    t: &mut [u8],
+    v: &mut [u64; 147],
+    file: &mut [u8],
+) -> Other {
+    if is_load(line, run) {
+        return load(line, run, c, w, area, t, v, file);
+    }
+    if is_call(line, run) {
+        let run = lend(n, line, run, t);
+        return Other { run, anew: false };
+    }
+    let run = no_call(line, run, c, w, area, t, v);
+    let anew = run.stage < LINES;
+    Other { run, anew }
+}
+
+// A line that asks the sender, one that shows something, and any other.
+const ASKS: u8 = 0;
+
+const SHOWS: u8 = 1;
+
+const OTHER: u8 = 2;
+
+fn line_kind(n: Named, line: &[u8], run: Run) -> u8 {
+    let called = is_call(line, run) & (n.call != NO_CALL);
+    if called & (n.call <= PIECE) {
+        return ASKS;
+    }
+    if called & (n.call != AREA) & (n.call != OUT) {
+        return SHOWS;
+    }
+    OTHER
+}
+
+// The sender's record, or a fresh one.
+fn sender_of(anew: bool, s: Station) -> Station {
+    if anew {
+        return fresh();
+    }
+    s
+}
+
+// A line that asks the sender.
+fn asking(
+    n: Named,
+    line: &[u8],
+    run: Run,
+    s: Station,
+    area: &mut [u8],
+    t: &mut [u8],
+    v: &[u64; 147],
+    file: &[u8],
+) -> Step {
+    let q = asked(n, line, run, s, area, t, v, file);
+    let run = left(run, q.ok, q.text);
+    let s = q.next;
+    Step { run, s }
+}
+
+// A line that is none.
+fn asking_none(
+    n: Named,
+    line: &[u8],
+    run: Run,
     s: Station,
     area: &mut [u8],
     t: &mut [u8],
     v: &mut [u64; 147],
+    file: &mut [u8],
 ) -> Step {
-    if is_load(line, run) {
-        return load(line, run, p, s, area, t);
+    let b = other_line(
+        n,
+        line,
+        run,
+        s.sender.counts,
+        s.messages.withdrawn,
+        area,
+        t,
+        v,
+        file,
+    );
+    let run = b.run;
+    let s = sender_of(b.anew, s);
+    Step { run, s }
+}
+
+// One line.
+fn step(
+    line: &[u8],
+    run: Run,
+    s: Station,
+    area: &mut [u8],
+    t: &mut [u8],
+    v: &mut [u64; 147],
+    file: &mut [u8],
+) -> Step {
+    let n = call_of(line);
+    let kind = line_kind(n, line, run);
+    if kind == ASKS {
+        return asking(n, line, run, s, area, t, v, file);
     }
-    if is_call(line, run) {
-        return call(line, run, p, s, area, t);
+    if kind == SHOWS {
+        let run = showed(n, line, run, s, area, t, v, file);
+        return Step { run, s };
     }
-    let listed = run.stage < LINES;
-    let w = s.messages.withdrawn;
-    let run = no_call(line, run, s.sender.counts, w, area, t, v);
-    if run.stage < LINES {
-        return Step { run, p, s: fresh() };
-    }
-    let p = if listed { profile_of(v) } else { p };
-    Step { run, p, s }
+    asking_none(n, line, run, s, area, t, v, file)
 }
 
 fn next(n: u64) -> u64 {
@@ -230,8 +316,7 @@ fn finish(q: Step, n: u64, t: &mut [u8]) {
     flush(t, k);
 }
 
-// The profile of a table of zeros stands for none.
-fn none_yet(v: &[u64; 147]) -> Step {
+fn none_yet() -> Step {
     Step {
         run: Run {
             input: Input {
@@ -241,12 +326,12 @@ fn none_yet(v: &[u64; 147]) -> Step {
                 kind: WHOLE,
             },
             stage: NO_PROFILE,
+            file: 0,
             ok: true,
             area: 0,
             out: 0,
             text: 0,
         },
-        p: profile_of(v),
         s: fresh(),
     }
 }
@@ -276,14 +361,14 @@ fn stopped(run: Run) -> bool {
     (i.kind == END) | !run.ok
 }
 
-fn replay(chunk: &mut [u8], line: &mut [u8], area: &mut [u8], t: &mut [u8]) {
+fn replay(chunk: &mut [u8], line: &mut [u8], area: &mut [u8], t: &mut [u8], file: &mut [u8]) {
     let mut v = [0u64; 147];
-    let mut q = none_yet(&v);
+    let mut q = none_yet();
     let mut n: u64 = 0;
     while n < 18446744073709551615 {
         let run = read(q.run, chunk, line, t);
         let len = least(run.input.len, line);
-        q = step(&line[..len], run, q.p, q.s, area, t, &mut v);
+        q = step(&line[..len], run, q.s, area, t, &mut v, file);
         if stopped(q.run) {
             finish(q, n, t);
             return;
@@ -296,6 +381,7 @@ fn main() {
     let mut chunk = io::large_buffer();
     let mut line = io::large_buffer();
     let mut area = io::large_buffer();
+    let mut file = io::large_buffer();
     let mut text = [0u8; 131072];
-    replay(&mut chunk, &mut line, &mut area, &mut text);
+    replay(&mut chunk, &mut line, &mut area, &mut text, &mut file);
 }
