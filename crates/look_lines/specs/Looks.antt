@@ -2,7 +2,7 @@
 -- Calls). Definitions only. `a` is the work area, `out` the output, `t` the transcript's buffer and what is used of it, `chars` are the
 -- line's characters, `r` how far it was read.
 use mathlib.Core.Bool.{Bool, true, false, cond}
-use mathlib.Core.List.{List, []}
+use mathlib.Core.List.{List}
 use Prim.Native.Nat.{ℕ, _%_}
 use lib.Dec.{eqb}
 use lib.Ieee.{Float}
