@@ -21,6 +21,13 @@ pub struct Found {
     pub stretched: bool,
 }
 
+// The same without the profile.
+#[repr(C)]
+pub struct CardAnswer {
+    pub refusal: u8,
+    pub stretched: bool,
+}
+
 fn refused(refusal: u8, before: Profile) -> Found
     ensures { λ r. ⌜ (r .refusal ≡ refusal) × (r .profile ≡ before) × (r .stretched ≡ false) ⌝ }
 {

@@ -174,6 +174,7 @@ pub struct LoadLine {
     pub ok: bool,
     pub refusal: u8,
     pub profile: Profile,
+    pub stretched: bool,
 }
 
 // The line begins with `load`.
@@ -188,6 +189,7 @@ pub(crate) fn card_in(line: &[u8], before: Profile) -> LoadLine {
         ok: done(line, file),
         refusal: found.refusal,
         profile,
+        stretched: found.stretched,
     }
 }
 

@@ -69,7 +69,7 @@ fn start(run: Run, area: &mut [u8]) -> Run {
 }
 
 // The profile's next line.
-fn profile_step(line: &[u8], run: Run, area: &mut [u8], v: &mut [u64; 147]) -> Run {
+fn profile_step(line: &[u8], run: Run, area: &mut [u8], v: &mut [u64; 146]) -> Run {
     let k = run.stage;
     if !profile_line(line, k, v) {
         return failed(run);
@@ -130,8 +130,8 @@ fn is_load(line: &[u8], run: Run) -> bool {
 }
 
 // The file was taken.
-fn loaded(run: Run, area: &mut [u8], t: &mut [u8]) -> Run {
-    let n = transcript::answer(t, run.text, b"load", 0);
+fn loaded(run: Run, stretched: bool, area: &mut [u8], t: &mut [u8]) -> Run {
+    let n = transcript::loaded(t, run.text, stretched);
     with_text(start(run, area), n)
 }
 
@@ -157,7 +157,7 @@ fn load(line: &[u8], run: Run, p: Profile, s: Station, area: &mut [u8], t: &mut 
     let run = begin(run, s.sender.counts, s.messages.withdrawn, t);
     let p = q.profile;
     Step {
-        run: loaded(run, area, t),
+        run: loaded(run, q.stretched, area, t),
         p,
         s: fresh(),
     }
@@ -171,7 +171,7 @@ fn no_call(
     w: u32,
     area: &mut [u8],
     t: &mut [u8],
-    v: &mut [u64; 147],
+    v: &mut [u64; 146],
 ) -> Run {
     if passed_over(line) {
         return run;
@@ -194,7 +194,7 @@ fn step(
     s: Station,
     area: &mut [u8],
     t: &mut [u8],
-    v: &mut [u64; 147],
+    v: &mut [u64; 146],
 ) -> Step {
     if is_load(line, run) {
         return load(line, run, p, s, area, t);
@@ -231,7 +231,7 @@ fn finish(q: Step, n: u64, t: &mut [u8]) {
 }
 
 // The profile of a table of zeros stands for none.
-fn none_yet(v: &[u64; 147]) -> Step {
+fn none_yet(v: &[u64; 146]) -> Step {
     Step {
         run: Run {
             input: Input {
@@ -277,7 +277,7 @@ fn stopped(run: Run) -> bool {
 }
 
 fn replay(chunk: &mut [u8], line: &mut [u8], area: &mut [u8], t: &mut [u8]) {
-    let mut v = [0u64; 147];
+    let mut v = [0u64; 146];
     let mut q = none_yet(&v);
     let mut n: u64 = 0;
     while n < 18446744073709551615 {
