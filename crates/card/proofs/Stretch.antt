@@ -11,14 +11,13 @@ use lib.Dec.{eqb, ltb, leb}
 use lib.ListN.{length, getD, take, drop, length-drop, length-take, List·getD-append, List·getD-eq-default}
 use lib.Seq.{drop-append-le, take-append-le, getD-append-seam, getD-set-same}
 use lib.Ieee.{binary32, binary64, ofBits}
-use Rattle.laws.specs.Bytes.{part, overwrite}
+use Rattle.laws.specs.Bytes.{part}
 use Rattle.laws.specs.Little.{num}
 use Rattle.laws.specs.Span.{every, upto}
 use Rattle.laws.specs.Tests.{all}
 use Rattle.laws.proofs.Bytes.{length-over, length-part, getD-over-before, part-before, part-suc, set-over}
 use Rattle.laws.proofs.Picks.{test, and-yes, and-first, and-second, or-left}
 use Rattle.laws.proofs.Span.{every-all, all-every}
-use Rattle.config.specs.declared.Profile.{Profile}
 use Rattle.config.specs.Ranges.{inRange, inOrder}
 use Rattle.card.specs.Card.{at, row, placeAt, placeOk, placesOk, airIn, codesIn, lengthsIn, holdsIn, profileIn, profileOf, optionsIn, optionsOk}
 use Rattle.card.specs.Card.{levelsIn, wavesIn, thresholdsIn, versionBad, countsAgree, fileRefusal, stretchPlace, stretchLater, contentRefusal}
@@ -185,7 +184,7 @@ module _ (b : List ℕ) (long : 751 ≤ length b) where
         ∙ (λ j. cond (not (places-same j && inRange (profile-same j))) 1 (cond (not (inOrder (profile-same j))) 2 0))
         ∙ ap (λ (v : ℕ). contentRefusal v (optionsIn b) (profileOf b)) (sym one)
 
-    pub same-refusal : readRefusal b′ ≡ readRefusal b
+    same-refusal : readRefusal b′ ≡ readRefusal b
     unfolding readRefusal
     same-refusal = λ j. cond (eqb (file-same j) 0) (content-same j) (file-same j)
 
