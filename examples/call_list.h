@@ -73,8 +73,8 @@ static inline void lines_switches(FILE *f, const struct vanitycrow_profile *p) {
     if (p->pin_level.set) fprintf(f, "%zu\n", p->pin_level.level);
     else fputs("none\n", f);
     fprintf(f, "gear %s\npower %s\n", p->goodput ? "goodput" : "ladder", tables[p->power]);
-    fprintf(f, "on %d %d %d %d %d %d %d %d %d %d %d\n", p->harq, p->pick_family, p->eff_snr, p->lengths.burst_adapt, p->smooth_target,
-            p->hold_by_goodput, p->slice_slots, p->harq_stretch, p->merge_pieces, p->cue, p->harq_partial);
+    fprintf(f, "on %d %d %d %d %d %d %d %d %d %d\n", p->harq, p->pick_family, p->eff_snr, p->lengths.burst_adapt, p->smooth_target,
+            p->hold_by_goodput, p->slice_slots, p->merge_pieces, p->cue, p->harq_partial);
 }
 
 /* The lines of a profile that is in range. */

@@ -23,6 +23,7 @@ static const char *in_words(uint8_t refusal) {
     case VANITYCROW_PROFILE_OUT_OF_RANGE: return "a number of the profile is out of range";
     case VANITYCROW_SHORT_OVER_LONG: return "the profile's short frame is larger than the long";
     case VANITYCROW_BAD_VERSION: return "the version is not 1 to 15";
+    case VANITYCROW_STRETCH_RETIRED: return "a file of version 2 or later has harq_stretch, which is retired";
     default: return "a count doesn't agree with the version or the file's length";
     }
 }
@@ -58,8 +59,9 @@ static int write_card(const char *list_name, const char *name) {
 
 static int read_card(const uint8_t *bytes, size_t n) {
     struct vanitycrow_profile p;
-    uint8_t refusal = vanitycrow_read_profile(bytes, n, &p);
-    if (refusal != VANITYCROW_ACCEPTED) return refused(refusal);
+    struct vanitycrow_card_answer a = vanitycrow_read_profile(bytes, n, &p);
+    if (a.refusal != VANITYCROW_ACCEPTED) return refused(a.refusal);
+    if (a.stretched) fputs("card: harq_stretch, which is retired, was on: read with it off\n", stderr);
     list_profile((struct call_list){stdout, NULL}, &p);
     return 0;
 }
@@ -67,9 +69,9 @@ static int read_card(const uint8_t *bytes, size_t n) {
 /* The library has the word; what the lines mark is to be the same. */
 static int show_card(const uint8_t *bytes, size_t n) {
     struct vanitycrow_profile p;
-    uint8_t refusal = vanitycrow_read_profile(bytes, n, &p);
-    uint8_t marked = show(stdout, bytes, n);
-    if (refusal == VANITYCROW_ACCEPTED) puts("taken");
+    struct vanitycrow_card_answer a = vanitycrow_read_profile(bytes, n, &p);
+    uint8_t refusal = a.refusal, marked = show(stdout, bytes, n);
+    if (refusal == VANITYCROW_ACCEPTED) puts(a.stretched ? "taken, harq_stretch off" : "taken");
     else printf("refused by %d\n", refusal);
     if (marked == refusal) return refusal == VANITYCROW_ACCEPTED ? 0 : 1;
     fprintf(stderr, "card: the lines mark %d\n", marked);

@@ -138,7 +138,7 @@ static inline void read_dbs(struct profile_reader *r, struct vanitycrow_profile 
 static inline void read_switches(struct profile_reader *r, struct vanitycrow_profile *p) {
     static const char *const gears[] = {"ladder", "goodput"}, *const tables[] = {"none", "mean", "td"};
     bool *const flags[] = {
-        &p->harq, &p->pick_family, &p->eff_snr, &p->lengths.burst_adapt, &p->smooth_target, &p->hold_by_goodput, &p->slice_slots, &p->harq_stretch,
+        &p->harq, &p->pick_family, &p->eff_snr, &p->lengths.burst_adapt, &p->smooth_target, &p->hold_by_goodput, &p->slice_slots,
         &p->merge_pieces, &p->cue, &p->harq_partial,
     };
     read_line(r, "levels");

@@ -16,6 +16,7 @@ enum card_kind { U8 = 1, U32 = 4, U64 = 8, F32 = 32, F64 = 64, PLACE = 2 };
 struct card_field { const char *name, *unit; enum card_kind kind; size_t at, count; double low, high; size_t flag; };
 
 #define DB(name, at, count) {name, "dB", F32, at, count, -100, 100, 0}
+#define STRETCH_AT 141 /* retired: off in later versions, and read with it off */
 #define SWITCH(name, at) {name, "", PLACE, at, 1, 0, 1, 0}
 
 static const struct card_field card_levels[] = {
@@ -64,7 +65,7 @@ static const struct card_field card_options[] = {
     SWITCH("merge_pieces", 138),
     SWITCH("cue", 139),
     SWITCH("harq_partial", 140),
-    SWITCH("harq_stretch", 141),
+    SWITCH("harq_stretch", STRETCH_AT),
     {0},
 };
 
@@ -197,6 +198,10 @@ static inline uint8_t show(FILE *f, const uint8_t *b, size_t n) {
         return 14;
     }
     if (!show_counts(f, b, n)) return 14;
+    if (b[0] > 1 && b[609 + STRETCH_AT] != 0) {
+        fprintf(f, "    refused by 18: harq_stretch, which is retired, is %d in a file of version %d\n", b[609 + STRETCH_AT], b[0]);
+        return 18;
+    }
     return show_fields(f, b);
 }
 #endif

@@ -37,7 +37,6 @@ static inline struct vanitycrow_profile usual(void) {
         .smooth_target = true,
         .hold_by_goodput = true,
         .slice_slots = true,
-        .harq_stretch = true,
         .merge_pieces = true,
         .cue = true,
         .harq_partial = true,

@@ -18,9 +18,9 @@ extern "C" {
 #endif
 
 /* The version of this interface (CHANGELOG.md). */
-#define VANITYCROW_VERSION "0.10.0"
+#define VANITYCROW_VERSION "0.11.0"
 #define VANITYCROW_VERSION_MAJOR 0
-#define VANITYCROW_VERSION_MINOR 10
+#define VANITYCROW_VERSION_MINOR 11
 #define VANITYCROW_VERSION_PATCH 0
 
 #define VANITYCROW_AREA_BYTES 49152
@@ -51,6 +51,7 @@ enum {
     VANITYCROW_TOO_MANY_MESSAGES = 12,   /* more than VANITYCROW_MAX_MESSAGES messages would wait */
     VANITYCROW_BAD_VERSION = 13,         /* a profile's file has a version byte of 0 or above 15 */
     VANITYCROW_BAD_CARD = 14,            /* it is empty, or a count doesn't agree with version or length; written: the output is under VANITYCROW_CARD_BYTES */
+    VANITYCROW_STRETCH_RETIRED = 18,     /* a profile's file of version 2 or later has harq_stretch, which is retired */
     VANITYCROW_BAD_RANGE = 19,           /* the lowest report is above the highest */
     VANITYCROW_BAD_CALL_SIGN = 20,       /* not 1 to 12 capitals, digits and slashes */
     VANITYCROW_BAD_LINK_TIME = 21,       /* past VANITYCROW_LAST_SECOND, or the end before the start */
@@ -121,7 +122,6 @@ struct vanitycrow_profile {
     bool smooth_target;
     bool hold_by_goodput;
     bool slice_slots;
-    bool harq_stretch;
     bool merge_pieces;
     bool cue;
     bool harq_partial;
@@ -297,6 +297,9 @@ struct vanitycrow_place { uint8_t refusal; bool here; size_t start; size_t len; 
 /* len characters of a record, 0 where it is refused. */
 struct vanitycrow_logged { uint8_t refusal; size_t len; };
 
+/* A file that was read: stretched says that harq_stretch, which is retired, was on in it; the profile has no such option. Never where it is refused. */
+struct vanitycrow_card_answer { uint8_t refusal; bool stretched; };
+
 /* n levels, ascending, each with the lowest report that gives it: level[0] and q[0] to level[n - 1] and q[n - 1]. The places behind
  * are 0, and n is 0 where the call is refused. */
 struct vanitycrow_listing { uint8_t refusal; size_t n; uint8_t level[VANITYCROW_LEVELS]; uint8_t q[VANITYCROW_LEVELS]; };
@@ -349,8 +352,9 @@ struct vanitycrow_listing vanitycrow_levels(const struct vanitycrow_profile *p, 
 uint8_t vanitycrow_write_profile(const struct vanitycrow_profile *p, uint8_t *out, size_t n);
 
 /* The profile of a file of n bytes, into *p. Of a file of version 2 to 15, what its version adds is passed over. Where the file is refused, *p keeps every
- * byte. Refusals 13 14 1 2, in this order; 1 also where a place that is on or off is neither. */
-uint8_t vanitycrow_read_profile(const uint8_t *file, size_t n, struct vanitycrow_profile *p);
+ * byte. A file of version 1 that has harq_stretch on is read with it off, and the answer says so. Refusals 13 14 18 1 2, in this order; 1 also where a place
+ * that is on or off is neither. */
+struct vanitycrow_card_answer vanitycrow_read_profile(const uint8_t *file, size_t n, struct vanitycrow_profile *p);
 
 #ifdef __cplusplus
 }

@@ -32,12 +32,20 @@ static void read_bools(void) {
     uint8_t file[VANITYCROW_CARD_BYTES];
     const bool *single[] = {
         &p.lengths.burst_adapt, &p.lengths.burst_climb_db.set, &p.eff_snr, &p.start_margin_db.set, &p.pin_level.set, &p.goodput, &p.harq, &p.pick_family,
-        &p.smooth_target, &p.hold_by_goodput, &p.slice_slots, &p.harq_stretch, &p.merge_pieces, &p.cue, &p.harq_partial,
+        &p.smooth_target, &p.hold_by_goodput, &p.slice_slots, &p.merge_pieces, &p.cue, &p.harq_partial,
     };
     same("a card", vanitycrow_write_profile(&open_one.p, file, sizeof file), 0);
     memset(&p, 0xFF, sizeof p);
-    same("a card read", vanitycrow_read_profile(file, sizeof file, &p), 0);
+    struct vanitycrow_card_answer a = vanitycrow_read_profile(file, sizeof file, &p);
+    same("a card read", a.refusal, 0);
+    bools("whether harq_stretch was on", &a.stretched, 1);
+    same("harq_stretch of a card that was written", a.stretched, 0);
     for (size_t i = 0; i < sizeof single / sizeof *single; i++) bools("a card's places", single[i], 1);
+    file[VANITYCROW_CARD_BYTES - 1] = 1;
+    a = vanitycrow_read_profile(file, sizeof file, &p);
+    same("a card with harq_stretch on", a.refusal, 0);
+    bools("whether harq_stretch was on, where it was", &a.stretched, 1);
+    same("harq_stretch of that card", a.stretched, 1);
 }
 
 static void written_bools(void) {
@@ -88,7 +96,7 @@ static void no_memory(void) {
     same("a link log of no call sign", vanitycrow_adif(NULL, 0, 0, 0, 0, t->out, OUT_BYTES).refusal, 20);
     same("a link log into nothing", vanitycrow_adif((const uint8_t *)"A", 1, 0, 0, 0, NULL, 0).refusal, 22);
     same("a card into nothing", vanitycrow_write_profile(&t->p, NULL, 0), 14);
-    same("a card of nothing", vanitycrow_read_profile(NULL, 0, &t->p), 14);
+    same("a card of nothing", vanitycrow_read_profile(NULL, 0, &t->p).refusal, 14);
 }
 
 int main(void) {

@@ -1,8 +1,8 @@
 /* Cards from standard input through vanitycrow_write_profile and vanitycrow_read_profile, for tests/card.py. Lines, and their answers:
  *
  *     write ROOM FIELDS    REFUSAL FILE: the file written into ROOM bytes, - where refused
- *     read FILE            REFUSAL FIELDS: the fields read, - where refused
- *     changes FILE         for each byte of FILE and each other value of it a line REFUSAL CRC: CRC-32 of the fields read, 0 where refused
+ *     read FILE            REFUSAL FIELDS STRETCHED: the fields read, - where refused; 1 where the answer says that harq_stretch was on
+ *     changes FILE         for each byte of FILE and each other value of it a line REFUSAL CRC STRETCHED: CRC-32 of the fields read, 0 where refused
  *
  * FILE and FIELDS are in hexadecimal digits, - for none. FIELDS are the profile's fields in the order of include/vanitycrow.h as they lie in memory, with
  * nothing between them; any NaN is all ones. What a call has to keep is compared byte for byte, bytes around every buffer too: else this says so and ends
@@ -14,7 +14,7 @@
 #include "lent.h"
 #include "vanitycrow.h"
 
-#define FIELD_BYTES 756
+#define FIELD_BYTES 755
 
 static const char *wrong; /* what was changed that had to be kept */
 
@@ -70,7 +70,7 @@ static void go_marks(struct moving *m, struct vanitycrow_marks *x) {
 }
 
 static void go_profile(struct moving *m, struct vanitycrow_profile *p) {
-    bool *const last[] = {&p->harq, &p->pick_family, &p->smooth_target, &p->hold_by_goodput, &p->slice_slots, &p->harq_stretch, &p->merge_pieces, &p->cue,
+    bool *const last[] = {&p->harq, &p->pick_family, &p->smooth_target, &p->hold_by_goodput, &p->slice_slots, &p->merge_pieces, &p->cue,
                           &p->harq_partial};
     uint8_t *from = m->at;
     go_air(m, &p->air);
@@ -121,18 +121,18 @@ static uint8_t written(const uint8_t *fields, struct lent *out) {
     return refusal;
 }
 
-static uint8_t read_into(const uint8_t *file, size_t n, uint8_t *fields) {
+static struct vanitycrow_card_answer read_into(const uint8_t *file, size_t n, uint8_t *fields) {
     struct lent p = lend(sizeof(struct vanitycrow_profile), 0x5A), f = lend(n, 0);
     if (n) memcpy(f.bytes, file, n);
     note(&f);
-    uint8_t refusal = vanitycrow_read_profile(f.bytes, n, (struct vanitycrow_profile *)p.bytes);
+    struct vanitycrow_card_answer a = vanitycrow_read_profile(f.bytes, n, (struct vanitycrow_profile *)p.bytes);
     if (!kept(&f)) wrong = "the file was changed";
-    if (!kept_from(&p, refusal == 0 ? p.n : 0)) wrong = "a refused file changed the profile, or bytes around it were changed";
+    if (!kept_from(&p, a.refusal == 0 ? p.n : 0)) wrong = "a refused file changed the profile, or bytes around it were changed";
     struct moving m = {fields, true};
-    if (refusal == 0) go_profile(&m, (struct vanitycrow_profile *)p.bytes);
+    if (a.refusal == 0) go_profile(&m, (struct vanitycrow_profile *)p.bytes);
     give_back(&p);
     give_back(&f);
-    return refusal;
+    return a;
 }
 
 /* ---- lines */
@@ -151,7 +151,6 @@ static void answer(uint8_t refusal, const uint8_t *bytes, size_t n) {
     printf("%d ", refusal);
     if (refusal) putchar('-');
     for (size_t i = 0; i < n && !refusal; i++) printf("%02x", bytes[i]);
-    putchar('\n');
 }
 
 static void changes(uint8_t *file, size_t n) {
@@ -161,8 +160,8 @@ static void changes(uint8_t *file, size_t n) {
         for (int v = 0; v < 256; v++) {
             if (v == was) continue;
             file[i] = (uint8_t)v;
-            uint8_t refusal = read_into(file, n, fields);
-            printf("%d %u\n", refusal, refusal ? 0 : (unsigned)crc_32(fields, FIELD_BYTES));
+            struct vanitycrow_card_answer a = read_into(file, n, fields);
+            printf("%d %u %d\n", a.refusal, a.refusal ? 0 : (unsigned)crc_32(fields, FIELD_BYTES), a.stretched);
         }
         file[i] = was;
     }
@@ -175,11 +174,14 @@ static bool line_of(char *line, uint8_t *bytes) {
         struct lent out = lend(strtoul(line + 6, &rest, 10), 0xC3);
         if (from_hex(rest + 1, bytes) != FIELD_BYTES) return false;
         answer(written(bytes, &out), out.bytes, VANITYCROW_CARD_BYTES);
+        putchar('\n');
         give_back(&out);
         return true;
     }
     if (strncmp(line, "read ", 5) == 0) {
-        answer(read_into(bytes, from_hex(line + 5, bytes), fields), fields, FIELD_BYTES);
+        struct vanitycrow_card_answer a = read_into(bytes, from_hex(line + 5, bytes), fields);
+        answer(a.refusal, fields, FIELD_BYTES);
+        printf(" %d\n", a.stretched);
         return true;
     }
     if (strncmp(line, "changes ", 8) != 0) return false;

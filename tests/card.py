@@ -21,7 +21,8 @@ OPTIONS += [('short_bytes', 'I', 1), ('long_bytes', 'I', 1), ('mother', 'I', 1),
 OPTIONS += [(name, 'f', 1) for name in 'burst_steady_db burst_climb_db cue_below_db start_margin_db'.split()]
 OPTIONS += [('max_level', 'B', 1), ('skip_slices_from', 'B', 1), ('power', 'B', 1), ('pin_level', 'Q', 1)]
 OPTIONS += [(name, '?', 1) for name in ('burst_climb_set start_margin_set pin_set burst_adapt eff_snr goodput harq pick_family smooth_target '
-                                        'hold_by_goodput slice_slots merge_pieces cue harq_partial harq_stretch').split()]
+                                        'hold_by_goodput slice_slots merge_pieces cue harq_partial').split()]
+OPTIONS += [('harq_stretch', '?', 1)]                                # retired: off in a profile, and in a file that is written
 SECTIONS = [LEVELS, WAVES, THRESHOLDS, OPTIONS]
 # The order of include/vanitycrow.h, in which tests/card.c takes and gives the fields.
 MEMORY = LEVELS + WAVES + [('cue_s', 'd', 1), ('short_bytes', 'I', 1), ('long_bytes', 'I', 1), ('mother', 'I', 1), ('ends', 'I', 6)]
@@ -30,7 +31,7 @@ MEMORY += [('burst_adapt', '?', 1), ('burst_steady_db', 'f', 1), ('burst_climb_s
 MEMORY += [(name, 'd', 1) for name in 'fail_hold_s fail_hold_max_s loss_hold_s'.split()] + THRESHOLDS
 MEMORY += [('eff_snr', '?', 1), ('cue_below_db', 'f', 1), ('start_margin_set', '?', 1), ('start_margin_db', 'f', 1)]
 MEMORY += [('max_level', 'Q', 1), ('skip_slices_from', 'Q', 1), ('pin_set', '?', 1), ('pin_level', 'Q', 1), ('goodput', '?', 1), ('power', 'B', 1)]
-MEMORY += [(name, '?', 1) for name in 'harq pick_family smooth_target hold_by_goodput slice_slots harq_stretch merge_pieces cue harq_partial'.split()]
+MEMORY += [(name, '?', 1) for name in 'harq pick_family smooth_target hold_by_goodput slice_slots merge_pieces cue harq_partial'.split()]
 # Document 01's ranges, and the switch beside an optional value.
 RANGE = {'slot_bits': (1, 16384), 'pre_s': (0, 60), 'rate': (1, 100000), 'max_bits': (1, 2 ** 32 - 1), 'ack_s': (0, 60), 'cue_s': (0, 10),
          'max_burst_s': (1, 1000), 'max_burst_long_s': (1, 1000), 'burst_overhead': (0.01, 1), 'turnaround_s': (0, 60), 'fail_hold_s': (1, 100000),
@@ -82,7 +83,7 @@ def profile_refusal(p):
 def file_of(p):
     b = b'\1'
     for fields in SECTIONS:
-        part = packed(fields, p)
+        part = packed(fields, {'harq_stretch': [False], **p})
         b += struct.pack('<H', len(part)) + part
     return b
 
@@ -105,13 +106,15 @@ def cut(b):
 
 
 def read(b):
-    """The refusal, and the profile where there is none."""
+    """The refusal, the profile where there is none, and whether harq_stretch was on where the file is taken."""
     if b and not 1 <= b[0] <= 15:
-        return 13, None
+        return 13, None, False
     parts = cut(b) if b else None
     wants = [408, 48, 144, 142]
     if not parts or [len(x) for x in parts[:3]] != wants[:3] or len(parts[3]) < 142 or (b[0] == 1 and len(parts[3]) > 142):
-        return 14, None
+        return 14, None, False
+    if b[0] >= 2 and parts[3][141]:
+        return 18, None, False
     p = {}
     good = True
     for fields, part in zip(SECTIONS, parts):
@@ -119,7 +122,8 @@ def read(b):
         p.update(q)
         good = good and right
     refusal = profile_refusal(p) if good else 1
-    return refusal, None if refusal else p
+    stretched = p.pop('harq_stretch')[0]
+    return (refusal, None, False) if refusal else (0, p, stretched)
 
 
 # ---- random profiles
@@ -180,8 +184,8 @@ def answer_of(refusal, b):
 
 
 def read_answer(b):
-    refusal, p = read(b)
-    return answer_of(refusal, packed(MEMORY, p) if p else b'')
+    refusal, p, stretched = read(b)
+    return '%s %d' % (answer_of(refusal, packed(MEMORY, p) if p else b''), stretched)
 
 
 def good_profiles(r):
@@ -209,6 +213,7 @@ def noise(n, r):
         b = bytearray(file_of(next(good)))
         for _ in range(r.randint(0, 3)):
             b[r.randrange(len(b))] = r.choice([0, 1, 2, 255, r.randrange(256)])
+        b[BYTES - 1] = r.choice([0, 0, 0, 0, 1, 1, 2, r.randrange(256)])
         if r.random() < 0.5:
             more = r.randint(0, 40)
             b[0], b[607:609] = r.randint(0, 17), struct.pack('<H', 142 + more + r.choice([0, 0, 0, -1, 1]))
@@ -221,8 +226,8 @@ def single_changes(b):
     for i in range(len(b)):
         for v in range(256):
             if v != b[i]:
-                refusal, p = read(b[:i] + bytes([v]) + b[i + 1:])
-                answers.append('%d %d' % (refusal, crc(p) if p else 0))
+                refusal, p, stretched = read(b[:i] + bytes([v]) + b[i + 1:])
+                answers.append('%d %d %d' % (refusal, crc(p) if p else 0, stretched))
     return 'changes ' + b.hex(), answers
 
 
@@ -237,6 +242,10 @@ def versions(b):
         for more in (0, 1, 65535 - 142):
             part = bytes([version]) + b[1:607] + struct.pack('<H', 142 + more) + b[609:] + bytes([165]) * more
             yield 'read ' + part.hex(), [read_answer(part)]
+            for stretch in (1, 2, 255) if more < 2 else ():         # harq_stretch, and with it a number out of range: 18 comes first
+                for power in (0, 3):
+                    other = part[:727] + bytes([power]) + part[728:750] + bytes([stretch]) + part[751:]
+                    yield 'read ' + other.hex(), [read_answer(other)]
             if more == 1:                                           # the count without the byte, and the byte without the count
                 for other in (part[:-1], b[:1].replace(b'\1', bytes([version])) + b[1:] + b'\0'):
                     yield 'read ' + other.hex(), [read_answer(other)]
@@ -284,15 +293,16 @@ def show(program, count, seed):
         b = bytearray(file_of(next(good)))
         for _ in range(r.randint(0, 2)):
             b[r.choice([0, 1, 607, 608, r.randrange(609), 609 + r.randrange(142), 736 + r.randrange(15)])] = r.randrange(256)
+        b[0], b[750] = r.choice([(b[0], b[750]), (b[0], 1), (r.randint(2, 15), r.choice([0, 1, 2]))])
         if r.random() < 0.2:
             b[673:681] = struct.pack('<II', r.randint(18, 512), r.randint(18, 512))
         b = bytes(b[:r.choice([751, 751, 751, 751, 750, 0])])
-        refusal = read(b)[0]
+        refusal, _, stretched = read(b)
         with tempfile.NamedTemporaryFile() as f:
             f.write(b)
             f.flush()
             made = subprocess.run([program, 'show', f.name], capture_output=True, text=True)
-        last = 'refused by %d' % refusal if refusal else 'taken'
+        last = 'refused by %d' % refusal if refusal else 'taken, harq_stretch off' if stretched else 'taken'
         marks = re.findall(r'^ +refused by (\d+): ', made.stdout, re.M)
         if made.returncode != (1 if refusal else 0) or made.stdout.splitlines()[-1] != last or set(marks) != ({str(refusal)} if refusal else set()):
             print('%s\n%s%s' % (b.hex(), made.stdout, made.stderr))
@@ -323,7 +333,7 @@ def words_of(line, p):
         names = {'ack_s': ['ack_s'] * 6, 'frame_bytes': ['short_bytes', 'long_bytes'], 'harq': ['mother'] + ['ends'] * 6,
                  'burst': ['max_burst_s', 'max_burst_long_s', 'burst_overhead', 'turnaround_s'], 'hold': ['fail_hold_s', 'fail_hold_max_s', 'loss_hold_s'],
                  'db': ['margin_db', 'eff_margin_db', 'cue_below_db', 'burst_steady_db'], 'levels': ['max_level', 'skip_slices_from'],
-                 'on': ('harq pick_family eff_snr burst_adapt smooth_target hold_by_goodput slice_slots harq_stretch merge_pieces cue harq_partial').split()}
+                 'on': ('harq pick_family eff_snr burst_adapt smooth_target hold_by_goodput slice_slots merge_pieces cue harq_partial').split()}
         letters = {name: letter for name, letter, _ in MEMORY}
         for name, w in zip(names.get(word, [word] * len(values)), values):
             of = {'d': f64, 'f': f32, '?': lambda b: b == '1'}.get(letters[name], int)
@@ -361,8 +371,8 @@ def transcript(lines):
                 answer = None if line != 'card' or stage != 'whole' else 'card refused %d' % refusal if refusal else 'card ok ' + b.hex()
             elif word == 'load':
                 found = re.fullmatch('load ((?:[0-9a-f]{2})+|-)', line)
-                refusal, q = read(b'' if found[1] == '-' else bytes.fromhex(found[1])) if found else (0, None)
-                answer = None if not found else 'load refused %d' % refusal if refusal else 'load ok'
+                refusal, q, stretched = read(b'' if found[1] == '-' else bytes.fromhex(found[1])) if found else (0, None, False)
+                answer = None if not found else 'load refused %d' % refusal if refusal else 'load ok stretched' if stretched else 'load ok'
                 if q:
                     if stage == 'whole':
                         yield end

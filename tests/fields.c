@@ -141,7 +141,7 @@ static void profile_flags(void) {
     bool *const flags[] = {
         &p->lengths.burst_adapt, &p->eff_snr, &p->goodput, &p->harq, &p->pick_family, &p->smooth_target, &p->hold_by_goodput,
         &p->slice_slots,
-        &p->harq_stretch, &p->merge_pieces, &p->cue, &p->harq_partial, &p->lengths.burst_climb_db.set, &p->start_margin_db.set,
+        &p->merge_pieces, &p->cue, &p->harq_partial, &p->lengths.burst_climb_db.set, &p->start_margin_db.set,
         &p->pin_level.set,
     };
     p->lengths.burst_climb_db.set = p->start_margin_db.set = p->pin_level.set = true;

@@ -35,6 +35,7 @@ typedef struct vanitycrow_burst Burst;
 typedef struct vanitycrow_place Place;
 typedef struct vanitycrow_logged Logged;
 typedef struct vanitycrow_listing Listing;
+typedef struct vanitycrow_card_answer CardAnswer;
 
 /* The type of a field or of its elements; size_t is uint64_t here. */
 #define KIND(x) \
@@ -68,7 +69,7 @@ static void profile_lines(void) {
     F(Profile, air); F(Profile, short_bytes); F(Profile, long_bytes); F(Profile, codes); F(Profile, lengths); F(Profile, hold_times);
     F(Profile, plain); F(Profile, eff); F(Profile, eff_snr); F(Profile, cue_below_db); F(Profile, start_margin_db); F(Profile, max_level);
     F(Profile, skip_slices_from); F(Profile, pin_level); F(Profile, goodput); F(Profile, power); F(Profile, harq); F(Profile, pick_family);
-    F(Profile, smooth_target); F(Profile, hold_by_goodput); F(Profile, slice_slots); F(Profile, harq_stretch); F(Profile, merge_pieces);
+    F(Profile, smooth_target); F(Profile, hold_by_goodput); F(Profile, slice_slots); F(Profile, merge_pieces);
     F(Profile, cue); F(Profile, harq_partial);
 }
 
@@ -128,6 +129,8 @@ static void reply_and_answer_lines(void) {
     F(Logged, refusal); F(Logged, len);
     S(Listing);
     F(Listing, refusal); F(Listing, n); F(Listing, level); F(Listing, q);
+    S(CardAnswer);
+    F(CardAnswer, refusal); F(CardAnswer, stretched);
 }
 
 int main(void) {

@@ -40,7 +40,6 @@ static inline struct vanitycrow_profile short_profile(void) {
 static inline struct vanitycrow_profile large_profile(void) {
     struct vanitycrow_profile p = usual();
     p.short_bytes = p.long_bytes = 512;
-    p.harq_stretch = false;
     p.slice_slots = false;
     p.power = 2;
     return p;
@@ -93,7 +92,6 @@ static inline void any_switches(struct vanitycrow_profile *p) {
     p->smooth_target = percent(50);
     p->hold_by_goodput = percent(50);
     p->slice_slots = percent(50);
-    p->harq_stretch = percent(50);
     p->merge_pieces = percent(75);
     p->cue = percent(50);
     p->harq_partial = percent(50);

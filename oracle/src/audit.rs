@@ -554,11 +554,7 @@ fn burst_holds(h: &Harness, before: &Allowance, b: &Burst, flown: &[u8], first_n
         s.last_burst[parity..].iter().all(|f| others.next() == Some(&f.off)),
         "an older piece is passed over"
     );
-    let only_parity = parity == b.frames.len();
-    let mut allowance = before.burst_len_s;
-    if only_parity && p.on(on::HARQ_STRETCH) && !(before.cue && p.on(on::HARQ_PARTIAL)) {
-        allowance = allowance.max(p.f64(BURST, 1));
-    }
+    let allowance = before.burst_len_s;
     if b.frames.len() >= 2 || parity > 0 {
         let d = duration(p, level, bits, before.cue);
         demand!(d <= allowance, "{} frames take {d} s of {allowance}", b.frames.len());

@@ -10,7 +10,7 @@ use crate::profile::*;
 
 const LEVELS: usize = 17;
 const KINDS: [&str; 6] = ["usual", "ladder", "harq", "extreme", "hostile", "merge"];
-const PROFILE_BYTES: usize = 8 * 147 + 4;
+const PROFILE_BYTES: usize = 8 * 146 + 4;
 const REPLY_BYTES: usize = 60;
 const LEVEL_BYTES: usize = 24;
 const CALLS: usize = 150;

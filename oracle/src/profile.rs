@@ -76,7 +76,7 @@ pub const LINES: [(&str, &[Range]); 33] = [
     ("pin_level", &[MaybeWhole(0, 16)]),
     ("gear", &[Choice(&["goodput", "ladder"])]),
     ("power", &[Choice(&["none", "mean", "td"])]),
-    ("on", &[Flag; 11]),
+    ("on", &[Flag; 10]),
 ];
 
 pub const ACK_S: usize = 17;
@@ -105,10 +105,9 @@ pub mod on {
     pub const SMOOTH_TARGET: usize = 4;
     pub const HOLD_BY_GOODPUT: usize = 5;
     pub const SLICE_SLOTS: usize = 6;
-    pub const HARQ_STRETCH: usize = 7;
-    pub const MERGE_PIECES: usize = 8;
-    pub const CUE: usize = 9;
-    pub const HARQ_PARTIAL: usize = 10;
+    pub const MERGE_PIECES: usize = 7;
+    pub const CUE: usize = 8;
+    pub const HARQ_PARTIAL: usize = 9;
 }
 
 impl Range {
@@ -185,7 +184,7 @@ impl Profile {
         values.push(vec![Value::None]);
         values.push(vec![Value::Choice(0)]);
         values.push(vec![Value::Choice(0)]);
-        values.push(vec![Value::Flag(true); 11]);
+        values.push(vec![Value::Flag(true); 10]);
         Self { values }
     }
 
@@ -301,7 +300,8 @@ impl Profile {
         c.smooth_target = self.on(on::SMOOTH_TARGET);
         c.hold_by_goodput = self.on(on::HOLD_BY_GOODPUT);
         c.slice_slots = self.on(on::SLICE_SLOTS);
-        c.harq_stretch = self.on(on::HARQ_STRETCH);
+        // Retired (document 02, Change 11).
+        c.harq_stretch = false;
         c.merge_pieces = self.on(on::MERGE_PIECES);
         c.cue = self.on(on::CUE);
         c.harq_partial = self.on(on::HARQ_PARTIAL);

@@ -1,5 +1,5 @@
-//! The usual profile as a card, through the safe wrapper (docs/CARD.md): card writes it in hexadecimal digits; card FILE reads such digits and writes the
-//! card of the profile in them.
+//! The usual profile as a card, through the safe wrapper (docs/CARD.md): card writes it in hexadecimal digits; card DIGITS reads such a card and writes the
+//! card of the profile in it, and says where harq_stretch was on.
 
 #[path = "link/usual.rs"]
 mod usual;
@@ -13,7 +13,13 @@ fn bytes(digits: &str) -> Vec<u8> {
 
 fn card() -> Result<[u8; CARD_BYTES], Refusal> {
     match std::env::args().nth(1) {
-        Some(digits) => Profile::from_card(&bytes(&digits))?.to_card(),
+        Some(digits) => {
+            let (profile, stretched) = Profile::from_card(&bytes(&digits))?;
+            if stretched {
+                eprintln!("harq_stretch, which is retired, was on: read with it off");
+            }
+            profile.to_card()
+        }
         None => usual::usual().to_card(),
     }
 }

@@ -42,6 +42,7 @@ pub enum Refusal {
     TooManyMessages = 12,
     BadVersion = 13,
     BadCard = 14,
+    StretchRetired = 18,
     BadRange = 19,
     BadCallSign = 20,
     BadLinkTime = 21,
@@ -73,6 +74,7 @@ fn told(number: u8) -> Result<(), Refusal> {
         12 => Err(TooManyMessages),
         13 => Err(BadVersion),
         14 => Err(BadCard),
+        18 => Err(StretchRetired),
         19 => Err(BadRange),
         20 => Err(BadCallSign),
         21 => Err(BadLinkTime),
@@ -111,12 +113,14 @@ impl Profile {
         told(unsafe { raw::vanitycrow_write_profile(self, file.as_mut_ptr(), file.len()) }).map(|()| file)
     }
 
-    /// The profile of a file. Of a file of version 2 to 15, what its version adds is passed over.
-    pub fn from_card(file: &[u8]) -> Result<Profile, Refusal> {
+    /// The profile of a file, and whether harq_stretch, which is retired, was on in it: it is read with that off. Of a file of version 2 to 15, what its
+    /// version adds is passed over.
+    pub fn from_card(file: &[u8]) -> Result<(Profile, bool), Refusal> {
         // SAFETY: all zeros is a value of Profile, which has only numbers, bools and arrays of them.
         let mut profile = unsafe { std::mem::zeroed() };
         // SAFETY: pointers and lengths are those of live borrows that don't overlap.
-        told(unsafe { raw::vanitycrow_read_profile(file.as_ptr(), file.len(), &mut profile) }).map(|()| profile)
+        let answer = unsafe { raw::vanitycrow_read_profile(file.as_ptr(), file.len(), &mut profile) };
+        told(answer.refusal).map(|()| (profile, answer.stretched))
     }
 }
 

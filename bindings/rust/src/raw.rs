@@ -77,7 +77,6 @@ plain! {
         smooth_target: bool,
         hold_by_goodput: bool,
         slice_slots: bool,
-        harq_stretch: bool,
         merge_pieces: bool,
         cue: bool,
         harq_partial: bool,
@@ -148,6 +147,7 @@ plain! {
     struct Place { refusal: u8, here: bool, start: usize, len: usize, }
     struct Logged { refusal: u8, len: usize, }
     struct Listing { refusal: u8, n: usize, level: [u8; 17], q: [u8; 17], }
+    struct CardAnswer { refusal: u8, stretched: bool, }
 }
 
 extern "C" {
@@ -171,5 +171,5 @@ extern "C" {
     pub fn vanitycrow_adif(call: *const u8, call_len: usize, on: u64, off: u64, acked: u32, out: *mut u8, n: usize) -> Logged;
     pub fn vanitycrow_levels(p: *const Profile, class: ChanClass, low: u8, high: u8) -> Listing;
     pub fn vanitycrow_write_profile(p: *const Profile, out: *mut u8, n: usize) -> u8;
-    pub fn vanitycrow_read_profile(file: *const u8, n: usize, p: *mut Profile) -> u8;
+    pub fn vanitycrow_read_profile(file: *const u8, n: usize, p: *mut Profile) -> CardAnswer;
 }

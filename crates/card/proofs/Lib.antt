@@ -7,3 +7,4 @@ pub mod Refusals
 pub mod Round
 pub mod Row
 pub mod Sections
+pub mod Stretch

@@ -13,7 +13,7 @@ use Rattle.laws.proofs.Tests.{all-at}
 use Rattle.laws.proofs.Picks.{test}
 use Rattle.config.specs.declared.Profile.{Profile}
 use Rattle.config.specs.Ranges.{inRange, inOrder}
-use Rattle.card.specs.Card.{at, versionBad, optionsOk, countsAgree, fileRefusal, contentRefusal, readRefusal, readOf, optionsIn}
+use Rattle.card.specs.Card.{at, versionBad, optionsOk, countsAgree, fileRefusal, contentRefusal, readRefusal, readOf, optionsIn, stretchPlace}
 use Rattle.card.specs.Card.{profileOf, cardOf, writeRefusal, writeOf}
 
 -- ---- the version
@@ -47,23 +47,23 @@ counts-short b h = test (countsAgree b) (λ e. absurd (omega (arith, counts-long
 
 -- ---- the file and then the profile
 
-pub read-file : (b : List ℕ) (before : Profile) (r : ℕ) → r ≡ fileRefusal b → (r ≡ 0 → ⊥) → (r, before) ≡ readOf b before
+pub read-file : (b : List ℕ) (before : Profile) (r : ℕ) → r ≡ fileRefusal b → (r ≡ 0 → ⊥) → (r, before, false) ≡ readOf b before
 unfolding readRefusal readOf
 read-file b before r e n = rw (← e) (rw (ne-eqb r 0 n) (rw (ne-eqb r 0 n) refl))
 
 module _ (b : List ℕ) (before : Profile) (f r : ℕ) (file : f ≡ fileRefusal b) (good : f ≡ 0)
-    (e : r ≡ contentRefusal (optionsIn b) (profileOf b)) where
+    (e : r ≡ contentRefusal (getD b 0 0) (optionsIn b) (profileOf b)) where
   whole : readRefusal b ≡ r
   unfolding readRefusal
   whole = rw (← file, eq-eqb f 0 good) (sym e)
 
-  pub read-refused : (r ≡ 0 → ⊥) → (r, before) ≡ readOf b before
+  pub read-refused : (r ≡ 0 → ⊥) → (r, before, false) ≡ readOf b before
   unfolding readOf
   read-refused n = rw (whole, ne-eqb r 0 n) refl
 
-  pub read-good : r ≡ 0 → (0, profileOf b) ≡ readOf b before
+  pub read-good : r ≡ 0 → (0, profileOf b, eqb (stretchPlace (optionsIn b)) 1) ≡ readOf b before
   unfolding readOf
-  read-good n = rw (whole, eq-eqb r 0 n) (λ j. (sym n j, profileOf b))
+  read-good n = rw (whole, eq-eqb r 0 n) (λ j. (sym n j, profileOf b, eqb (stretchPlace (optionsIn b)) 1))
 
 -- ---- writing
 

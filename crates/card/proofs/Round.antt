@@ -20,7 +20,7 @@ use Rattle.config.specs.Ranges.{inRange, inOrder}
 use Rattle.card.specs.Card.{at, row, packed, bits32, bits64, flagByte, levelsOf, wavesOf, marksBytes, thresholdsOf, doubles, wholes}
 use Rattle.card.specs.Card.{singles}
 use Rattle.card.specs.Card.{smallsOf, onOffPlaces, optionsOf, cardOf, cardBytes, placeAt, cardFlag, placeOk, airIn, marksIn, codesIn}
-use Rattle.card.specs.Card.{lengthsIn, holdsIn, profileIn, profileOf, versionBad, placesOk, fileRefusal, contentRefusal, readOf}
+use Rattle.card.specs.Card.{lengthsIn, holdsIn, profileIn, profileOf, versionBad, placesOk, fileRefusal, stretchPlace, contentRefusal, readOf, optionsIn}
 use Rattle.card.specs.Card.{writeRefusal, writeOf}
 use Rattle.card.specs.Claims.{Typed, RoundTrip}
 use Rattle.card.proofs.Pack.{length-packed, row-long}
@@ -192,7 +192,6 @@ module _ (p : Profile) (t : Typed p) where
     «smooth_target» = flag-back 8 j;
     «hold_by_goodput» = flag-back 9 j;
     «slice_slots» = flag-back 10 j;
-    «harq_stretch» = flag-back 14 j;
     «merge_pieces» = flag-back 11 j;
     cue = flag-back 12 j;
     «harq_partial» = flag-back 13 j;
@@ -211,14 +210,20 @@ module _ (p : Profile) (t : Typed p) where
   unfolding fileRefusal
   file-good = rw (version-good, card-counts p t) refl
 
-  accepted : inRange p ≡ true → inOrder p ≡ true → contentRefusal (optionsOf p) p ≡ 0
+  accepted : inRange p ≡ true → inOrder p ≡ true → contentRefusal 1 (optionsOf p) p ≡ 0
   unfolding contentRefusal
   accepted a b = rw (places-good, a, b) refl
 
-  card-read : (before : Profile) → inRange p ≡ true → inOrder p ≡ true → readOf (cardOf p) before ≡ (0, p)
+  -- "Writing puts 0 there"
+  stretch-off : eqb (stretchPlace (optionsIn (cardOf p))) 1 ≡ false
+  unfolding onOffPlaces
+  stretch-off = ap (λ (os : List ℕ). eqb (stretchPlace os) 1) (options-back p t) ∙ ap (λ (n : ℕ). eqb n 1) (place-back 14)
+
+  card-read : (before : Profile) → inRange p ≡ true → inOrder p ≡ true → readOf (cardOf p) before ≡ (0, p, false)
+  unfolding cardOf
   card-read before a b =
-      let e : 0 ≡ contentRefusal _ _ = sym (accepted a b) ∙ (λ j. contentRefusal (sym (options-back p t) j) (sym profile-back j)) in
-      sym (read-good (cardOf p) before 0 0 (sym file-good) refl e refl) ∙ (λ j. (0, profile-back j))
+      let e : 0 ≡ contentRefusal 1 _ _ = sym (accepted a b) ∙ (λ j. contentRefusal 1 (sym (options-back p t) j) (sym profile-back j)) in
+      sym (read-good (cardOf p) before 0 0 (sym file-good) refl e refl) ∙ (λ j. (0, profile-back j, stretch-off j))
 
 -- ---- the claim
 

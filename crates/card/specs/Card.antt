@@ -84,13 +84,13 @@ singles p = p .lengths .«burst_steady_db» ∷ p .lengths .«burst_climb_db» .
 unfoldable pub smallsOf : Profile → List ℕ
 smallsOf p = p .«max_level» ∷ p .«skip_slices_from» ∷ p .power ∷ le 8 (p .«pin_level» .level)
 
--- fifteen places that are on or off, harq_stretch last
+-- fifteen places that are on or off; the last was harq_stretch's: "Writing puts 0 there" (Change 11)
 unfoldable pub onOffPlaces : Profile → List Bool
 onOffPlaces p =
     p .lengths .«burst_climb_db» .set ∷ p .«start_margin_db» .set ∷ p .«pin_level» .set ∷ p .lengths .«burst_adapt» ∷ p .«eff_snr»
     ∷ p .goodput
     ∷ p .harq ∷ p .«pick_family» ∷ p .«smooth_target» ∷ p .«hold_by_goodput» ∷ p .«slice_slots» ∷ p .«merge_pieces» ∷ p .cue
-    ∷ p .«harq_partial» ∷ p .«harq_stretch» ∷ []
+    ∷ p .«harq_partial» ∷ false ∷ []
 
 unfoldable pub optionsOf : Profile → List ℕ
 optionsOf p =
@@ -200,7 +200,6 @@ profileIn ls ws ts os =
       «smooth_target» = cardFlag os 8;
       «hold_by_goodput» = cardFlag os 9;
       «slice_slots» = cardFlag os 10;
-      «harq_stretch» = cardFlag os 14;
       «merge_pieces» = cardFlag os 11;
       cue = cardFlag os 12;
       «harq_partial» = cardFlag os 13;
@@ -246,16 +245,24 @@ placeOk os i = leb (placeAt os i) 1
 unfoldable pub placesOk : List ℕ → Bool
 placesOk os = every (placeOk os) (upto 0 15)
 
+-- the place that was harq_stretch's
+abbrev pub stretchPlace : List ℕ → ℕ
+stretchPlace os = placeAt os 14
+
+-- 18: "a file of version 2 or later whose place for it isn't 0" (Change 11)
+abbrev pub stretchLater : ℕ → List ℕ → Bool
+stretchLater v os = ltb 1 v && not (eqb (stretchPlace os) 0)
+
 -- "Reading refuses a version byte of 0 or above 15 with 13, then an empty file, or a count .. with 14,
 unfoldable pub fileRefusal : List ℕ → ℕ
 fileRefusal b = cond (versionBad b) 13 (cond (not (countsAgree b)) 14 0)
 
--- then what 1 and 2 refuse"
-unfoldable pub contentRefusal : List ℕ → Profile → ℕ
-contentRefusal os p = cond (not (placesOk os && inRange p)) 1 (cond (not (inOrder p)) 2 0)
+-- then what 1 and 2 refuse"; 18 "after 14": version, options and profile
+unfoldable pub contentRefusal : ℕ → List ℕ → Profile → ℕ
+contentRefusal v os p = cond (stretchLater v os) 18 (cond (not (placesOk os && inRange p)) 1 (cond (not (inOrder p)) 2 0))
 
 unfoldable pub readRefusal : List ℕ → ℕ
-readRefusal b = cond (eqb (fileRefusal b) 0) (contentRefusal (optionsIn b) (profileOf b)) (fileRefusal b)
+readRefusal b = cond (eqb (fileRefusal b) 0) (contentRefusal (getD b 0 0) (optionsIn b) (profileOf b)) (fileRefusal b)
 
 -- "refuses by 1 and 2, then by 14 an output shorter than the file"
 unfoldable pub writeRefusal : Profile → ℕ → ℕ
@@ -263,9 +270,11 @@ writeRefusal p n = cond (not (inRange p)) 1 (cond (not (inOrder p)) 2 (cond (ltb
 
 -- ---- the calls
 
--- the number, and the profile: `before`, which was handed in, where the file is refused
-unfoldable pub readOf : List ℕ → Profile → ℕ × Profile
-readOf b before = (readRefusal b, cond (eqb (readRefusal b) 0) (profileOf b) before)
+-- the number; the profile: `before`, which was handed in, where the file is refused; and whether harq_stretch was on: "read with it off, and
+-- that reading alone says so" (Change 11)
+unfoldable pub readOf : List ℕ → Profile → ℕ × Profile × Bool
+readOf b before =
+    let good = eqb (readRefusal b) 0 in (readRefusal b, cond good (profileOf b) before, good && eqb (stretchPlace (optionsIn b)) 1)
 
 -- the number, and every byte of the output: "what lies past the bytes written is kept"
 unfoldable pub writeOf : Profile → List ℕ → ℕ × List ℕ

@@ -22,9 +22,10 @@ use config::ranges::in_range;
 use harq::Harq;
 ghost use mathlib.Core.Path.{_≡_};
 ghost use Prim.Native.Nat.{_+_, _≤_, _<_};
+ghost use lib.Dec.{eqb};
 ghost use lib.ListN.{length, getD};
 ghost use Rattle.card.specs.Card.{at as valueAt, cardFlag, optionAt, pinIn, airIn, marksIn, codesIn, lengthsIn, holdsIn, profileIn};
-ghost use Rattle.card.specs.Card.{versionBad, optionsOk, countsAgree, fileRefusal, placesOk, contentRefusal};
+ghost use Rattle.card.specs.Card.{versionBad, optionsOk, countsAgree, fileRefusal, placesOk, stretchPlace, stretchLater, contentRefusal};
 
 fn flag(os: &[u8], i: usize) -> bool
     requires { ⌜ 127 + i < length (now os) ⌝ }
@@ -152,7 +153,6 @@ pub(crate) fn profile(ls: &[u8], ws: &[u8], ts: &[u8], os: &[u8]) -> Profile
         smooth_target: flag(os, 8),
         hold_by_goodput: flag(os, 9),
         slice_slots: flag(os, 10),
-        harq_stretch: flag(os, 14),
         merge_pieces: flag(os, 11),
         cue: flag(os, 12),
         harq_partial: flag(os, 13),
@@ -222,11 +222,29 @@ fn places_ok(os: &[u8]) -> bool
     true
 }
 
-// 1 and 2.
-pub(crate) fn profile_refusal(os: &[u8], p: Profile) -> u8
+// Whether harq_stretch is on.
+pub(crate) fn stretch_on(os: &[u8]) -> bool
     requires { ⌜ 142 ≤ length (now os) ⌝ }
-    ensures { λ r. ⌜ r ≡ contentRefusal (now (os .entry)) p ⌝ }
+    ensures { λ r. ⌜ r ≡ eqb (stretchPlace (now (os .entry))) 1 ⌝ }
 {
+    os[141] == 1
+}
+
+fn stretch_later(version: u8, os: &[u8]) -> bool
+    requires { ⌜ 142 ≤ length (now os) ⌝ }
+    ensures { λ r. ⌜ r ≡ stretchLater version (now (os .entry)) ⌝ }
+{
+    (1 < version) & (os[141] != 0)
+}
+
+// 18, 1 and 2.
+pub(crate) fn profile_refusal(version: u8, os: &[u8], p: Profile) -> u8
+    requires { ⌜ 142 ≤ length (now os) ⌝ }
+    ensures { λ r. ⌜ r ≡ contentRefusal version (now (os .entry)) p ⌝ }
+{
+    if stretch_later(version, os) {
+        return 18;
+    }
     if !places_ok(os) {
         return 1;
     }

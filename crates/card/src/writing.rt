@@ -137,7 +137,7 @@ fn put_places(out: &mut [u8], p: Profile)
         p.merge_pieces,
         p.cue,
         p.harq_partial,
-        p.harq_stretch,
+        false,
     ];
     put_flags(out, 736, &x);
 }

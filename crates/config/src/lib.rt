@@ -87,7 +87,6 @@ pub struct Profile {
     pub smooth_target: bool,
     pub hold_by_goodput: bool,
     pub slice_slots: bool,
-    pub harq_stretch: bool,
     pub merge_pieces: bool,
     pub cue: bool,
     pub harq_partial: bool,

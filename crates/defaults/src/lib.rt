@@ -157,7 +157,6 @@ pub fn new_profile() -> Profile
         smooth_target: true,
         hold_by_goodput: true,
         slice_slots: true,
-        harq_stretch: true,
         merge_pieces: true,
         cue: true,
         harq_partial: true,

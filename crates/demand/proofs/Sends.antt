@@ -3,7 +3,7 @@
 use mathlib.Core.Path.{_≡_, refl, sym, ap, ap₂, _∙_, subst}
 use mathlib.Core.Logic.{_⊎_}
 use mathlib.Core.List.{List, map, _++_}
-use mathlib.Core.Bool.{true, not}
+use mathlib.Core.Bool.{true}
 use Prim.Native.Nat.{ℕ, _+_, _≤_}
 use native.Mathlib.Omega.{arith}
 use lib.Ieee.{le}
@@ -38,7 +38,7 @@ use Rattle.verdicts.specs.Verdicts.{passed, burstVerdict}
 use Rattle.sender.specs.declared.Bursted.{Bursted}
 use Rattle.sender.specs.Calls.{burstCall}
 use Rattle.demand.specs.Lists.{Call, bursts, shown, framesAnswered, next, told}
-use Rattle.demand.specs.Page.{byOffset, Taken, framesOfTaken, sumOf, onAir, allowance, anyIncrement, anyWhole, messages, bytes, c, s, t, answer, leaves, Sends}
+use Rattle.demand.specs.Page.{byOffset, Taken, framesOfTaken, sumOf, onAir, allowance, anyIncrement, messages, bytes, c, s, t, answer, leaves, Sends}
 use Rattle.demand.proofs.Answers.{burst-is, burst-told, burst-verdict}
 use Rattle.demand.proofs.Steps.{sizes, Ok, does-burst, taken}
 use Rattle.demand.proofs.Payloads.{sent-taken, sent-bytes, within, none-reserved}
@@ -125,7 +125,7 @@ module _ (p : Profile) (rg : Ranged p) (io : inOrder p ≡ true) (six : length (
   -- of an answer x that leaves `sent`
   abbrev InTime : Outgoing → List Sent → Type 0
   InTime x sent = (2 ≤ x .frames .n) ⊎ (anyIncrement sent ≡ true)
-      → le (onAir p (c p n is .0 .sender .gear .level) x) (allowance p (c p n is .0 .sender .gear) (not (anyWhole sent)) (x .cue)) ≡ true
+      → le (onAir p (c p n is .0 .sender .gear .level) x) (allowance p (c p n is .0 .sender .gear)) ≡ true
 
   in-time : InTime (answer p n is out) (leaves p n is out)
   unfolding outgoing headed framesOut
@@ -134,8 +134,8 @@ module _ (p : Profile) (rg : Ranged p) (io : inOrder p ≡ true) (six : length (
       let g = c p n is .0 .sender .gear in
       subst (λ (x : L.Sender). InTime (answer p n is out) (x .sent)) (sym stepped)
       (subst (λ (x : Outgoing). InTime x (s′ .sent)) (sym answered)
-      (λ h. subst (λ (bits : ℕ). le (dataAt (p .air) l bits (cue p g)) (allowance p g (not (anyWhole (s′ .sent))) (cue p g)) ≡ true) (sym bits-are)
-      (on-time p (c p n is .0 .sender) (c p n is .1) (w .well .sound .ledger) (choice-keeps-air p rg (c p n is .0 .sender) (c p n is .1) (w .well) six) h)))
+      (λ h. subst (λ (bits : ℕ). le (dataAt (p .air) l bits (cue p g)) (allowance p g) ≡ true) (sym bits-are)
+      (on-time p (c p n is .0 .sender) (c p n is .1) (choice-keeps-air p rg (c p n is .0 .sender) (c p n is .1) (w .well) six) h)))
 
   pub sends : Sends p n is out
   sends =

@@ -5,7 +5,7 @@
 use mathlib.Core.Path.{_≡_}
 use mathlib.Core.Logic.{_⊎_}
 use mathlib.Core.List.{List, [], _∷_, _++_, map}
-use mathlib.Core.Bool.{Bool, true, false, cond, not, _&&_, _||_}
+use mathlib.Core.Bool.{Bool, true, false, not, _&&_, _||_}
 use Prim.Native.Nat.{ℕ, _+_, _≤_}
 use lib.Dec.{ltb, eqb}
 use lib.Ieee.{Float, le}
@@ -13,7 +13,6 @@ use lib.ListN.{length, take, drop}
 use Rattle.laws.specs.Bytes.{overwrite}
 use Rattle.laws.specs.Lists.{listed}
 use Rattle.limits.specs.Limits.{longestPayload, maxFlying, maxPieces}
-use Rattle.float.specs.Pick.{maxF}
 use Rattle.frame.specs.Frame.{frameOf}
 use Rattle.config.specs.Durations.{frameBytes, dataAt}
 use Rattle.config.specs.declared.Profile.{Profile}
@@ -107,20 +106,14 @@ sumOf (x ∷ xs) = x + sumOf xs
 abbrev pub onAir : Profile → ℕ → Outgoing → Float
 onAir p l x = dataAt (p .air) l (sumOf (take (x .frames .n) (x .frames .bits))) (x .cue)
 
--- "`burst_len_s`; for a burst of held pieces only, with harq_stretch on and the cue-and-partial rule off, the larger of it and the long burst"
-abbrev pub allowance : Profile → Gear → Bool → Bool → Float
-allowance p g heldOnly cue =
-    let usual = burstLen p g (g .level) in
-    cond (heldOnly && (p .«harq_stretch» && not (cue && p .«harq_partial»))) (maxF usual (p .lengths .«max_burst_long_s»)) usual
+-- "The air allowance is the burst length for all", `burst_len_s` (document 02, Change 11)
+abbrev pub allowance : Profile → Gear → Float
+allowance p g = burstLen p g (g .level)
 
 -- "Parity is frames of increments": a frame after which the peer holds more than its own bits
 abbrev pub anyIncrement : List Sent → Bool
 anyIncrement [] = false
 anyIncrement (f ∷ fs) = not (eqb (f .held) (f .bits)) || anyIncrement fs
-
-abbrev pub anyWhole : List Sent → Bool
-anyWhole [] = false
-anyWhole (f ∷ fs) = eqb (f .held) (f .bits) || anyWhole fs
 
 module _ (p : Profile) (n : ℕ) (is : List Call) where
   -- record and work area after the calls `is`, from a fresh record and n zeros; what they show; the tally of the calls; the messages queued,
@@ -159,7 +152,7 @@ module _ (p : Profile) (n : ℕ) (is : List Call) where
       pub some : 1 ≤ inFlight (t .flown) + length (waits t) → 1 ≤ answer .frames .n
       -- two frames or more, or parity: its seconds on air are within its allowance
       pub air : (2 ≤ answer .frames .n) ⊎ (anyIncrement leaves ≡ true)
-          → le (onAir p (c .0 .sender .gear .level) answer) (allowance p (c .0 .sender .gear) (not (anyWhole leaves)) (answer .cue)) ≡ true
+          → le (onAir p (c .0 .sender .gear .level) answer) (allowance p (c .0 .sender .gear)) ≡ true
 
 -- THE CLAIM: of every profile, every length of the work area, every list of calls, every further call and every burst. That a profile has
 -- six rate ends at most, and that a byte is below 256 (`Given`), is what the types [u32; 6] and [u8] say. Refusal 3 never comes under a

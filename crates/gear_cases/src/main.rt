@@ -1,6 +1,6 @@
 // Drives the gear alone with decisions of the original that `oracle/run gear SEED COUNT` stored: a profile and a fresh gear, then replies, and after
 // each of them every field of the record against the original's, by its bits. `stdout` holds the counts, and a difference is written as it is found.
-// stdin: profiles of 1,180 bytes, 147 numbers and how many replies follow. A reply is 60 bytes, and 24 for each level that it changed.
+// stdin: profiles of 1,172 bytes, 146 numbers and how many replies follow. A reply is 60 bytes, and 24 for each level that it changed.
 mod read;
 mod same;
 
@@ -338,11 +338,11 @@ fn print_counts(c: Counts) {
 }
 
 // A profile and its replies.
-fn profile(c: Counts, a: &[u8; 1180]) -> Counts {
+fn profile(c: Counts, a: &[u8; 1172]) -> Counts {
     let v = table_of(a);
     let cfg = profile_of(&v);
     if config::ranges::in_range(cfg) {
-        return replies(cfg, c, load32(a, 1176));
+        return replies(cfg, c, load32(a, 1168));
     }
     write_all(STDOUT_FILENO, b"a profile is out of range\n");
     c
@@ -352,8 +352,8 @@ fn main() {
     let mut c = Counts { of: [0; 11] };
     let mut i: u32 = 0;
     while i < 1000000 {
-        let mut a = [0u8; 1180];
-        if io::read_full(STDIN_FILENO, &mut a) < 1180 {
+        let mut a = [0u8; 1172];
+        if io::read_full(STDIN_FILENO, &mut a) < 1172 {
             break;
         }
         c = profile(c.more(0), &a);

@@ -19,10 +19,10 @@ pub(crate) fn f32_at(a: &[u8], at: usize) -> f32
 }
 
 // A profile's numbers, of 8 bytes each.
-pub(crate) fn table_of(a: &[u8; 1180]) -> [u64; 147] {
-    let mut v = [0u64; 147];
+pub(crate) fn table_of(a: &[u8; 1172]) -> [u64; 146] {
+    let mut v = [0u64; 146];
     let mut k: usize = 0;
-    while k < 147 {
+    while k < 146 {
         v[k] = load64(a, 8 * k);
         k += 1;
     }

@@ -33,9 +33,9 @@ log-said t e f = with-said (λ m. logText (m .0) (m .1)) t e f
 pub kept : {q : Shown} {out t₁ : List ℕ} {m : Shown × List ℕ} → (q, t₁) ≡ m → (q, (out, t₁)) ≡ keeping out m
 kept {q} {out} e = ap (λ (m : Shown × List ℕ). keeping out m) e
 
-abbrev lineOf : Bool → ℕ → ℕ → LoadLine
-lineOf ok len refusal = record { ok = ok; len = len; refusal = refusal }
+-- what reading a file of so many bytes gave
+abbrev lineOf : Bool → ℕ → ℕ × (Profile × Bool) → LoadLine
+lineOf ok len m = record { ok = ok; len = len; refusal = m .0; stretched = m .1 .1 }
 
-pub loaded : {len n refusal : ℕ} {q : Profile} {m : ℕ × Profile} (ok : Bool) → len ≡ n → (refusal, q) ≡ m
-    → lineOf ok len refusal ≡ lineOf ok n (m .0)
-loaded ok e f = ap₂ (λ (k : ℕ) (r : ℕ). lineOf ok k r) e (ap (λ (m : ℕ × Profile). m .0) f)
+pub loaded : {len n : ℕ} {found m : ℕ × (Profile × Bool)} (ok : Bool) → len ≡ n → found ≡ m → lineOf ok len found ≡ lineOf ok n m
+loaded ok e f = ap₂ (λ (k : ℕ) (m : ℕ × (Profile × Bool)). lineOf ok k m) e f

@@ -103,9 +103,10 @@ loading chars = begun chars (text "load")
 unfoldable pub fileIn : List ℕ → List ℕ → List ℕ
 fileIn bytes chars = hexInto bytes (charsOf chars (nextWord chars (loading chars)))
 
--- whether the line is right, how many bytes the file has, and what reading it refuses
+-- whether the line is right, how many bytes the file has, what reading it refuses, and whether it had harq_stretch on
 unfoldable pub loadOf : Profile → List ℕ → List ℕ → LoadLine
 loadOf p bytes chars =
     let file : Read = readAs (hexCount (length bytes)) chars (loading chars) in
     let b : List ℕ = take (file .value) (fileIn bytes chars) in
-    record { ok = isDone chars file; len = length b; refusal = readOf b p .0 }
+    let found : ℕ × (Profile × Bool) = readOf b p in
+    record { ok = isDone chars file; len = length b; refusal = found .0; stretched = found .1 .1 }

@@ -166,11 +166,12 @@ pub fn look(
     log(line, call.read, out, t, n)
 }
 
-// A line that hands in a file: whether it was right, how many bytes the file has, and the refusal of reading it.
+// A line that hands in a file: whether it was right, how many bytes the file has, the refusal of reading it, and whether harq_stretch was on.
 pub struct LoadLine {
     pub ok: bool,
     pub len: usize,
     pub refusal: u8,
+    pub stretched: bool,
 }
 
 // `load`: its file is put at the start of `bytes`. p: any profile, which a refused file would leave.
@@ -186,5 +187,6 @@ pub fn load(line: &[u8], bytes: &mut [u8], p: Profile) -> LoadLine
         ok: done(line, file),
         len,
         refusal: found.refusal,
+        stretched: found.stretched,
     }
 }

@@ -4,20 +4,8 @@ use gear::Gear;
 use plan::Choice;
 use record::Link;
 ghost use mathlib.Core.Path.{_≡_};
-ghost use mathlib.Core.Bool.{cond};
 ghost use Prim.Native.Nat.{_<_};
-ghost use Rattle.float.specs.Pick.{maxF};
 ghost use Rattle.outgoing.specs.Choosing.{chosen};
-
-// parity_s, where bursts are max_s at most.
-fn parity_len_s(p: Profile, max_s: f64) -> f64
-    ensures { λ r. ⌜ r ≡ cond (p .«harq_stretch») (maxF «max_s» (p .lengths .«max_burst_long_s»)) «max_s» ⌝ }
-{
-    if p.harq_stretch {
-        return float::pick::max64(max_s, p.lengths.max_burst_long_s);
-    }
-    max_s
-}
 
 // The first lines of data_burst.
 pub fn choose(p: Profile, g: Gear, k: Link) -> Choice
@@ -37,7 +25,6 @@ pub fn choose(p: Profile, g: Gear, k: Link) -> Choice
         rate: air.rate[l],
         cue_s: float::gear::cue_s(cue, air.cue_s),
         max_s,
-        parity_s: parity_len_s(p, max_s),
         max_bits: air.most_bits(l),
     }
 }

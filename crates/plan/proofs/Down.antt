@@ -38,7 +38,7 @@ module _ (c : Choice) (b : ℕ) where
     unfolding fitsWith
     fits-fewer i j h m e =
         let less : b + i * c .slot ≤ b + j * c .slot = omega (arith, mul-le-mul h (let r : c .slot ≤ c .slot = omega arith in r)) in
-        let bits = leb-true (b + j * c .slot) (c .«max_bits») (and-second (fits c (c .«max_s») (b + j * c .slot)) _ e) in
+        let bits = leb-true (b + j * c .slot) (c .«max_bits») (and-second (fits c (b + j * c .slot)) _ e) in
         and-yes _ _
         (longer _ _ less (omega (arith, few, mul-le-mul m slot)) (and-first _ (leb (b + j * c .slot) (c .«max_bits»)) e))
         (le-leb (b + i * c .slot) (c .«max_bits») (omega (arith, less, bits)))

@@ -1,5 +1,5 @@
 -- Turns of the plan's loops, and its choices by cases. Assumes nothing.
-use mathlib.Core.Path.{_≡_, refl, sym, ap, ap₂, _∙_}
+use mathlib.Core.Path.{_≡_, refl, sym, ap, _∙_}
 use mathlib.Core.List.{List, [], _∷_, _++_}
 use mathlib.Core.Bool.{Bool, true, false, cond, _&&_, _||_}
 use Prim.Native.Nat.{ℕ, zero, suc, _+_, _-_, _≤_, _<_, max}
@@ -47,7 +47,7 @@ module _ (q : Harq) (c : Choice) where
 
     -- whether the n-th increment is popped
     abbrev pub goes : ℕ → Bool
-    goes n = ltb partialMax n || tooBigFor c (c .«max_s») n (parityBitsOf q c (take n bs))
+    goes n = ltb partialMax n || tooBigFor c n (parityBitsOf q c (take n bs))
 
     module _ (n : ℕ) (h : 0 < n) where
       pop-step : poppedFrom q c bs n ≡ cond (goes n) (poppedFrom q c bs (n - 1)) n
@@ -76,15 +76,12 @@ module _ (q : Harq) (c : Choice) where
     abbrev sum : ℕ → ℕ
     sum n = parityBitsOf q c (take n bs)
 
-    -- of n with b bits those that fit, and all or none
-    abbrev partly : ℕ → ℕ → ℕ
-    partly n b = cond (tooBigFor c (c .«max_s») n b) (poppedFrom q c bs n) n
-
-    abbrev whole : ℕ → ℕ → ℕ
-    whole n b = cond (tooBigFor c (c .«parity_s») n b) 0 n
+    -- of n that do not fit
+    abbrev fewer : ℕ → ℕ
+    fewer n = cond (c .partial) (poppedFrom q c bs n) 0
 
     abbrev pick : ℕ → ℕ
-    pick n = cond (c .partial) (partly n (sum n)) (whole n (sum n))
+    pick n = cond (tooBigFor c n (sum n)) (fewer n) n
 
     cond-same : (b : Bool) (x : ℕ) → cond b x x ≡ x
     cond-same true x = refl
@@ -94,8 +91,8 @@ module _ (q : Harq) (c : Choice) where
     unfolding parityOf poppedFrom
     parity-none e =
         ap (λ (b : Bool). pick (cond b (length bs) 0)) e
-        ∙ ap₂ (λ (x y : ℕ). cond (c .partial) x y) (cond-same (tooBigFor c (c .«max_s») 0 (sum 0)) 0) (cond-same (tooBigFor c (c .«parity_s») 0 (sum 0)) 0)
-        ∙ cond-same (c .partial) 0
+        ∙ ap (λ (x : ℕ). cond (tooBigFor c 0 (sum 0)) x 0) (cond-same (c .partial) 0)
+        ∙ cond-same (tooBigFor c 0 (sum 0)) 0
 
     module _ (e : (c .long && c .«same_wave») ≡ true) (s : ℕ) (t : s ≡ parityBitsOf q c bs) where
       all-offered : parityOf q c bs ≡ pick (length bs)
@@ -105,21 +102,20 @@ module _ (q : Harq) (c : Choice) where
       sum-is : sum (length bs) ≡ s
       sum-is = sym (t ∙ bits-all bs)
 
-      pub parity-partly : c .partial ≡ true → (b : Bool) → tooBigFor c (c .«max_s») (length bs) s ≡ b → parityOf q c bs ≡ cond b (poppedFrom q c bs (length bs)) (length bs)
-      parity-partly p b h =
-          all-offered ∙ ap (λ (t : Bool). cond t (partly (length bs) (sum (length bs))) (whole (length bs) (sum (length bs)))) p
-          ∙ ap (partly (length bs)) sum-is ∙ ap (λ (t : Bool). cond t (poppedFrom q c bs (length bs)) (length bs)) h
+      picked : (b : Bool) → tooBigFor c (length bs) s ≡ b → parityOf q c bs ≡ cond b (fewer (length bs)) (length bs)
+      picked b h = all-offered ∙ ap (λ (x : Bool). cond x (fewer (length bs)) (length bs)) (ap (tooBigFor c (length bs)) sum-is ∙ h)
 
-      pub parity-whole : c .partial ≡ false → (b : Bool) → tooBigFor c (c .«parity_s») (length bs) s ≡ b → parityOf q c bs ≡ cond b 0 (length bs)
-      parity-whole p b h =
-          all-offered ∙ ap (λ (t : Bool). cond t (partly (length bs) (sum (length bs))) (whole (length bs) (sum (length bs)))) p
-          ∙ ap (whole (length bs)) sum-is ∙ ap (λ (t : Bool). cond t 0 (length bs)) h
+      pub parity-all : tooBigFor c (length bs) s ≡ false → parityOf q c bs ≡ length bs
+      parity-all h = picked false h
+
+      pub parity-fewer : tooBigFor c (length bs) s ≡ true → (b : Bool) → c .partial ≡ b → parityOf q c bs ≡ cond b (poppedFrom q c bs (length bs)) 0
+      parity-fewer h b p = picked true h ∙ ap (λ (x : Bool). cond x (poppedFrom q c bs (length bs)) 0) p
 
     pick-le : (n : ℕ) → pick n ≤ n
     pick-le n =
-        by (λ (k : ℕ). k ≤ n) (c .partial)
-        (λ e. by (λ (k : ℕ). k ≤ n) (tooBigFor c (c .«max_s») n (sum n)) (λ d. pop-le n) (λ d. omega arith))
-        (λ e. by (λ (k : ℕ). k ≤ n) (tooBigFor c (c .«parity_s») n (sum n)) (λ d. omega arith) (λ d. omega arith))
+        by (λ (k : ℕ). k ≤ n) (tooBigFor c n (sum n))
+        (λ d. by (λ (k : ℕ). k ≤ n) (c .partial) (λ e. pop-le n) (λ e. omega arith))
+        (λ d. omega arith)
 
     pub parity-le : parityOf q c bs ≤ length bs
     unfolding parityOf

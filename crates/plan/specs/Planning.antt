@@ -2,16 +2,16 @@
 use mathlib.Core.Bool.{Bool}
 use Prim.Native.Nat.{ℕ}
 use lib.Dec.{leb}
-use lib.Ieee.{Float, le}
+use lib.Ieee.{le}
 use Rattle.float.specs.Gear.{dataS}
 use Rattle.harq.specs.Held.{incrementOf}
 use Rattle.harq.specs.declared.Harq.{Harq}
 use Rattle.ledger.specs.Plan as L
 use Rattle.plan.specs.declared.Choice.{Choice}
 
--- `self.data_s(level, bits, cue) <= s`
-unfoldable pub fits : Choice → Float → ℕ → Bool
-fits c s bits = le (dataS (c .«pre_s») (c .rate) bits (c .«cue_s»)) s
+-- `self.data_s(level, bits, cue) <= max_s`
+unfoldable pub fits : Choice → ℕ → Bool
+fits c bits = le (dataS (c .«pre_s») (c .rate) bits (c .«cue_s»)) (c .«max_s»)
 
 -- what the ledger's plan takes of it (crates/ledger/specs/Plan.antt)
 abbrev pub choiceOf : Harq → Choice → Bool → ℕ → L.Choice
@@ -22,8 +22,7 @@ choiceOf q c merging number =
       partial = c .partial;
       slot = c .slot;
       increment = λ (h : ℕ). incrementOf q h (c .slot);
-      inBurst = fits c (c .«max_s»);
-      inStretch = fits c (c .«parity_s»);
+      inBurst = fits c;
       inMaxBits = λ (b : ℕ). leb b (c .«max_bits»);
       merging = merging;
       number = number;

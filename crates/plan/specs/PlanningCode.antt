@@ -5,7 +5,6 @@ use mathlib.Core.Bool.{Bool, true, cond, not, _&&_, _||_}
 use Prim.Native.Nat.{ℕ, zero, suc, _+_, _-_, _*_, _^_, _≤_, min, max}
 use lib.Dec.{leb, ltb, eqb}
 use lib.ListN.{length, take, getD}
-use lib.Ieee.{Float}
 use Rattle.ieee.specs.Range.{In, w64}
 use Rattle.harq.specs.Held.{incrementOf}
 use Rattle.harq.specs.declared.Harq.{Harq}
@@ -29,8 +28,8 @@ pub record CodesRange (q : Harq) (c : Choice) : Type 0 where
 abbrev pub capOf : Choice → ℕ
 capOf c = cond (c .long) maxSlots tinyAckFrames
 
-unfoldable pub tooBigFor : Choice → Float → ℕ → ℕ → Bool
-tooBigFor c s n bits = ltb (capOf c) n || ltb 0 n && not (fits c s bits)
+unfoldable pub tooBigFor : Choice → ℕ → ℕ → Bool
+tooBigFor c n bits = ltb (capOf c) n || ltb 0 n && not (fits c bits)
 
 module _ (q : Harq) (c : Choice) where
   -- the bits of increments of pieces of which the peer holds `bs`
@@ -41,23 +40,23 @@ module _ (q : Harq) (c : Choice) where
   -- the loop that pops increments: the first n are left
   unfoldable pub poppedFrom : List ℕ → ℕ → ℕ
   poppedFrom bs zero = zero
-  poppedFrom bs (suc n) = cond (ltb partialMax (suc n) || tooBigFor c (c .«max_s») (suc n) (parityBitsOf (take (suc n) bs))) (poppedFrom bs n) (suc n)
+  poppedFrom bs (suc n) = cond (ltb partialMax (suc n) || tooBigFor c (suc n) (parityBitsOf (take (suc n) bs))) (poppedFrom bs n) (suc n)
 
   -- all that the peer holds, or none
   abbrev pub offeredOf : List ℕ → ℕ
   offeredOf bs = cond (c .long && c .«same_wave») (length bs) 0
 
-  -- `parity.len()`: behind a cue with harq_partial those that fit, else all or none
+  -- `parity.len()`: all where they fit, else behind a cue with harq_partial those that fit, else none
   unfoldable pub parityOf : List ℕ → ℕ
   parityOf bs =
-      cond (c .partial)
-      (cond (tooBigFor c (c .«max_s») (offeredOf bs) (parityBitsOf (take (offeredOf bs) bs))) (poppedFrom bs (offeredOf bs)) (offeredOf bs))
-      (cond (tooBigFor c (c .«parity_s») (offeredOf bs) (parityBitsOf (take (offeredOf bs) bs))) 0 (offeredOf bs))
+      cond (tooBigFor c (offeredOf bs) (parityBitsOf (take (offeredOf bs) bs)))
+      (cond (c .partial) (poppedFrom bs (offeredOf bs)) 0)
+      (offeredOf bs)
 
 -- the test of the loop that counts `room`, with n increments of b bits, and `stored` held
 unfoldable pub oneMoreFits : Choice → ℕ → ℕ → ℕ → ℕ → Bool
 oneMoreFits c n stored b r =
-    ltb (n + r) (capOf c) && ltb (stored + r) maxSlots && fits c (c .«max_s») (b + suc r * c .slot) && leb (b + suc r * c .slot) (c .«max_bits»)
+    ltb (n + r) (capOf c) && ltb (stored + r) maxSlots && fits c (b + suc r * c .slot) && leb (b + suc r * c .slot) (c .«max_bits»)
 
 -- the loop from r on, k turns at most
 unfoldable pub roomCounted : Choice → ℕ → ℕ → ℕ → ℕ → ℕ → ℕ
@@ -68,7 +67,7 @@ roomCounted c n stored b (suc k) r = cond (oneMoreFits c n stored b r) (roomCoun
 
 -- "a longer burst is never shorter on air"
 abbrev pub NeverShorter : Choice → Type 0
-NeverShorter c = (a b : ℕ) → a ≤ b → b ≤ 2 ^ 32 → fits c (c .«max_s») b ≡ true → fits c (c .«max_s») a ≡ true
+NeverShorter c = (a b : ℕ) → a ≤ b → b ≤ 2 ^ 32 → fits c b ≡ true → fits c a ≡ true
 
 -- the slots that n increments and `stored` held pieces leave
 abbrev pub mostOf : Choice → ℕ → ℕ → ℕ
@@ -76,7 +75,7 @@ mostOf c n stored = min (capOf c - n) (maxSlots - stored)
 
 -- r whole pieces fit beside increments of b bits
 unfoldable pub fitsWith : Choice → ℕ → ℕ → Bool
-fitsWith c b r = fits c (c .«max_s») (b + r * c .slot) && leb (b + r * c .slot) (c .«max_bits»)
+fitsWith c b r = fits c (b + r * c .slot) && leb (b + r * c .slot) (c .«max_bits»)
 
 -- from r down; none is not tested
 unfoldable pub roomDown : Choice → ℕ → ℕ → ℕ

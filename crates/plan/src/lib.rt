@@ -24,7 +24,6 @@ pub struct Choice {
     // 0 without a cue.
     pub cue_s: f64,
     pub max_s: f64,
-    pub parity_s: f64,
     pub max_bits: u32,
 }
 
@@ -47,18 +46,18 @@ impl Choice {
         TINY_ACK_FRAMES
     }
 
-    // data_s(level, bits, cue) <= s
-    fn fits(self, bits: u32, s: f64) -> bool
-        ensures { λ r. ⌜ r ≡ fits self s bits ⌝ }
+    // data_s(level, bits, cue) <= max_s
+    fn fits(self, bits: u32) -> bool
+        ensures { λ r. ⌜ r ≡ fits self bits ⌝ }
     {
-        float::gear::data_s(self.pre_s, self.rate, bits as u64, self.cue_s) <= s
+        float::gear::data_s(self.pre_s, self.rate, bits as u64, self.cue_s) <= self.max_s
     }
 
     // too_big
-    fn too_big(self, n: usize, bits: u32, s: f64) -> bool
-        ensures { λ r. ⌜ r ≡ tooBigFor self s n bits ⌝ }
+    fn too_big(self, n: usize, bits: u32) -> bool
+        ensures { λ r. ⌜ r ≡ tooBigFor self n bits ⌝ }
     {
-        (self.cap() < n) | ((0 < n) & !self.fits(bits, s))
+        (self.cap() < n) | ((0 < n) & !self.fits(bits))
     }
 }
 
@@ -83,11 +82,10 @@ fn pop(q: Harq, c: Choice, bits: &[u32]) -> usize
     ensures { λ r. ⌜ r ≡ poppedFrom q c (now (bits .entry)) (length (now (bits .entry))) ⌝ }
 {
     let slot = c.slot;
-    let limit = c.max_s;
     let mut n = bits.len();
     let mut sum = parity_bits(q, c, bits);
     while 0 < n {
-        if !((PARTIAL_MAX < n) | c.too_big(n, sum, limit)) {
+        if !((PARTIAL_MAX < n) | c.too_big(n, sum)) {
             return n;
         }
         n = n - 1;
@@ -96,7 +94,7 @@ fn pop(q: Harq, c: Choice, bits: &[u32]) -> usize
     0
 }
 
-// How many increments go: behind a cue with harq_partial those that fit, else all or none.
+// How many increments go: all where they fit, else behind a cue with harq_partial those that fit, else none.
 fn parity(q: Harq, c: Choice, bits: &[u32]) -> usize
     requires { ⌜ CodesRange q c × (length (now bits) ≤ maxSlots) ⌝ }
     ensures { λ r. ⌜ (r ≡ parityOf q c (now (bits .entry))) × (r ≤ length (now (bits .entry))) ⌝ }
@@ -106,18 +104,13 @@ fn parity(q: Harq, c: Choice, bits: &[u32]) -> usize
     }
     let n = bits.len();
     let sum = parity_bits(q, c, bits);
-    let limit = c.max_s;
-    let stretch = c.parity_s;
-    if c.partial {
-        if c.too_big(n, sum, limit) {
-            return pop(q, c, bits);
-        }
+    if !c.too_big(n, sum) {
         return n;
     }
-    if c.too_big(n, sum, stretch) {
-        return 0;
+    if c.partial {
+        return pop(q, c, bits);
     }
-    n
+    0
 }
 
 // How many whole pieces n increments and `stored` held pieces leave slots for.
@@ -142,7 +135,7 @@ fn fits_with(c: Choice, bits: u32, r: usize) -> bool
     ensures { λ q. ⌜ q ≡ fitsWith c bits r ⌝ }
 {
     let t = bits + r as u32 * c.slot;
-    c.fits(t, c.max_s) & (t <= c.max_bits)
+    c.fits(t) & (t <= c.max_bits)
 }
 
 // room, before at least one piece goes: from the most slots down to the first that fits.

@@ -34,6 +34,6 @@ past : (k : ℕ) → 32 ≤ k → length lines ≤ k - 17
 unfolding lines
 past k h = omega arith
 
-pub on-line : (k : ℕ) → 32 ≤ k → lineOf (text "on") flagKind 11 136 ≡ lineAt k
+pub on-line : (k : ℕ) → 32 ≤ k → lineOf (text "on") flagKind 10 136 ≡ lineAt k
 unfolding lineAt
-on-line k h = cond-no _ _ _ _ (le-ltb k 17 (omega arith)) (sym (List·getD-eq-default lines (lineOf (text "on") flagKind 11 136) (past k h)))
+on-line k h = cond-no _ _ _ _ (le-ltb k 17 (omega arith)) (sym (List·getD-eq-default lines (lineOf (text "on") flagKind 10 136) (past k h)))

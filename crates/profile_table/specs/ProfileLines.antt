@@ -95,7 +95,7 @@ lines =
 
 -- the line k after `profile`, from 0 up; `on` is the last
 unfoldable pub lineAt : ℕ → Line
-lineAt k = cond (ltb k 17) (lineOf (text "level") levelKind 4 (4 * k)) (getD lines (k - 17) (lineOf (text "on") flagKind 11 136))
+lineAt k = cond (ltb k 17) (lineOf (text "level") levelKind 4 (4 * k)) (getD lines (k - 17) (lineOf (text "on") flagKind 10 136))
 
 -- ---- a line read
 

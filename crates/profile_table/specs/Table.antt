@@ -1,4 +1,4 @@
--- The profile of a table of 147 numbers, in the order of docs/CALLS.md, The profile. Definitions only.
+-- The profile of a table of 146 numbers, in the order of docs/CALLS.md, The profile. Definitions only.
 use mathlib.Core.Bool.{Bool, true, false, cond}
 use mathlib.Core.List.{List, [], _∷_, _++_}
 use Prim.Native.Nat.{ℕ, zero, suc, _+_, _*_, _%_}
@@ -115,8 +115,7 @@ profileOf v =
       «smooth_target» = flagAt v 140;
       «hold_by_goodput» = flagAt v 141;
       «slice_slots» = flagAt v 142;
-      «harq_stretch» = flagAt v 143;
-      «merge_pieces» = flagAt v 144;
-      cue = flagAt v 145;
-      «harq_partial» = flagAt v 146;
+      «merge_pieces» = flagAt v 143;
+      cue = flagAt v 144;
+      «harq_partial» = flagAt v 145;
     }

@@ -21,13 +21,13 @@ pub mod listed;
 // Lines of a profile after its first, and numbers in them.
 pub const LINES: usize = 33;
 
-pub const NUMBERS: usize = 147;
+pub const NUMBERS: usize = 146;
 
 // What stands for `none`.
 pub const NONE: u64 = 18446744073709551615;
 
-fn at(v: &[u64; 147], k: usize) -> u64
-    requires { ⌜ k < 147 ⌝ }
+fn at(v: &[u64; 146], k: usize) -> u64
+    requires { ⌜ k < 146 ⌝ }
     ensures { λ r. ⌜ r ≡ getD (now (v .entry)) k 0 ⌝ }
 {
     v[k]
@@ -43,15 +43,15 @@ fn narrowed(n: u64, most: u32) -> u32
     most
 }
 
-fn u32_at(v: &[u64; 147], k: usize) -> u32
-    requires { ⌜ k < 147 ⌝ }
+fn u32_at(v: &[u64; 146], k: usize) -> u32
+    requires { ⌜ k < 146 ⌝ }
     ensures { λ r. ⌜ r ≡ u32At (now (v .entry)) k ⌝ }
 {
     narrowed(at(v, k), 4294967295)
 }
 
-fn u8_at(v: &[u64; 147], k: usize) -> u8
-    requires { ⌜ k < 147 ⌝ }
+fn u8_at(v: &[u64; 146], k: usize) -> u8
+    requires { ⌜ k < 146 ⌝ }
     ensures { λ r. ⌜ r ≡ u8At (now (v .entry)) k ⌝ }
 {
     let n = at(v, k);
@@ -61,8 +61,8 @@ fn u8_at(v: &[u64; 147], k: usize) -> u8
     255
 }
 
-fn f64_at(v: &[u64; 147], k: usize) -> f64
-    requires { ⌜ k < 147 ⌝ }
+fn f64_at(v: &[u64; 146], k: usize) -> f64
+    requires { ⌜ k < 146 ⌝ }
     ensures { λ r. ⌜ r ≡ doubleAt (now (v .entry)) k ⌝ }
 {
     of_bits64(at(v, k))
@@ -75,22 +75,22 @@ pub fn single_of(n: u64) -> f32
     of_bits32((n % 4294967296) as u32)
 }
 
-fn f32_at(v: &[u64; 147], k: usize) -> f32
-    requires { ⌜ k < 147 ⌝ }
+fn f32_at(v: &[u64; 146], k: usize) -> f32
+    requires { ⌜ k < 146 ⌝ }
     ensures { λ r. ⌜ r ≡ singleAt (now (v .entry)) k ⌝ }
 {
     single_of(at(v, k))
 }
 
-fn flag_at(v: &[u64; 147], k: usize) -> bool
-    requires { ⌜ k < 147 ⌝ }
+fn flag_at(v: &[u64; 146], k: usize) -> bool
+    requires { ⌜ k < 146 ⌝ }
     ensures { λ r. ⌜ r ≡ flagAt (now (v .entry)) k ⌝ }
 {
     at(v, k) == 1
 }
 
-fn db_at(v: &[u64; 147], k: usize) -> MaybeDb
-    requires { ⌜ k < 147 ⌝ }
+fn db_at(v: &[u64; 146], k: usize) -> MaybeDb
+    requires { ⌜ k < 146 ⌝ }
     ensures { λ r. ⌜ r ≡ maybeDbAt (now (v .entry)) k ⌝ }
 {
     if at(v, k) == NONE {
@@ -105,8 +105,8 @@ fn db_at(v: &[u64; 147], k: usize) -> MaybeDb
     }
 }
 
-fn level_at(v: &[u64; 147], k: usize) -> MaybeLevel
-    requires { ⌜ k < 147 ⌝ }
+fn level_at(v: &[u64; 146], k: usize) -> MaybeLevel
+    requires { ⌜ k < 146 ⌝ }
     ensures { λ r. ⌜ r ≡ maybeLevelAt (now (v .entry)) k ⌝ }
 {
     let n = at(v, k);
@@ -123,7 +123,7 @@ fn level_at(v: &[u64; 147], k: usize) -> MaybeLevel
 }
 
 // For each level the number from `from` on, every fourth.
-fn u32s(v: &[u64; 147], from: usize, most: u32) -> [u32; 17]
+fn u32s(v: &[u64; 146], from: usize, most: u32) -> [u32; 17]
     requires { ⌜ from < 4 ⌝ }
     ensures { λ r. ⌜ r ≡ rowOf (λ (l : ℕ). orMost most (getD (now (v .entry)) (from + 4 * l) 0)) 17 ⌝ }
 {
@@ -136,7 +136,7 @@ fn u32s(v: &[u64; 147], from: usize, most: u32) -> [u32; 17]
     x
 }
 
-fn f64s(v: &[u64; 147], from: usize) -> [f64; 17]
+fn f64s(v: &[u64; 146], from: usize) -> [f64; 17]
     requires { ⌜ from < 4 ⌝ }
     ensures { λ r. ⌜ r ≡ rowOf (λ (l : ℕ). doubleAt (now (v .entry)) (from + 4 * l)) 17 ⌝ }
 {
@@ -150,8 +150,8 @@ fn f64s(v: &[u64; 147], from: usize) -> [f64; 17]
 }
 
 // 17 thresholds.
-fn f32s(v: &[u64; 147], from: usize) -> [f32; 17]
-    requires { ⌜ from + 17 ≤ 147 ⌝ }
+fn f32s(v: &[u64; 146], from: usize) -> [f32; 17]
+    requires { ⌜ from + 17 ≤ 146 ⌝ }
     ensures { λ r. ⌜ r ≡ rowOf (λ (l : ℕ). singleAt (now (v .entry)) (from + l)) 17 ⌝ }
 {
     let mut x: [f32; 17] = [0.0; 17];
@@ -164,7 +164,7 @@ fn f32s(v: &[u64; 147], from: usize) -> [f32; 17]
 }
 
 // For each wave by rank.
-fn acks(v: &[u64; 147]) -> [f64; 6]
+fn acks(v: &[u64; 146]) -> [f64; 6]
     ensures { λ r. ⌜ r ≡ airOf (now (v .entry)) .«ack_s» ⌝ }
 {
     [
@@ -177,7 +177,7 @@ fn acks(v: &[u64; 147]) -> [f64; 6]
     ]
 }
 
-fn air(v: &[u64; 147]) -> Air
+fn air(v: &[u64; 146]) -> Air
     ensures { λ r. ⌜ r ≡ airOf (now (v .entry)) ⌝ }
 {
     Air {
@@ -190,7 +190,7 @@ fn air(v: &[u64; 147]) -> Air
     }
 }
 
-fn codes(v: &[u64; 147]) -> Harq
+fn codes(v: &[u64; 146]) -> Harq
     ensures { λ r. ⌜ r ≡ codesOf (now (v .entry)) ⌝ }
 {
     Harq {
@@ -206,7 +206,7 @@ fn codes(v: &[u64; 147]) -> Harq
     }
 }
 
-fn lengths(v: &[u64; 147]) -> Lengths
+fn lengths(v: &[u64; 146]) -> Lengths
     ensures { λ r. ⌜ r ≡ lengthsOf (now (v .entry)) ⌝ }
 {
     Lengths {
@@ -220,7 +220,7 @@ fn lengths(v: &[u64; 147]) -> Lengths
     }
 }
 
-fn hold_times(v: &[u64; 147]) -> HoldTimes
+fn hold_times(v: &[u64; 146]) -> HoldTimes
     ensures { λ r. ⌜ r ≡ holdTimesOf (now (v .entry)) ⌝ }
 {
     HoldTimes {
@@ -230,8 +230,8 @@ fn hold_times(v: &[u64; 147]) -> HoldTimes
     }
 }
 
-fn marks(v: &[u64; 147], from: usize, margin: usize) -> Marks
-    requires { ⌜ (from + 17 ≤ 147) × (margin < 147) ⌝ }
+fn marks(v: &[u64; 146], from: usize, margin: usize) -> Marks
+    requires { ⌜ (from + 17 ≤ 146) × (margin < 146) ⌝ }
     ensures { λ r. ⌜ r ≡ marksFrom (now (v .entry)) from margin ⌝ }
 {
     Marks {
@@ -241,7 +241,7 @@ fn marks(v: &[u64; 147], from: usize, margin: usize) -> Marks
 }
 
 // The profile of a whole table.
-pub fn profile_of(v: &[u64; 147]) -> Profile
+pub fn profile_of(v: &[u64; 146]) -> Profile
     ensures { λ r. ⌜ r ≡ profileOf (now (v .entry)) ⌝ }
 {
     Profile {
@@ -266,9 +266,8 @@ pub fn profile_of(v: &[u64; 147]) -> Profile
         smooth_target: flag_at(v, 140),
         hold_by_goodput: flag_at(v, 141),
         slice_slots: flag_at(v, 142),
-        harq_stretch: flag_at(v, 143),
-        merge_pieces: flag_at(v, 144),
-        cue: flag_at(v, 145),
-        harq_partial: flag_at(v, 146),
+        merge_pieces: flag_at(v, 143),
+        cue: flag_at(v, 144),
+        harq_partial: flag_at(v, 145),
     }
 }

@@ -144,8 +144,8 @@ fn next_value(line: &[u8], r: Read, kind: u8) -> Read
 }
 
 // A line of n values; they go to the table's places from `at` on.
-fn values(line: &[u8], name: &[u8], kind: u8, n: usize, v: &mut [u64; 147], at: usize) -> bool
-    requires { ⌜ at + n ≤ 147 ⌝ }
+fn values(line: &[u8], name: &[u8], kind: u8, n: usize, v: &mut [u64; 146], at: usize) -> bool
+    requires { ⌜ at + n ≤ 146 ⌝ }
     ensures { λ r. ⌜ (r ≡ lineOk (now (line .entry)) (lineOf (now (name .entry)) kind n at) (now (v .entry)))
         × (now (v .exit) ≡ lineRead (now (line .entry)) (lineOf (now (name .entry)) kind n at) (now (v .entry)) .1) ⌝ }
 {
@@ -160,7 +160,7 @@ fn values(line: &[u8], name: &[u8], kind: u8, n: usize, v: &mut [u64; 147], at: 
 }
 
 // The lines 17 to 20.
-fn air_line(line: &[u8], k: usize, v: &mut [u64; 147]) -> bool
+fn air_line(line: &[u8], k: usize, v: &mut [u64; 146]) -> bool
     requires { ⌜ (17 ≤ k) × (k ≤ 20) ⌝ }
     ensures { λ r. ⌜ (r ≡ lineOk (now (line .entry)) (lineAt k) (now (v .entry)))
         × (now (v .exit) ≡ lineRead (now (line .entry)) (lineAt k) (now (v .entry)) .1) ⌝ }
@@ -174,7 +174,7 @@ fn air_line(line: &[u8], k: usize, v: &mut [u64; 147]) -> bool
 }
 
 // The lines 21 to 24.
-fn times_line(line: &[u8], k: usize, v: &mut [u64; 147]) -> bool
+fn times_line(line: &[u8], k: usize, v: &mut [u64; 146]) -> bool
     requires { ⌜ (21 ≤ k) × (k ≤ 24) ⌝ }
     ensures { λ r. ⌜ (r ≡ lineOk (now (line .entry)) (lineAt k) (now (v .entry)))
         × (now (v .exit) ≡ lineRead (now (line .entry)) (lineAt k) (now (v .entry)) .1) ⌝ }
@@ -188,7 +188,7 @@ fn times_line(line: &[u8], k: usize, v: &mut [u64; 147]) -> bool
 }
 
 // The lines 25 to 28.
-fn db_line(line: &[u8], k: usize, v: &mut [u64; 147]) -> bool
+fn db_line(line: &[u8], k: usize, v: &mut [u64; 146]) -> bool
     requires { ⌜ (25 ≤ k) × (k ≤ 28) ⌝ }
     ensures { λ r. ⌜ (r ≡ lineOk (now (line .entry)) (lineAt k) (now (v .entry)))
         × (now (v .exit) ≡ lineRead (now (line .entry)) (lineAt k) (now (v .entry)) .1) ⌝ }
@@ -202,7 +202,7 @@ fn db_line(line: &[u8], k: usize, v: &mut [u64; 147]) -> bool
 }
 
 // The lines from 29 on; the last stands for all after it.
-fn option_line(line: &[u8], k: usize, v: &mut [u64; 147]) -> bool
+fn option_line(line: &[u8], k: usize, v: &mut [u64; 146]) -> bool
     requires { ⌜ 29 ≤ k ⌝ }
     ensures { λ r. ⌜ (r ≡ lineOk (now (line .entry)) (lineAt k) (now (v .entry)))
         × (now (v .exit) ≡ lineRead (now (line .entry)) (lineAt k) (now (v .entry)) .1) ⌝ }
@@ -211,12 +211,12 @@ fn option_line(line: &[u8], k: usize, v: &mut [u64; 147]) -> bool
         29 => values(line, b"pin_level", MAYBE_LEVEL, 1, v, 133),
         30 => values(line, b"gear", GEAR, 1, v, 134),
         31 => values(line, b"power", POWER, 1, v, 135),
-        _ => values(line, b"on", FLAG, 11, v, 136),
+        _ => values(line, b"on", FLAG, 10, v, 136),
     }
 }
 
 // The line k after `profile`, from 0 up.
-pub fn profile_line(line: &[u8], k: usize, v: &mut [u64; 147]) -> bool
+pub fn profile_line(line: &[u8], k: usize, v: &mut [u64; 146]) -> bool
     ensures { λ r. ⌜ (r ≡ lineOk (now (line .entry)) (lineAt k) (now (v .entry)))
         × (now (v .exit) ≡ lineRead (now (line .entry)) (lineAt k) (now (v .entry)) .1) ⌝ }
 {

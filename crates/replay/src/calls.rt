@@ -89,7 +89,7 @@ pub(crate) fn lend(n: Named, line: &[u8], run: Run, t: &mut [u8]) -> Run {
 }
 
 // The profile, by its lines or by its file.
-fn profile_now(run: Run, v: &[u64; 147], file: &[u8]) -> Profile {
+fn profile_now(run: Run, v: &[u64; 146], file: &[u8]) -> Profile {
     let p = profile_of(v);
     if run.file == 0 {
         return p;
@@ -107,7 +107,7 @@ pub(crate) fn showed(
     s: Station,
     area: &[u8],
     t: &mut [u8],
-    v: &[u64; 147],
+    v: &[u64; 146],
     file: &[u8],
 ) -> Run {
     let mut out = [0u8; OUT_BYTES];
@@ -125,7 +125,7 @@ pub(crate) fn asked(
     s: Station,
     area: &mut [u8],
     t: &mut [u8],
-    v: &[u64; 147],
+    v: &[u64; 146],
     file: &[u8],
 ) -> Said {
     let mut out = [0u8; OUT_BYTES];

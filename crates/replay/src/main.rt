@@ -82,7 +82,7 @@ fn start(run: Run, area: &mut [u8]) -> Run {
 }
 
 // The profile's next line.
-fn profile_step(line: &[u8], run: Run, area: &mut [u8], v: &mut [u64; 147]) -> Run {
+fn profile_step(line: &[u8], run: Run, area: &mut [u8], v: &mut [u64; 146]) -> Run {
     let k = run.stage;
     if !profile_line(line, k, v) {
         return failed(run);
@@ -116,10 +116,10 @@ fn is_load(line: &[u8], run: Run) -> bool {
 }
 
 // The file of n bytes is taken: it stands for the profile.
-fn loaded(run: Run, n: usize, area: &mut [u8], t: &mut [u8]) -> Run {
+fn loaded(run: Run, n: usize, stretched: bool, area: &mut [u8], t: &mut [u8]) -> Run {
     let mut after = start(run, area);
     after.file = n;
-    after.text = transcript::answer(t, run.text, b"load", 0);
+    after.text = transcript::loaded(t, run.text, stretched);
     after
 }
 
@@ -137,7 +137,7 @@ fn load(
     w: u32,
     area: &mut [u8],
     t: &mut [u8],
-    v: &[u64; 147],
+    v: &[u64; 146],
     file: &mut [u8],
 ) -> Other {
     let mut bytes = [0u8; HEX_BYTES];
@@ -155,7 +155,7 @@ fn load(
     let n = least(q.len, &bytes);
     keep_file(file, &bytes[..n]);
     let run = begin(run, c, w, t);
-    let run = loaded(run, n, area, t);
+    let run = loaded(run, n, q.stretched, area, t);
     Other { run, anew: true }
 }
 
@@ -167,7 +167,7 @@ fn no_call(
     w: u32,
     area: &mut [u8],
     t: &mut [u8],
-    v: &mut [u64; 147],
+    v: &mut [u64; 146],
 ) -> Run {
     if passed_over(line) {
         return run;
@@ -191,7 +191,7 @@ fn other_line(
     w: u32,
     area: &mut [u8],
     t: &mut [u8],
-    v: &mut [u64; 147],
+    v: &mut [u64; 146],
     file: &mut [u8],
 ) -> Other {
     if is_load(line, run) {
@@ -240,7 +240,7 @@ fn asking(
     s: Station,
     area: &mut [u8],
     t: &mut [u8],
-    v: &[u64; 147],
+    v: &[u64; 146],
     file: &[u8],
 ) -> Step {
     let q = asked(n, line, run, s, area, t, v, file);
@@ -257,7 +257,7 @@ fn asking_none(
     s: Station,
     area: &mut [u8],
     t: &mut [u8],
-    v: &mut [u64; 147],
+    v: &mut [u64; 146],
     file: &mut [u8],
 ) -> Step {
     let b = other_line(
@@ -283,7 +283,7 @@ fn step(
     s: Station,
     area: &mut [u8],
     t: &mut [u8],
-    v: &mut [u64; 147],
+    v: &mut [u64; 146],
     file: &mut [u8],
 ) -> Step {
     let n = call_of(line);
@@ -362,7 +362,7 @@ fn stopped(run: Run) -> bool {
 }
 
 fn replay(chunk: &mut [u8], line: &mut [u8], area: &mut [u8], t: &mut [u8], file: &mut [u8]) {
-    let mut v = [0u64; 147];
+    let mut v = [0u64; 146];
     let mut q = none_yet();
     let mut n: u64 = 0;
     while n < 18446744073709551615 {

@@ -30,6 +30,7 @@ use Rattle.numbered.specs.declared.LeftBurst.{LeftBurst}
 use Rattle.numbered.specs.Numbered.{answerNumber, burstNumber}
 use Rattle.card.specs.Card.{profileOf, readRefusal, readOf}
 use Rattle.card.specs.declared.Found.{Found}
+use Rattle.card.specs.declared.CardAnswer.{CardAnswer}
 use Rattle.station.specs.Exported.{left, leftBurst}
 use Rattle.station.specs.ExportedCode.{kept}
 
@@ -121,13 +122,14 @@ module _ (p : Profile) (t : Station) (a : List ℕ) where
 
 -- ---- a profile that is read: after card's call, which answers r, and `keep_profile`, which leaves `after`
 
-pub read-in : (file : List ℕ) (p : Profile) (r : Found) → (r .refusal, r .profile) ≡ readOf file p → Unit {0}
-    → (after : Profile) → after ≡ kept p (r .refusal) (r .profile) → (r .refusal, after) ≡ readOf file p
+pub read-in : (file : List ℕ) (p : Profile) (r : Found) → (r .refusal, r .profile, r .stretched) ≡ readOf file p → Unit {0}
+    → (after : Profile) → after ≡ kept p (r .refusal) (r .profile) → (a : CardAnswer) → (a .refusal ≡ r .refusal) × (a .stretched ≡ r .stretched)
+    → (a .refusal, after, a .stretched) ≡ readOf file p
 unfolding readOf
-read-in file p r said u after k =
-    let n : r .refusal ≡ readRefusal file = ap (λ (x : ℕ × Profile). x .0) said in
-    let d : r .profile ≡ cond (eqb (readRefusal file) 0) (profileOf file) p = ap (λ (x : ℕ × Profile). x .1) said in
+read-in file p r said u after k a same-answer =
+    let n : r .refusal ≡ readRefusal file = ap (λ (x : ℕ × Profile × Bool). x .0) said in
+    let d : r .profile ≡ cond (eqb (readRefusal file) 0) (profileOf file) p = ap (λ (x : ℕ × Profile × Bool). x .1) said in
     let same : eqb (r .refusal) 0 ≡ false → r .profile ≡ p =
     λ e. d ∙ ap (λ (c : Bool). cond c (profileOf file) p) (ap (λ (m : ℕ). eqb m 0) (sym n) ∙ e) in
     let stored : after ≡ r .profile = k ∙ by (λ (x : Profile). x ≡ r .profile) (eqb (r .refusal) 0) (λ e. refl) (λ e. sym (same e)) in
-    ap (λ (x : Profile). (r .refusal, x)) stored ∙ said
+    (λ i. (same-answer .0 i, stored i, same-answer .1 i)) ∙ said

@@ -2,6 +2,8 @@
 // slice goes as a pointer and a length. No call requires anything; the profile is read where it lies. The link log, the levels within
 // reach and a profile on a card need no record.
 use adif::Logged;
+use card::CardAnswer;
+use card::Found;
 use config::Profile;
 use numbered::Burst;
 use numbered::Left;
@@ -43,6 +45,16 @@ fn keep_profile(p: &mut Profile, number: u8, read: Profile)
 {
     if number == 0 {
         *p = read;
+    }
+}
+
+// What reading a file answers beside the profile.
+fn card_answer(q: Found) -> CardAnswer
+    ensures { λ r. ⌜ (r .refusal ≡ q .refusal) × (r .stretched ≡ q .stretched) ⌝ }
+{
+    CardAnswer {
+        refusal: q.refusal,
+        stretched: q.stretched,
     }
 }
 
@@ -220,10 +232,10 @@ pub extern "C" fn vanitycrow_write_profile(p: &Profile, out: &mut [u8]) -> u8
 
 // The profile of a file, which takes the place of *p; a refused file leaves *p as it is.
 #[no_mangle]
-pub extern "C" fn vanitycrow_read_profile(file: &[u8], p: &mut Profile) -> u8
-    ensures { λ r. ⌜ (r, now (p .exit)) ≡ readOf (now (file .entry)) (now (p .entry)) ⌝ }
+pub extern "C" fn vanitycrow_read_profile(file: &[u8], p: &mut Profile) -> CardAnswer
+    ensures { λ r. ⌜ (r .refusal, now (p .exit), r .stretched) ≡ readOf (now (file .entry)) (now (p .entry)) ⌝ }
 {
     let q = card::read(file, *p);
     keep_profile(p, q.refusal, q.profile);
-    q.refusal
+    card_answer(q)
 }

@@ -1,5 +1,5 @@
 -- The transcript's answers and its last lines (docs/CALLS.md). Definitions only.
-use mathlib.Core.Bool.{cond}
+use mathlib.Core.Bool.{Bool, cond}
 use mathlib.Core.List.{List, _++_}
 use Prim.Native.Nat.{ℕ, _*_, min}
 use lib.Dec.{eqb}
@@ -54,6 +54,10 @@ logLine chars = text "log ok " ++ chars ++ text "\n"
 -- `card ok HEX`
 abbrev pub cardLine : List ℕ → List ℕ
 cardLine bytes = text "card ok" ++ hex bytes ++ text "\n"
+
+-- `load ok`, and `stretched` where harq_stretch was on in the file
+abbrev pub loadLine : Bool → List ℕ
+loadLine stretched = cond stretched (text "load ok stretched\n") (text "load ok\n")
 
 -- LEVEL:Q
 abbrev pub levelWord : ℕ → ℕ → List ℕ

@@ -5,7 +5,7 @@ use text::puts;
 ghost use mathlib.Core.Path.{_≡_};
 ghost use Rattle.text.specs.Buffer.{appended};
 ghost use Rattle.laws.specs.Text.{text};
-ghost use Rattle.transcript.specs.Answers.{answerLine, pieceLine, logLine, cardLine, errorLine};
+ghost use Rattle.transcript.specs.Answers.{answerLine, pieceLine, logLine, cardLine, loadLine, errorLine};
 
 pub mod burst;
 pub mod reached;
@@ -55,6 +55,16 @@ pub fn card(t: &mut [u8], n: usize, bytes: &[u8]) -> usize
     let n = puts(t, n, b"card ok");
     let n = hex(t, n, bytes);
     puts(t, n, b"\n")
+}
+
+// A file that was taken.
+pub fn loaded(t: &mut [u8], n: usize, stretched: bool) -> usize
+    ensures { λ r. ⌜ (r, now (t .exit)) ≡ appended (n, now (t .entry)) (loadLine stretched) ⌝ }
+{
+    if stretched {
+        return puts(t, n, b"load ok stretched\n");
+    }
+    puts(t, n, b"load ok\n")
 }
 
 // What closes a list whose line of this number breaks the rules.

@@ -82,7 +82,6 @@ pub fn profile(p: &Profile) -> port::Profile {
         smooth_target: p.on(on::SMOOTH_TARGET),
         hold_by_goodput: p.on(on::HOLD_BY_GOODPUT),
         slice_slots: p.on(on::SLICE_SLOTS),
-        harq_stretch: p.on(on::HARQ_STRETCH),
         merge_pieces: p.on(on::MERGE_PIECES),
         cue: p.on(on::CUE),
         harq_partial: p.on(on::HARQ_PARTIAL),

@@ -76,7 +76,7 @@ impl CallList {
         let power = ["none", "mean", "td"][p.power as usize];
         self.call(format_args!("levels {} {}\npin_level {pin}\ngear {gear}\npower {power}", p.max_level, p.skip_slices_from));
         let first = flags(&[p.harq, p.pick_family, p.eff_snr, p.lengths.burst_adapt, p.smooth_target, p.hold_by_goodput]);
-        let last = flags(&[p.slice_slots, p.harq_stretch, p.merge_pieces, p.cue, p.harq_partial]);
+        let last = flags(&[p.slice_slots, p.merge_pieces, p.cue, p.harq_partial]);
         self.call(format_args!("on{first}{last}"));
     }
 

@@ -76,13 +76,10 @@ flag-at-requires-9 c κs = search needs
 flag-at-requires-10 : tie.Need-flag-at-requires-10
 flag-at-requires-10 c κs = search needs
 
-flag-at-requires-11 : tie.Need-flag-at-requires-11
-flag-at-requires-11 c κs = search needs
-
 returns : tie.Need-returns
 unfolding profileOf
 returns c =
-    let d = c .before .before .before .before .before .before .before .before .before in
+    let d = c .before .before .before .before .before .before .before .before in
     let e = d .before .before .before .before .before .before .before .before .before in
     λ i. record {
       air = e .before .before .before .before .before .before .air .ensures i;
@@ -101,15 +98,14 @@ returns c =
       «pin_level» = d .before .before .level-at .ensures i;
       goodput = d .before .flag-at2 .ensures i;
       power = d .u8-at .ensures i;
-      harq = c .before .before .before .before .before .before .before .before .flag-at3 .ensures i;
-      «pick_family» = c .before .before .before .before .before .before .before .flag-at4 .ensures i;
-      «smooth_target» = c .before .before .before .before .before .before .flag-at5 .ensures i;
-      «hold_by_goodput» = c .before .before .before .before .before .flag-at6 .ensures i;
-      «slice_slots» = c .before .before .before .before .flag-at7 .ensures i;
-      «harq_stretch» = c .before .before .before .flag-at8 .ensures i;
-      «merge_pieces» = c .before .before .flag-at9 .ensures i;
-      cue = c .before .flag-at10 .ensures i;
-      «harq_partial» = c .flag-at11 .ensures i;
+      harq = c .before .before .before .before .before .before .before .flag-at3 .ensures i;
+      «pick_family» = c .before .before .before .before .before .before .flag-at4 .ensures i;
+      «smooth_target» = c .before .before .before .before .before .flag-at5 .ensures i;
+      «hold_by_goodput» = c .before .before .before .before .flag-at6 .ensures i;
+      «slice_slots» = c .before .before .before .flag-at7 .ensures i;
+      «merge_pieces» = c .before .before .flag-at8 .ensures i;
+      cue = c .before .flag-at9 .ensures i;
+      «harq_partial» = c .flag-at10 .ensures i;
     }
 
 pub profile-of-spec : {M : Type 1} → statement M
@@ -140,5 +136,4 @@ profile-of-spec =
     flag-at-requires-8
     flag-at-requires-9
     flag-at-requires-10
-    flag-at-requires-11
     returns)

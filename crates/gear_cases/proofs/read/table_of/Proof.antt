@@ -5,10 +5,10 @@ use Rattle.gear_cases.proofs.read.table_of.Statement.{statement}
 use Rattle.gear_cases.proofs.read.table_of.Tie as tie
 
 abbrev Inv-loop : tie.InvT-loop
-Inv-loop a v₀ k₀ v k = k ≤ 147
+Inv-loop a v₀ k₀ v k = k ≤ 146
 
 abbrev μ-loop : tie.MeasureT-loop
-μ-loop a v₀ k₀ v k = 147 - k
+μ-loop a v₀ k₀ v k = 146 - k
 
 loop-holds : tie.Need-loop-holds Inv-loop μ-loop
 loop-holds c = search needs

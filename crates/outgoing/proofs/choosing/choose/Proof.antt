@@ -33,22 +33,18 @@ element-copy-out-t21 c = search needs
 cue-s-requires : tie.Need-cue-s-requires
 cue-s-requires c κs = search needs
 
-parity-len-s-requires : tie.Need-parity-len-s-requires
-parity-len-s-requires c κs = search needs
-
 most-bits-requires : tie.Need-most-bits-requires
 most-bits-requires c κs = search needs
 
 returns : tie.Need-returns
 unfolding chosen
 returns c =
-    let y = c .before in
-    let q = y .before in
+    let q = c .before in
     let o = q .before .before .before in
     let w = o .before .before .before in
     let f = w .before in
     let m = f .before in
-    simp (c .most-bits .ensures, y .parity-len-s .ensures, q .cue-s .ensures, o .slot .ensures, w .wave-rank .ensures, f .long-frame .ensures, m .burst-len-s .ensures, m .before .cue-for .ensures)
+    simp (c .most-bits .ensures, q .cue-s .ensures, o .slot .ensures, w .wave-rank .ensures, f .long-frame .ensures, m .burst-len-s .ensures, m .before .cue-for .ensures)
 
 pub choose-spec : {M : Type 1} → statement M
 choose-spec =
@@ -64,6 +60,5 @@ choose-spec =
     mul-t18
     element-copy-out-t21
     cue-s-requires
-    parity-len-s-requires
     most-bits-requires
     returns)
