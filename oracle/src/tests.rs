@@ -728,6 +728,89 @@ fn airtime_in_milliseconds() {
     assert_eq!(h.airtime_ms, u64::MAX);
 }
 
+/// A connected sender whose bursts at level 16 take 0.5 ms, and so does a cue where one was agreed; an ack in a wave of rank W takes W + 0.5 ms.
+fn half_milliseconds(cue: bool) -> Harness {
+    let mut p = Profile::usual();
+    p.values[16] = vec![Value::Whole(1), Value::F64(0.0), Value::F64(2000.0), Value::Whole(1)];
+    p.values[ACK_S] = (0..6).map(|w| Value::F64((w as f64 + 0.5) / 1000.0)).collect();
+    p.values[CUE_S] = vec![Value::F64(0.0005)];
+    p.values[DBS][2] = Value::F32(100.0);
+    p.values[ON][on::CUE] = Value::Flag(cue);
+    let mut h = Harness::new(p);
+    assert_eq!(number(&mut h, connect(0.0, 30.0)), 0);
+    h
+}
+
+/// What a burst adds, and its number.
+fn burst_adds(h: &mut Harness, cue: bool, frames: usize) -> (u64, u64) {
+    let before = h.airtime_ms;
+    let Answer::Burst(b) = h.call(&Call::Burst) else {
+        panic!()
+    };
+    assert_eq!((b.code, b.cue, b.frames.len()), (16, cue, frames));
+    (h.airtime_ms - before, b.number() as u64)
+}
+
+#[test]
+fn airtime_of_cues() {
+    for cue in [false, true] {
+        let mut h = half_milliseconds(cue);
+        assert_eq!(burst_adds(&mut h, cue, 0).0, 0);
+        h.call(&Call::queue(vec![1; 3]));
+        assert_eq!(burst_adds(&mut h, cue, 1).0, 1 + cue as u64);
+        for (before, after) in [(1, 2), (2, 2), (3, 3)] {
+            h.airtime_ms = u64::MAX - before;
+            h.call(&Call::Burst);
+            assert_eq!(h.airtime_ms, if cue { u64::MAX - before.max(after) + after } else { u64::MAX - before + 1 });
+        }
+    }
+}
+
+#[test]
+fn airtime_of_acks() {
+    let in_wave = |call, w| match call {
+        Call::Short { .. } => {
+            let mut s = call;
+            if let Call::Short { wave, .. } = &mut s {
+                *wave = w;
+            }
+            s
+        }
+        other => other,
+    };
+    for frames in [0, 1] {
+        for w in 0..6 {
+            for last in 0..8 {
+                let mut h = half_milliseconds(true);
+                h.call(&Call::queue(vec![1; 3 * frames]));
+                let (_, burst) = burst_adds(&mut h, true, frames);
+                let before = h.airtime_ms;
+                let ack = |t| if last < 4 { in_wave(short(t, last, 1), w) } else { long(t, w, 13) };
+                assert_eq!(number(&mut h, turn(-1.0, w, 0.0, None)), 5);
+                assert_eq!(number(&mut h, in_wave(short(1.0, burst, 64), w)), 6);
+                assert_eq!(number(&mut h, long(1.0, 6, 13)), 6);
+                assert_eq!(number(&mut h, long(1.0, w, 12)), 7);
+                assert_eq!(h.airtime_ms, before);
+                assert_eq!(number(&mut h, ack(1.0)), 0);
+                assert_eq!(h.airtime_ms, before + w + 1);
+                assert_eq!(number(&mut h, ack(1.0)), 0);
+                assert_eq!(h.airtime_ms, before + w + 1);
+            }
+        }
+    }
+    let mut h = half_milliseconds(true);
+    burst_adds(&mut h, true, 0);
+    assert_eq!(number(&mut h, turn(1.0, 5, 0.0, None)), 0);
+    assert_eq!(number(&mut h, in_wave(short(1.0, 0, 1), 5)), 0);
+    assert_eq!(h.airtime_ms, 0);
+    for (before, after) in [(u64::MAX - 7, u64::MAX - 1), (u64::MAX - 6, u64::MAX), (u64::MAX - 5, u64::MAX), (u64::MAX, u64::MAX)] {
+        burst_adds(&mut h, true, 0);
+        h.airtime_ms = before;
+        assert_eq!(number(&mut h, long(1.0, 5, 13)), 0);
+        assert_eq!(h.airtime_ms, after);
+    }
+}
+
 #[test]
 fn lists_come_back_from_their_text() {
     for (index, kind) in generate::KINDS.into_iter().filter(|&kind| kind != "lines").enumerate() {
