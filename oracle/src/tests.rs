@@ -757,57 +757,56 @@ fn airtime_of_cues() {
         let mut h = half_milliseconds(cue);
         assert_eq!(burst_adds(&mut h, cue, 0).0, 0);
         h.call(&Call::queue(vec![1; 3]));
-        assert_eq!(burst_adds(&mut h, cue, 1).0, 1 + cue as u64);
-        for (before, after) in [(1, 2), (2, 2), (3, 3)] {
-            h.airtime_ms = u64::MAX - before;
+        let adds = 1 + cue as u64;
+        assert_eq!(burst_adds(&mut h, cue, 1).0, adds);
+        for left in 0..4u64 {
+            h.airtime_ms = u64::MAX - left;
             h.call(&Call::Burst);
-            assert_eq!(h.airtime_ms, if cue { u64::MAX - before.max(after) + after } else { u64::MAX - before + 1 });
+            assert_eq!(u64::MAX - h.airtime_ms, left.saturating_sub(adds));
         }
     }
 }
 
 #[test]
 fn airtime_of_acks() {
-    let in_wave = |call, w| match call {
-        Call::Short { .. } => {
-            let mut s = call;
-            if let Call::Short { wave, .. } = &mut s {
-                *wave = w;
-            }
-            s
+    let short_in = |w, burst, bitmap| {
+        let mut call = short(1.0, burst, bitmap);
+        if let Call::Short { wave, .. } = &mut call {
+            *wave = w;
         }
-        other => other,
+        call
     };
     for frames in [0, 1] {
         for w in 0..6 {
-            for last in 0..8 {
+            for last in 0..5 {
                 let mut h = half_milliseconds(true);
                 h.call(&Call::queue(vec![1; 3 * frames]));
                 let (_, burst) = burst_adds(&mut h, true, frames);
                 let before = h.airtime_ms;
-                let ack = |t| if last < 4 { in_wave(short(t, last, 1), w) } else { long(t, w, 13) };
+                let ack = || if last < 4 { short_in(w, last, 1) } else { long(1.0, w, 13) };
                 assert_eq!(number(&mut h, turn(-1.0, w, 0.0, None)), 5);
-                assert_eq!(number(&mut h, in_wave(short(1.0, burst, 64), w)), 6);
+                assert_eq!(number(&mut h, short_in(w, burst, 64)), 6);
                 assert_eq!(number(&mut h, long(1.0, 6, 13)), 6);
                 assert_eq!(number(&mut h, long(1.0, w, 12)), 7);
                 assert_eq!(h.airtime_ms, before);
-                assert_eq!(number(&mut h, ack(1.0)), 0);
-                assert_eq!(h.airtime_ms, before + w + 1);
-                assert_eq!(number(&mut h, ack(1.0)), 0);
-                assert_eq!(h.airtime_ms, before + w + 1);
+                // The first is awaited, the second is not.
+                for _ in 0..2 {
+                    assert_eq!(number(&mut h, ack()), 0);
+                    assert_eq!(h.airtime_ms, before + w + 1);
+                }
             }
         }
     }
     let mut h = half_milliseconds(true);
     burst_adds(&mut h, true, 0);
     assert_eq!(number(&mut h, turn(1.0, 5, 0.0, None)), 0);
-    assert_eq!(number(&mut h, in_wave(short(1.0, 0, 1), 5)), 0);
+    assert_eq!(number(&mut h, short_in(5, 0, 1)), 0);
     assert_eq!(h.airtime_ms, 0);
-    for (before, after) in [(u64::MAX - 7, u64::MAX - 1), (u64::MAX - 6, u64::MAX), (u64::MAX - 5, u64::MAX), (u64::MAX, u64::MAX)] {
+    for left in [7, 6, 5, 0u64] {
         burst_adds(&mut h, true, 0);
-        h.airtime_ms = before;
+        h.airtime_ms = u64::MAX - left;
         assert_eq!(number(&mut h, long(1.0, 5, 13)), 0);
-        assert_eq!(h.airtime_ms, after);
+        assert_eq!(u64::MAX - h.airtime_ms, left.saturating_sub(6));
     }
 }
 
