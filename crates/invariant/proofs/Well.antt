@@ -145,8 +145,26 @@ module _ (p : Profile) where
       let so = w .sound in
       let ar = w .arrays in
       record {
-        sound = record { area = so .area; held = so .held; rest = so .rest; sent = so .sent; pieces = so .pieces; flying = so .flying; ledger = so .ledger; gear = so .gear; link = so .link };
-        arrays = record { heldOff = ar .heldOff; heldBits = ar .heldBits; sentOff = ar .sentOff; sentBits = ar .sentBits; sentHeld = ar .sentHeld };
+        sound =
+            record {
+              area = so .area;
+              held = so .held;
+              rest = so .rest;
+              sent = so .sent;
+              pieces = so .pieces;
+              flying = so .flying;
+              ledger = so .ledger;
+              gear = so .gear;
+              link = so .link;
+            };
+        arrays =
+            record {
+              heldOff = ar .heldOff;
+              heldBits = ar .heldBits;
+              sentOff = ar .sentOff;
+              sentBits = ar .sentBits;
+              sentHeld = ar .sentHeld;
+            };
         bytes = w .bytes;
         typed = w .typed;
       }

@@ -59,7 +59,7 @@ pub record Values : Type 0 where
   pub ease : (p : Profile) (g : Gear) (k : Link) (parity stored number : ℕ) (f : Frames) →
       (k .«peer_doppler_hz» ≡ db 0x3fe0_0000 → headed p g k parity stored number f .«td_ease» ≡ false)
       × (k .«peer_doppler_hz» ≡ db 0x4000_0000 → headed p g k parity stored number f .«td_ease» ≡ true)
-  -- "for each burst with a frame, its duration"; "the cue where a burst with a frame has one": a burst without adds nothing, behind a cue or not
+  -- "for each burst with a frame, its duration"; "the cue where a burst with a frame has one": one without adds nothing, behind a cue or not
   pub airtime : (p : Profile) (level ms bits : ℕ) (cued : Bool) → airtimeOf p level cued ms 0 bits ≡ ms
   -- "Each is rounded up to a millisecond separately": a burst of 0.0005 s is 1 ms, and with a cue of 0.0005 s it is 2
   pub rounded : (p : Profile) (level bits : ℕ) → durationAt (p .air) level bits ≡ half → p .air .«cue_s» ≡ half →

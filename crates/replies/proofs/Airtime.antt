@@ -26,7 +26,7 @@ module _ (p : Profile) (h : Heard) (s : Sender) (a : List ℕ) where
   abbrev after : Sender × List ℕ → ℕ
   after x = x .0 .counts .«airtime_ms»
 
-  -- "for every awaited ack that arrives, the ack time of its wave": of any number, and of a burst with no frame too. One not awaited adds nothing
+  -- "for every awaited ack that arrives, the ack time of its wave": of any number, also of a burst with no frame. One not awaited adds nothing
   abbrev withAck : ℕ
   withAck = cond (s .link .awaiting) (airAdded before (ackAt (p .air) (h .wave))) before
 

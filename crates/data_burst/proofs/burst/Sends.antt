@@ -195,10 +195,13 @@ module _ (p : Profile) (r : Ranged p) (o : inOrder p ≡ true) (s : Sender) (a :
             he ∙ (λ i. headed p (s .gear) (s .link) (plan-is i .parity) (plan-is i .stored) (ke i) (frames-are i))
             ∙ answer-is p s a bs held xs sent same
 
+        count-is : b .slots .n ≡ length xs
+        count-is = ap (λ (x : Slots). x .n) slots-are ∙ sym xs-count
+
         counted : ms ≡ airtime p s a (s .counts)
         counted =
             mse ∙ ap (airtimeOf p (s .gear .level) (h .cue) (s .counts .«airtime_ms») (b .slots .n)) ve
-            ∙ (λ i. airtimeOf p (s .gear .level) (answered i .cue) (s .counts .«airtime_ms») ((ap (λ (x : Slots). x .n) slots-are ∙ sym xs-count) i) (burstBits (plan-is i) (de i .slot) ((ap (λ (x : Slots). x .n) slots-are ∙ sym xs-count) i)))
+            ∙ (λ i. airtimeOf p (s .gear .level) (answered i .cue) (s .counts .«airtime_ms») (count-is i) (burstBits (plan-is i) (de i .slot) (count-is i)))
             ∙ airtime-is p s a bs held xs sent (s .counts)
 
         pub done : ((h, withAir (b .next) ms), (a₁, out₁)) ≡ burstOf p s a out

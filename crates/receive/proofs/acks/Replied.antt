@@ -68,7 +68,8 @@ bits-short b bitmap n few j h =
 
 -- an ack reads nothing of the airtime count: its own time may be counted first
 counted-first : (p : Profile) (h : Heard) (r : Reply) (stored : Bool) (snr time : Float) (s : Sender) (a : List ℕ)
-    → ackIn p r stored snr time (withAir s (airAdded (s .counts .«airtime_ms») (ackAt (p .air) (h .wave)))) a ≡ countedAck p h (ackIn p r stored snr time s a)
+    → ackIn p r stored snr time (withAir s (airAdded (s .counts .«airtime_ms») (ackAt (p .air) (h .wave)))) a
+    ≡ countedAck p h (ackIn p r stored snr time s a)
 unfolding ackIn view store storeCounts
 counted-first p h r stored snr time s a = refl
 
@@ -111,38 +112,47 @@ module _ (p : Profile) (s : Sender) (a : List ℕ) (an : ReplyReady p s a) (ar :
   abbrev counts : ℕ
   counts = airAdded (s .counts .«airtime_ms») (ackAt (p .air) (h .wave))
 
-  pub short-awaited : (r : Ack) (g : Gear) (k : Link) (ms m : ℕ) (q : Sender) (b : List ℕ) → g ≡ withClass (s .gear) (r .class) → k ≡ ackNoted (s .link) (h .time) (r .«want_turn») (r .«want_disc») (r .burst)
-      → ms ≡ counts → m ≡ bitsFor (s .«last_burst» .n) (r .bitmap)
-      → (q, b) ≡ ackedBy p (r .burst) m (r .stored) (r .«snr_db») (h .time) (withAir (withLink (withGear s g) (withPath k (r .slot) (k .«peer_doppler_hz»))) ms) a
+  pub short-awaited : (r : Ack) (g : Gear) (k : Link) (ms m : ℕ) (q : Sender) (b : List ℕ) → g ≡ withClass (s .gear) (r .class)
+      → k ≡ ackNoted (s .link) (h .time) (r .«want_turn») (r .«want_disc») (r .burst) → ms ≡ counts → m ≡ bitsFor (s .«last_burst» .n) (r .bitmap)
+      → (q, b) ≡ ackedBy p (r .burst) m (r .stored) (r .«snr_db») (h .time)
+      (withAir (withLink (withGear s g) (withPath k (r .slot) (k .«peer_doppler_hz»))) ms) a
       → k .awaiting ≡ true → (q, b) ≡ shortAcked p h r s a
   unfolding shortAcked
   short-awaited r g k ms m q b e₁ e₂ e₅ e₃ e₄ t =
       let aw : s .link .awaiting ≡ true = sym (ap (λ (x : Link). x .awaiting) e₂) ∙ t in
       let n = sent-count s ar few in
-      let noted = withPath (ackNoted (s .link) (h .time) (r .«want_turn») (r .«want_disc») (r .burst)) (r .slot) (s .link .«peer_doppler_hz») in
+      let note = ackNoted (s .link) (h .time) (r .«want_turn») (r .«want_disc») (r .burst) in
+      let path = withPath note (r .slot) (s .link .«peer_doppler_hz») in
+      let reply = shortAck (r .burst) (r .bitmap) in
       cond-yes _ _ _ _ aw
       (e₄
-      ∙ (λ i. ackedBy p (r .burst) (e₃ i) (r .stored) (r .«snr_db») (h .time) (withAir (withLink (withGear s (e₁ i)) (withPath (e₂ i) (r .slot) (e₂ i .«peer_doppler_hz»))) (e₅ i)) a)
-      ∙ given-is p s a an ar by (withClass (s .gear) (r .class)) noted counts
-      (shortAck (r .burst) (r .bitmap)) (bitsFor (s .«last_burst» .n) (r .bitmap)) (r .stored) (r .«snr_db») (h .time) aw refl
-      (λ j l. ap (λ (x : ℕ). shortAck (r .burst) (r .bitmap) .bit x (0 + j)) n ∙ bits-short (r .burst) (r .bitmap) (s .«last_burst» .n) few j l)
-      ∙ counted-first p h (shortAck (r .burst) (r .bitmap)) (r .stored) (r .«snr_db») (h .time) (withLink (withGear s (withClass (s .gear) (r .class))) noted) a)
+      ∙ (λ i. ackedBy p (r .burst) (e₃ i) (r .stored) (r .«snr_db») (h .time)
+      (withAir (withLink (withGear s (e₁ i)) (withPath (e₂ i) (r .slot) (e₂ i .«peer_doppler_hz»))) (e₅ i)) a)
+      ∙ given-is p s a an ar by (withClass (s .gear) (r .class)) path counts
+      reply (bitsFor (s .«last_burst» .n) (r .bitmap)) (r .stored) (r .«snr_db») (h .time) aw refl
+      (λ j l. ap (λ (x : ℕ). reply .bit x (0 + j)) n ∙ bits-short (r .burst) (r .bitmap) (s .«last_burst» .n) few j l)
+      ∙ counted-first p h reply (r .stored) (r .«snr_db») (h .time) (withLink (withGear s (withClass (s .gear) (r .class))) path) a)
 
-  pub long-awaited : (r : LongAck) (i : AckInfo) (g : Gear) (k : Link) (ms : ℕ) (db : Float) (q : Sender) (b : List ℕ) → g ≡ withClass (s .gear) (i .report .class)
+  pub long-awaited : (r : LongAck) (i : AckInfo) (g : Gear) (k : Link) (ms : ℕ) (db : Float) (q : Sender) (b : List ℕ)
+      → g ≡ withClass (s .gear) (i .report .class)
       → k ≡ ackNoted (s .link) (h .time) (r .«want_turn») (r .«want_disc») (i .burst) → ms ≡ counts → db ≡ longDb p i
-      → (q, b) ≡ ackedBy p (i .burst) (i .bitmap) (r .stored) db (h .time) (withAir (withLink (withGear s g) (withPath k (i .report .slot) (i .report .«doppler_hz»))) ms) a
+      → (q, b) ≡ ackedBy p (i .burst) (i .bitmap) (r .stored) db (h .time)
+      (withAir (withLink (withGear s g) (withPath k (i .report .slot) (i .report .«doppler_hz»))) ms) a
       → k .awaiting ≡ true → (q, b) ≡ longAcked p h r i s a
   unfolding longAcked
   long-awaited r i g k ms db q b e₁ e₂ e₅ e₃ e₄ t =
       let aw : s .link .awaiting ≡ true = sym (ap (λ (x : Link). x .awaiting) e₂) ∙ t in
-      let noted = withPath (ackNoted (s .link) (h .time) (r .«want_turn») (r .«want_disc») (i .burst)) (i .report .slot) (i .report .«doppler_hz») in
+      let note = ackNoted (s .link) (h .time) (r .«want_turn») (r .«want_disc») (i .burst) in
+      let path = withPath note (i .report .slot) (i .report .«doppler_hz») in
+      let reply = longAck (i .burst) (i .bitmap) in
       cond-yes _ _ _ _ aw
       (e₄
-      ∙ (λ j. ackedBy p (i .burst) (i .bitmap) (r .stored) (e₃ j) (h .time) (withAir (withLink (withGear s (e₁ j)) (withPath (e₂ j) (i .report .slot) (i .report .«doppler_hz»))) (e₅ j)) a)
-      ∙ given-is p s a an ar by (withClass (s .gear) (i .report .class)) noted counts
-      (longAck (i .burst) (i .bitmap)) (i .bitmap) (r .stored) (longDb p i) (h .time) aw refl
+      ∙ (λ j. ackedBy p (i .burst) (i .bitmap) (r .stored) (e₃ j) (h .time)
+      (withAir (withLink (withGear s (e₁ j)) (withPath (e₂ j) (i .report .slot) (i .report .«doppler_hz»))) (e₅ j)) a)
+      ∙ given-is p s a an ar by (withClass (s .gear) (i .report .class)) path counts
+      reply (i .bitmap) (r .stored) (longDb p i) (h .time) aw refl
       (bits-long (i .burst) (i .bitmap) (s .«last_burst» .n) (length (sentIn (s .«last_burst»))))
-      ∙ counted-first p h (longAck (i .burst) (i .bitmap)) (r .stored) (longDb p i) (h .time) (withLink (withGear s (withClass (s .gear) (i .report .class))) noted) a)
+      ∙ counted-first p h reply (r .stored) (longDb p i) (h .time) (withLink (withGear s (withClass (s .gear) (i .report .class))) path) a)
 
 -- ---- those that are not
 

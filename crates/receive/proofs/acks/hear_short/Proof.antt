@@ -42,18 +42,24 @@ ack-in-requires c κs =
     let s = c .before .before .before .before .before .before .before .before .before .before in
     let known = c .before .before .before .before .before .before .before .before .before .slice-known in
     let gear = c .before .before .before .before .before .with-class .ensures in
-    (s .pre .0, (omega (arith, ap (λ (x : Gear). x .level) gear, s .pre .1 .0 .level), settling _ _ _ (s .pre .1 .0) (arrays s) (λ k. known .given k .fits) _ _ _))
+    let ready = s .pre .1 .0 in (
+      s .pre .0,
+      (omega (arith, ap (λ (x : Gear). x .level) gear, ready .level), settling _ _ _ ready (arrays s) (λ k. known .given k .fits) _ _ _),
+    )
 
 same-length : tie.Need-same-length
 same-length c = search needs
 
 returns-2 : tie.Need-returns-2
 returns-2 c =
+    let read = c .before .before .before in
+    let counted = c .before .before .before .before .before .before in
+    let classed = c .before .before .before .before .before .before .before .before in
     let asked = c .before .before .before .before .before .before .before .before .before in
     let s = asked .before .before .before .before in
     let known = asked .before .before .before .slice-known in
     short-awaited _ (s .args .s) (now (s .args .a)) (s .pre .1 .0) (arrays s) (λ k. known .given k .fits) _ _ _ _ _ _ _ _
-    (c .before .before .before .before .before .before .before .before .with-class .ensures) (asked .before .before .note .ensures) (c .before .before .before .before .before .before .ack-airtime .ensures) (c .before .before .before .bits-for .ensures)
+    (classed .with-class .ensures) (asked .before .before .note .ensures) (counted .ack-airtime .ensures) (read .bits-for .ensures)
     (c .before .before .ack-in .ensures) (not-false _ (asked .if1 .left))
 
 pub hear-short-spec : {M : Type 1} → statement M
