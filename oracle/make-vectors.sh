@@ -45,7 +45,7 @@ vectors labels 70 5 13 30 36 41 50 54
 
 examples=$here/../examples
 for list in "$vectors"/*.calls "$vectors"/changes/levels-*.calls "$vectors"/changes/classes-*.calls "$vectors"/changes/labels-*.calls \
-    "$examples/levels.calls" "$examples/classes.calls" "$examples/bulletin.calls" \
+    "$vectors"/changes/airtime-*.calls "$examples/levels.calls" "$examples/classes.calls" "$examples/bulletin.calls" \
     "$vectors/changes/frames-of-263-and-264.calls"; do
     "$here/run" transcript "$list" >"${list%.calls}.transcript"
 done

@@ -3,10 +3,11 @@
 use mathlib.Core.Path.{_≡_, refl, sym, ap, ap₂, _∙_}
 use mathlib.Core.List.{List}
 use mathlib.Core.Bool.{true, false}
-use Prim.Native.Nat.{ℕ}
+use Prim.Native.Nat.{ℕ, _≤_}
 use native.Mathlib.Omega.{arith}
 use lib.ListN.{length}
-use Rattle.laws.proofs.Picks.{cond-yes, cond-no, by₂}
+use borrow.Author.Tests.{leb-true}
+use Rattle.laws.proofs.Picks.{cond-yes, cond-no, by₂, and-first}
 use Rattle.config.specs.declared.Profile.{Profile}
 use Rattle.config.specs.Ranged.{Ranged}
 use Rattle.config.proofs.ranges.Ranged.{ranged}
@@ -21,6 +22,7 @@ use Rattle.queuing.specs.Station.{withSender, queuedIn}
 use Rattle.queuing.specs.StationCode.{Fit}
 use Rattle.queuing.specs.declared.Station.{Station}
 use Rattle.replies.specs.declared.Heard.{Heard}
+use Rattle.refusals.specs.Refusals.{heardOk}
 use Rattle.refusals.specs.declared.Verdict.{Verdict}
 use Rattle.refusals.specs.declared.Reply.{Reply}
 use Rattle.sender.specs.declared.Answer.{Answer}
@@ -28,7 +30,7 @@ use Rattle.sender.specs.declared.Finding.{Finding}
 use Rattle.verdicts.specs.Verdicts.{passed, standing, queueVerdict, receiveVerdict}
 use Rattle.receive.specs.Accepted.{acceptedReply}
 use Rattle.sender.specs.Calls.{queueOf, receiveOf, findOf, pieceOf}
-use Rattle.verdicts.proofs.Passed.{queue-passed, queue-room, receive-three}
+use Rattle.verdicts.proofs.Passed.{queue-passed, queue-room, receive-three, reply-passed}
 use Rattle.area.specs.FindCode.{bytesAt}
 use Rattle.replies.specs.RepliesCode.{ReplyReady}
 
@@ -89,6 +91,10 @@ module _ (p : Profile) (t : Station) (a : List ℕ) where
     answerable ar =
         let so = test-sound p s a ar (receive-three p t a h r (length payload) ok .2) in
         record { level = sound-level p s a so; settling = sound-settling p s a so ar; sound = so .ledger }
+
+    pub in-a-wave : h .wave ≤ 5
+    unfolding heardOk
+    in-a-wave = leb-true _ _ (and-first _ _ (reply-passed p t a h r (length payload) ok .1))
 
     pub receive-accepted : (x : Sender × List ℕ) (v : Verdict) → v ≡ receiveVerdict p t a h r (length payload) → x ≡ acceptedReply p h r payload s a
         → answer v (withSender t (x .0), x .1) ≡ receiveOf p t a h r payload

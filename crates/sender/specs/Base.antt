@@ -1,4 +1,4 @@
--- THE BASE: the sender's calls by document 01 alone, with one queue of bytes and no messages. Change 1's sentence "with a single class the Rust is
+-- THE BASE: the sender's calls by document 01 (and Changes 4 and 5), with one queue of bytes and no messages. Change 1's sentence "with a single class the Rust is
 -- still equalled" is measured by them (crates/demand/specs/Single.antt). Definitions only.
 use mathlib.Core.List.{List, _++_}
 use mathlib.Core.Bool.{Bool, false, cond, not, _&&_, _||_}
