@@ -4,6 +4,7 @@ use mathlib.Core.Bool.{Bool, false, cond, _&&_}
 use Prim.Native.Nat.{ℕ, _+_, _%_}
 use lib.Ieee.{Float}
 use Rattle.report.specs.declared.ack.AckInfo.{AckInfo}
+use Rattle.config.specs.Durations.{ackAt}
 use Rattle.config.specs.declared.Profile.{Profile}
 use Rattle.gear.specs.Setters.{withClass}
 use Rattle.gear.specs.OtherReplies.{connected, onTurn}
@@ -11,6 +12,7 @@ use Rattle.ledger.specs.Reply.{Reply, shortAck, longAck}
 use Rattle.ledger.specs.Ledger as L
 use Rattle.ledger.specs.Ledger.{clearBurst}
 use Rattle.record.specs.View.{view, store, storeArea}
+use Rattle.record.specs.Airtime.{airAdded, withAir}
 use Rattle.record.specs.declared.Link.{Link}
 use Rattle.record.specs.declared.Sender.{Sender}
 use Rattle.settle.specs.Outcomes.{outcomeOf}
@@ -34,13 +36,18 @@ ackNoted k now turn disc number = withWishes (withHeard (withTime k now) number)
 abbrev pub connectNoted : Link → Float → ℕ → ℕ → Link
 connectNoted k now session slot = withAwaiting (withSlot (withTime (withSession k session) now) slot) false
 
+-- "for every awaited ack that arrives, the ack time of its wave": the wave that the reply bears (document 02, Change 4)
+abbrev pub countedAck : Profile → Heard → Sender × List ℕ → Sender × List ℕ
+countedAck p h x = (withAir (x .0) (airAdded (x .0 .counts .«airtime_ms») (ackAt (p .air) (h .wave))), x .1)
+
 -- "An ack not awaited updates only the turn and disconnect wishes and the number last heard" (and the time)
 unfoldable pub shortAcked : Profile → Heard → Ack → Sender → List ℕ → Sender × List ℕ
 shortAcked p h r s a =
     let k = ackNoted (s .link) (h .time) (r .«want_turn») (r .«want_disc») (r .burst) in
     cond (s .link .awaiting)
+    (countedAck p h
     (ackIn p (shortAck (r .burst) (r .bitmap)) (r .stored) (r .«snr_db») (h .time)
-    (withLink (withGear s (withClass (s .gear) (r .class))) (withPath k (r .slot) (s .link .«peer_doppler_hz»))) a)
+    (withLink (withGear s (withClass (s .gear) (r .class))) (withPath k (r .slot) (s .link .«peer_doppler_hz»))) a))
     (withLink s k, a)
 
 -- a long ack's dB: of its report, with eff_snr
@@ -51,8 +58,9 @@ unfoldable pub longAcked : Profile → Heard → LongAck → AckInfo → Sender 
 longAcked p h r i s a =
     let k = ackNoted (s .link) (h .time) (r .«want_turn») (r .«want_disc») (i .burst) in
     cond (s .link .awaiting)
+    (countedAck p h
     (ackIn p (longAck (i .burst) (i .bitmap)) (r .stored) (longDb p i) (h .time)
-    (withLink (withGear s (withClass (s .gear) (i .report .class))) (withPath k (i .report .slot) (i .report .«doppler_hz»))) a)
+    (withLink (withGear s (withClass (s .gear) (i .report .class))) (withPath k (i .report .slot) (i .report .«doppler_hz»))) a))
     (withLink s k, a)
 
 -- ---- turn and connect answer
