@@ -38,7 +38,7 @@ pub fn data_burst(p: Profile, s: Sender, a: &mut [u8], out: &mut [u8]) -> Burst
     let frames = outgoing::spans::frames_out(q, slots);
     let o = outgoing::answer(p, g, k, pl, number, frames);
     let bits = outgoing::burst_bits(pl, c.slot, slots.n);
-    let ms = outgoing::airtime(p, l, s.counts.airtime_ms, slots.n, bits);
+    let ms = outgoing::airtime(p, l, o.cue, s.counts.airtime_ms, slots.n, bits);
     let mut next = b.next;
     next.counts.airtime_ms = ms;
     Burst { outgoing: o, next }

@@ -11,6 +11,7 @@ use replies::LongAck;
 use report::ack::AckInfo;
 use report::ack::AckRead;
 ghost use mathlib.Core.Path.{_≡_};
+ghost use Prim.Native.Nat.{_≤_};
 ghost use Rattle.report.specs.Ack.{ackOf};
 ghost use Rattle.config.specs.Ranged.{Ranged};
 ghost use Rattle.receive.specs.Accepted.{longRead, acceptedReply};
@@ -25,7 +26,7 @@ pub fn hear_payload(
     r: LongAck,
     payload: &[u8],
 ) -> Sender
-    requires { ⌜ Ranged p ⌝ ∗ ⌜ ReplyReady p s (now a) ⌝ }
+    requires { ⌜ Ranged p ⌝ ∗ ⌜ ReplyReady p s (now a) × (h .wave ≤ 5) ⌝ }
     ensures { λ q. ⌜ (q, now (a .exit)) ≡ longRead p h r (ackOf (now (payload .entry))) s (now (a .entry)) ⌝ }
 {
     let i = AckInfo::from_bytes(payload);
@@ -37,7 +38,7 @@ pub fn hear_payload(
 
 // A reply that is accepted.
 pub fn answer(p: Profile, s: Sender, a: &mut [u8], h: Heard, r: Reply, payload: &[u8]) -> Sender
-    requires { ⌜ Ranged p ⌝ ∗ ⌜ ReplyReady p s (now a) ⌝ }
+    requires { ⌜ Ranged p ⌝ ∗ ⌜ ReplyReady p s (now a) × (h .wave ≤ 5) ⌝ }
     ensures { λ q. ⌜ (q, now (a .exit)) ≡ acceptedReply p h r (now (payload .entry)) s (now (a .entry)) ⌝ }
 {
     match r {

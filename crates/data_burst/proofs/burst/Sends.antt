@@ -25,7 +25,7 @@ use Rattle.frames.specs.declared.slots.Slots.{Slots}
 use Rattle.pieces.specs.Burst.{framesSent}
 use Rattle.plan.specs.declared.Choice.{Choice}
 use Rattle.plan.specs.declared.Planned.{Planned}
-use Rattle.record.specs.Setters.{withCounts, withAirtime}
+use Rattle.record.specs.Airtime.{withAir}
 use Rattle.record.specs.Profiles.{sizesOf}
 use Rattle.record.specs.View.{view, store, storeArea}
 use Rattle.record.specs.declared.Sender.{Sender}
@@ -186,7 +186,7 @@ module _ (p : Profile) (r : Ranged p) (o : inOrder p ≡ true) (s : Sender) (a :
       module _ (f : Frames) (fe : f ≡ slotFrames (p .codes) (slotsFrom (b .slots) 0 (b .slots .n)))
           (h : Outgoing) (he : h ≡ headed p (s .gear) (s .link) (b .plan .parity) (b .plan .stored) k f)
           (v : ℕ) (ve : v ≡ burstBits (b .plan) (d .slot) (b .slots .n))
-          (ms : ℕ) (mse : ms ≡ airtimeOf p (s .gear .level) (s .counts .«airtime_ms») (b .slots .n) v) where
+          (ms : ℕ) (mse : ms ≡ airtimeOf p (s .gear .level) (h .cue) (s .counts .«airtime_ms») (b .slots .n) v) where
         frames-are : f ≡ slotFrames (p .codes) xs
         frames-are = fe ∙ ap (λ (x : Slots). slotFrames (p .codes) (slotsFrom x 0 (x .n))) slots-are
 
@@ -197,13 +197,10 @@ module _ (p : Profile) (r : Ranged p) (o : inOrder p ≡ true) (s : Sender) (a :
 
         counted : ms ≡ airtime p s a (s .counts)
         counted =
-            mse ∙ ap (airtimeOf p (s .gear .level) (s .counts .«airtime_ms») (b .slots .n)) ve
-            ∙ (λ i. airtimeOf p (s .gear .level) (s .counts .«airtime_ms») ((ap (λ (x : Slots). x .n) slots-are ∙ sym xs-count) i) (burstBits (plan-is i) (de i .slot) ((ap (λ (x : Slots). x .n) slots-are ∙ sym xs-count) i)))
+            mse ∙ ap (airtimeOf p (s .gear .level) (h .cue) (s .counts .«airtime_ms») (b .slots .n)) ve
+            ∙ (λ i. airtimeOf p (s .gear .level) (answered i .cue) (s .counts .«airtime_ms») ((ap (λ (x : Slots). x .n) slots-are ∙ sym xs-count) i) (burstBits (plan-is i) (de i .slot) ((ap (λ (x : Slots). x .n) slots-are ∙ sym xs-count) i)))
             ∙ airtime-is p s a bs held xs sent (s .counts)
 
-        abbrev timed : Sender → ℕ → Sender
-        timed q t = withCounts q (withAirtime (q .counts) t)
-
-        pub done : ((h, timed (b .next) ms), (a₁, out₁)) ≡ burstOf p s a out
+        pub done : ((h, withAir (b .next) ms), (a₁, out₁)) ≡ burstOf p s a out
         unfolding burstOf output
-        done = λ i. ((answered i, timed (next-is i) (counted i)), (made-is i .1 .0, made-is i .1 .1))
+        done = λ i. ((answered i, withAir (next-is i) (counted i)), (made-is i .1 .0, made-is i .1 .1))

@@ -1,6 +1,6 @@
 -- Replies, put together.
 -- Assumes nothing.
-use mathlib.Core.Path.{_≡_, refl, sym, ap, ap₂, _∙_}
+use mathlib.Core.Path.{_≡_, refl, sym, ap, _∙_}
 use mathlib.Core.List.{List, []}
 use mathlib.Core.Bool.{Bool, true, false, cond, not, _&&_, _||_}
 use Prim.Native.Nat.{ℕ, zero, suc, _+_, _-_, _*_, _/_, _%_, _^_, _≤_, _<_}
@@ -13,11 +13,13 @@ use borrow.Author.Tests.{eq-eqb}
 use Rattle.laws.specs.Bytes.{Bytes}
 use Rattle.laws.proofs.Picks.{cond-yes, cond-no, test}
 use Rattle.report.specs.declared.ack.AckInfo.{AckInfo}
+use Rattle.config.specs.Durations.{ackAt}
 use Rattle.config.specs.declared.Profile.{Profile}
 use Rattle.gear.specs.declared.Gear.{Gear}
 use Rattle.ledger.specs.Reply.{Reply, bitAt, shortAck, longAck}
 use Rattle.record.specs.Profiles.{sizesOf}
-use Rattle.record.specs.View.{sentIn, view}
+use Rattle.record.specs.Airtime.{airAdded, withAir}
+use Rattle.record.specs.View.{sentIn, view, store, storeCounts}
 use Rattle.record.specs.declared.Link.{Link}
 use Rattle.record.specs.declared.Sender.{Sender}
 use Rattle.record.proofs.View.{Counted, Arrays}
@@ -29,7 +31,7 @@ use Rattle.receive.proofs.awaited.Awaited.{acked-is}
 use Rattle.replies.specs.declared.Heard.{Heard}
 use Rattle.replies.specs.declared.Ack.{Ack}
 use Rattle.replies.specs.declared.LongAck.{LongAck}
-use Rattle.replies.specs.Replies.{ackNoted, withPath, longDb, shortAcked, longAcked}
+use Rattle.replies.specs.Replies.{ackNoted, withPath, longDb, countedAck, shortAcked, longAcked}
 use Rattle.record.specs.Setters.{withGear, withLink}
 use Rattle.gear.specs.Setters.{withClass}
 use Rattle.limits.specs.Limits.{maxSlots, tinyAckFrames, tinyAll}
@@ -64,9 +66,15 @@ bits-short b bitmap n few j h =
 
 -- ---- short and long acks that are awaited
 
-module _ (p : Profile) (s : Sender) (a : List ℕ) (an : ReplyReady p s a) (ar : Arrays s) (by : Bytes a) (g : Gear) (k : Link) where
+-- an ack reads nothing of the airtime count: its own time may be counted first
+counted-first : (p : Profile) (h : Heard) (r : Reply) (stored : Bool) (snr time : Float) (s : Sender) (a : List ℕ)
+    → ackIn p r stored snr time (withAir s (airAdded (s .counts .«airtime_ms») (ackAt (p .air) (h .wave)))) a ≡ countedAck p h (ackIn p r stored snr time s a)
+unfolding ackIn view store storeCounts
+counted-first p h r stored snr time s a = refl
+
+module _ (p : Profile) (s : Sender) (a : List ℕ) (an : ReplyReady p s a) (ar : Arrays s) (by : Bytes a) (g : Gear) (k : Link) (ms : ℕ) where
   abbrev given : Sender
-  given = withLink (withGear s g) k
+  given = withAir (withLink (withGear s g) k) ms
 
   pub settling : Settling given a
   settling =
@@ -99,34 +107,42 @@ module _ (p : Profile) (s : Sender) (a : List ℕ) (an : ReplyReady p s a) (ar :
   few : s .«last_burst» .n ≤ maxSlots
   few = omega (arith, an .settling .out)
 
-  pub short-awaited : (r : Ack) (g : Gear) (k : Link) (m : ℕ) (q : Sender) (b : List ℕ) → g ≡ withClass (s .gear) (r .class) → k ≡ ackNoted (s .link) (h .time) (r .«want_turn») (r .«want_disc») (r .burst)
-      → m ≡ bitsFor (s .«last_burst» .n) (r .bitmap)
-      → (q, b) ≡ ackedBy p (r .burst) m (r .stored) (r .«snr_db») (h .time) (withLink (withGear s g) (withPath k (r .slot) (k .«peer_doppler_hz»))) a
+  -- the count once the ack's own time is in it
+  abbrev counts : ℕ
+  counts = airAdded (s .counts .«airtime_ms») (ackAt (p .air) (h .wave))
+
+  pub short-awaited : (r : Ack) (g : Gear) (k : Link) (ms m : ℕ) (q : Sender) (b : List ℕ) → g ≡ withClass (s .gear) (r .class) → k ≡ ackNoted (s .link) (h .time) (r .«want_turn») (r .«want_disc») (r .burst)
+      → ms ≡ counts → m ≡ bitsFor (s .«last_burst» .n) (r .bitmap)
+      → (q, b) ≡ ackedBy p (r .burst) m (r .stored) (r .«snr_db») (h .time) (withAir (withLink (withGear s g) (withPath k (r .slot) (k .«peer_doppler_hz»))) ms) a
       → k .awaiting ≡ true → (q, b) ≡ shortAcked p h r s a
   unfolding shortAcked
-  short-awaited r g k m q b e₁ e₂ e₃ e₄ t =
+  short-awaited r g k ms m q b e₁ e₂ e₅ e₃ e₄ t =
       let aw : s .link .awaiting ≡ true = sym (ap (λ (x : Link). x .awaiting) e₂) ∙ t in
       let n = sent-count s ar few in
+      let noted = withPath (ackNoted (s .link) (h .time) (r .«want_turn») (r .«want_disc») (r .burst)) (r .slot) (s .link .«peer_doppler_hz») in
       cond-yes _ _ _ _ aw
-      (e₄ ∙ ap (λ (x : ℕ). ackedBy p (r .burst) x (r .stored) (r .«snr_db») (h .time) (withLink (withGear s g) (withPath k (r .slot) (k .«peer_doppler_hz»))) a) e₃
-      ∙ ap₂ (λ (x : Gear) (y : Link). ackedBy p (r .burst) (bitsFor (s .«last_burst» .n) (r .bitmap)) (r .stored) (r .«snr_db») (h .time) (withLink (withGear s x) (withPath y (r .slot) (y .«peer_doppler_hz»))) a) e₁ e₂
-      ∙ given-is p s a an ar by (withClass (s .gear) (r .class)) (withPath (ackNoted (s .link) (h .time) (r .«want_turn») (r .«want_disc») (r .burst)) (r .slot) (s .link .«peer_doppler_hz»))
+      (e₄
+      ∙ (λ i. ackedBy p (r .burst) (e₃ i) (r .stored) (r .«snr_db») (h .time) (withAir (withLink (withGear s (e₁ i)) (withPath (e₂ i) (r .slot) (e₂ i .«peer_doppler_hz»))) (e₅ i)) a)
+      ∙ given-is p s a an ar by (withClass (s .gear) (r .class)) noted counts
       (shortAck (r .burst) (r .bitmap)) (bitsFor (s .«last_burst» .n) (r .bitmap)) (r .stored) (r .«snr_db») (h .time) aw refl
-      (λ j l. ap (λ (x : ℕ). shortAck (r .burst) (r .bitmap) .bit x (0 + j)) n ∙ bits-short (r .burst) (r .bitmap) (s .«last_burst» .n) few j l))
+      (λ j l. ap (λ (x : ℕ). shortAck (r .burst) (r .bitmap) .bit x (0 + j)) n ∙ bits-short (r .burst) (r .bitmap) (s .«last_burst» .n) few j l)
+      ∙ counted-first p h (shortAck (r .burst) (r .bitmap)) (r .stored) (r .«snr_db») (h .time) (withLink (withGear s (withClass (s .gear) (r .class))) noted) a)
 
-  pub long-awaited : (r : LongAck) (i : AckInfo) (g : Gear) (k : Link) (db : Float) (q : Sender) (b : List ℕ) → g ≡ withClass (s .gear) (i .report .class)
-      → k ≡ ackNoted (s .link) (h .time) (r .«want_turn») (r .«want_disc») (i .burst) → db ≡ longDb p i
-      → (q, b) ≡ ackedBy p (i .burst) (i .bitmap) (r .stored) db (h .time) (withLink (withGear s g) (withPath k (i .report .slot) (i .report .«doppler_hz»))) a
+  pub long-awaited : (r : LongAck) (i : AckInfo) (g : Gear) (k : Link) (ms : ℕ) (db : Float) (q : Sender) (b : List ℕ) → g ≡ withClass (s .gear) (i .report .class)
+      → k ≡ ackNoted (s .link) (h .time) (r .«want_turn») (r .«want_disc») (i .burst) → ms ≡ counts → db ≡ longDb p i
+      → (q, b) ≡ ackedBy p (i .burst) (i .bitmap) (r .stored) db (h .time) (withAir (withLink (withGear s g) (withPath k (i .report .slot) (i .report .«doppler_hz»))) ms) a
       → k .awaiting ≡ true → (q, b) ≡ longAcked p h r i s a
   unfolding longAcked
-  long-awaited r i g k db q b e₁ e₂ e₃ e₄ t =
+  long-awaited r i g k ms db q b e₁ e₂ e₅ e₃ e₄ t =
       let aw : s .link .awaiting ≡ true = sym (ap (λ (x : Link). x .awaiting) e₂) ∙ t in
+      let noted = withPath (ackNoted (s .link) (h .time) (r .«want_turn») (r .«want_disc») (i .burst)) (i .report .slot) (i .report .«doppler_hz») in
       cond-yes _ _ _ _ aw
-      (e₄ ∙ ap (λ (x : Float). ackedBy p (i .burst) (i .bitmap) (r .stored) x (h .time) (withLink (withGear s g) (withPath k (i .report .slot) (i .report .«doppler_hz»))) a) e₃
-      ∙ ap₂ (λ (x : Gear) (y : Link). ackedBy p (i .burst) (i .bitmap) (r .stored) (longDb p i) (h .time) (withLink (withGear s x) (withPath y (i .report .slot) (i .report .«doppler_hz»))) a) e₁ e₂
-      ∙ given-is p s a an ar by (withClass (s .gear) (i .report .class)) (withPath (ackNoted (s .link) (h .time) (r .«want_turn») (r .«want_disc») (i .burst)) (i .report .slot) (i .report .«doppler_hz»))
+      (e₄
+      ∙ (λ j. ackedBy p (i .burst) (i .bitmap) (r .stored) (e₃ j) (h .time) (withAir (withLink (withGear s (e₁ j)) (withPath (e₂ j) (i .report .slot) (i .report .«doppler_hz»))) (e₅ j)) a)
+      ∙ given-is p s a an ar by (withClass (s .gear) (i .report .class)) noted counts
       (longAck (i .burst) (i .bitmap)) (i .bitmap) (r .stored) (longDb p i) (h .time) aw refl
-      (bits-long (i .burst) (i .bitmap) (s .«last_burst» .n) (length (sentIn (s .«last_burst»)))))
+      (bits-long (i .burst) (i .bitmap) (s .«last_burst» .n) (length (sentIn (s .«last_burst»))))
+      ∙ counted-first p h (longAck (i .burst) (i .bitmap)) (r .stored) (longDb p i) (h .time) (withLink (withGear s (withClass (s .gear) (i .report .class))) noted) a)
 
 -- ---- those that are not
 

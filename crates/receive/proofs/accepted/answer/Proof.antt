@@ -49,7 +49,7 @@ enum-known-r-4 : tie.Need-enum-known-r-4
 enum-known-r-4 c = search needs
 
 hear-turn-requires : tie.Need-hear-turn-requires
-hear-turn-requires c κs = let s = c .before .before .before .before .before in (s .pre .0, (s .pre .1 .level, omega (arith, s .pre .1 .settling .out)))
+hear-turn-requires c κs = let s = c .before .before .before .before .before in (s .pre .0, (s .pre .1 .0 .level, omega (arith, s .pre .1 .0 .settling .out)))
 
 returns : tie.Need-returns
 returns c = let s = c .before .before .before .before .before .before in ap (λ (q : Sender). (q, now (s .args .a))) (c .hear-connect .ensures) ∙ sym (ap (reply s) (c .before .before .r .given .1))
@@ -70,7 +70,7 @@ returns-4 : tie.Need-returns-4
 returns-4 c =
     let s = c .before .before .before .before .before .before in
     ap (λ (q : Sender). (q, now (s .args .a))) (c .hear-turn .ensures)
-    ∙ turned-is (s .args .p) (s .args .s) (now (s .args .a)) (s .pre .1) (arrays s) (λ k. c .before .before .before .before .before .slice-known .given k .fits) (s .args .h) _
+    ∙ turned-is (s .args .p) (s .args .s) (now (s .args .a)) (s .pre .1 .0) (arrays s) (λ k. c .before .before .before .before .before .slice-known .given k .fits) (s .args .h) _
     ∙ sym (ap (reply s) (c .before .before .r4 .given .1))
 
 pub answer-spec : {M : Type 1} → statement M

@@ -31,22 +31,30 @@ returns c = short-unasked _ _ _ _ _ _ (c .before .before .note .ensures) (not-tr
 with-class-requires : tie.Need-with-class-requires
 with-class-requires c κs = search needs
 
+ack-airtime-requires : tie.Need-ack-airtime-requires
+ack-airtime-requires c κs = c .before .before .before .before .before .before .pre .1 .1
+
 bits-for-requires : tie.Need-bits-for-requires
 bits-for-requires c κs = search needs
 
 ack-in-requires : tie.Need-ack-in-requires
 ack-in-requires c κs =
-    let s = c .before .before .before .before .before .before .before .before in
-    (s .pre .0, (omega (arith, ap (λ (x : Gear). x .level) (c .before .before .before .with-class .ensures), s .pre .1 .level), settling _ _ _ (s .pre .1) (arrays s) (λ k. c .before .before .before .before .before .before .before .slice-known .given k .fits) _ _))
+    let s = c .before .before .before .before .before .before .before .before .before .before in
+    let known = c .before .before .before .before .before .before .before .before .before .slice-known in
+    let gear = c .before .before .before .before .before .with-class .ensures in
+    (s .pre .0, (omega (arith, ap (λ (x : Gear). x .level) gear, s .pre .1 .0 .level), settling _ _ _ (s .pre .1 .0) (arrays s) (λ k. known .given k .fits) _ _ _))
 
 same-length : tie.Need-same-length
 same-length c = search needs
 
 returns-2 : tie.Need-returns-2
 returns-2 c =
-    let s = c .before .before .before .before .before .before .before .before .before .before .before in
-    short-awaited _ (s .args .s) (now (s .args .a)) (s .pre .1) (arrays s) (λ k. c .before .before .before .before .before .before .before .before .before .before .slice-known .given k .fits) _ _ _ _ _ _ _ (c .before .before .before .before .before .before .with-class .ensures) (c .before .before .before .before .before .before .before .before .before .note .ensures) (c .before .before .before .bits-for .ensures)
-    (c .before .before .ack-in .ensures) (not-false _ (c .before .before .before .before .before .before .before .if1 .left))
+    let asked = c .before .before .before .before .before .before .before .before .before in
+    let s = asked .before .before .before .before in
+    let known = asked .before .before .before .slice-known in
+    short-awaited _ (s .args .s) (now (s .args .a)) (s .pre .1 .0) (arrays s) (λ k. known .given k .fits) _ _ _ _ _ _ _ _
+    (c .before .before .before .before .before .before .before .before .with-class .ensures) (asked .before .before .note .ensures) (c .before .before .before .before .before .before .ack-airtime .ensures) (c .before .before .before .bits-for .ensures)
+    (c .before .before .ack-in .ensures) (not-false _ (asked .if1 .left))
 
 pub hear-short-spec : {M : Type 1} → statement M
 hear-short-spec =
@@ -55,6 +63,7 @@ hear-short-spec =
     note-requires
     returns
     with-class-requires
+    ack-airtime-requires
     bits-for-requires
     ack-in-requires
     same-length
