@@ -57,7 +57,7 @@ module _ (p : Profile) (t : Station) (a : List ℕ) where
   abbrev s : Sender
   s = t .sender
 
-  stands-on : passed (standing p t a false) ≡ true → s .link .connected ≡ true
+  pub stands-on : passed (standing p t a false) ≡ true → s .link .connected ≡ true
   unfolding standing
   stands-on e = in-turn (inRange p) (inOrder p) (stationOk p t a) (s .link .connected) false e
 

@@ -16,7 +16,7 @@ use Rattle.report.specs.declared.ack.AckRead.the-variants.{TooShort, Info}
 use Rattle.config.specs.declared.Profile.{Profile}
 use Rattle.ledger.specs.Ledger as L
 use Rattle.ledger.specs.Ledger.{hearAck, settleBurst, clearBurst, settles}
-use Rattle.ledger.specs.Reply.{longAck}
+use Rattle.ledger.specs.Reply.{Reply}
 use Rattle.record.specs.View.{view, store, storeLink}
 use Rattle.record.specs.declared.Link.{Link}
 use Rattle.record.specs.declared.Sender.{Sender}
@@ -29,7 +29,7 @@ use Rattle.receive.specs.Accepted.{longRead}
 use Rattle.reception.specs.Reception.{Decoded, isRead, flagsOf, framesHeard}
 use Rattle.reception.specs.ReceptionCode.{readNoted}
 
-abbrev State : Type 0
+abbrev pub State : Type 0
 State = Sender × List ℕ
 
 pub read-long : (f : Decoded) → isRead f ≡ true → 13 ≤ length (f .payload)
@@ -39,16 +39,19 @@ pub read-info : (b : List ℕ) → 13 ≤ length b → ackOf b ≡ Info (infoOf 
 unfolding ackOf
 read-info b h = rw (le-ltb (length b) 13 h) refl
 
+-- an ack leaves none awaited
+ack-ends : (top : ℕ) (r : Reply) (keep : Bool) (l : L.Sender) → hearAck top r keep l .awaited ≡ false
+unfolding hearAck settleBurst clearBurst
+ack-ends top r keep l =
+    by (λ (x : L.Sender). x .awaited ≡ false) (l .awaited) (λ _. either (λ (x : L.Sender). x .awaited ≡ false) (settles r l) _ _ refl refl) (λ e. e)
+
 module _ (p : Profile) (h : Heard) where
-  -- an ack leaves none awaited
   long-ends : (r : LongAck) (i : AckInfo) (s : Sender) (a : List ℕ) → longAcked p h r i s a .0 .link .awaiting ≡ false
-  unfolding longAcked ackIn store storeLink hearAck settleBurst clearBurst view
-  long-ends r i s a =
-      by (λ (x : State). x .0 .link .awaiting ≡ false) (s .link .awaiting)
-      (λ e. rw e (either (λ (l : L.Sender). l .awaited ≡ false) (settles (longAck (i .burst) (i .bitmap)) _) _ _ refl refl)) (λ e. e)
+  unfolding longAcked ackIn store storeLink
+  long-ends r i s a = by (λ (x : State). x .0 .link .awaiting ≡ false) (s .link .awaiting) (λ e. ack-ends _ _ _ _) (λ e. e)
 
   -- one that is not awaited changes the link alone
-  long-quiet : (r : LongAck) (x : AckRead) (s : Sender) (a : List ℕ) → s .link .awaiting ≡ false
+  pub long-quiet : (r : LongAck) (x : AckRead) (s : Sender) (a : List ℕ) → s .link .awaiting ≡ false
       → longRead p h r x s a ≡ (withLink s (readNoted (s .link) (h .time) r x), a)
   unfolding longAcked
   long-quiet r TooShort s a e = refl
@@ -60,7 +63,7 @@ module _ (p : Profile) (h : Heard) where
       subst (λ (x : AckRead). longRead p h (flagsOf (f .flags)) x s a .0 .link .awaiting ≡ false) (sym (read-info (f .payload) (read-long f e)))
       (long-ends (flagsOf (f .flags)) (infoOf (f .payload)) s a)
 
-  noted-quiet : (k : Link) (r : LongAck) (x : AckRead) → readNoted k (h .time) r x .awaiting ≡ k .awaiting
+  pub noted-quiet : (k : Link) (r : LongAck) (x : AckRead) → readNoted k (h .time) r x .awaiting ≡ k .awaiting
   noted-quiet k r TooShort = refl
   noted-quiet k r (Info i) = refl
 

@@ -1,4 +1,5 @@
 // All frames of one reception, once accepted: the loop at the end of sender_rx (sender.rs; document 02, Change 7).
+use byte_copy::least;
 use config::Profile;
 use receive::accepted::hear_payload;
 use receive::acks::note;
@@ -10,7 +11,7 @@ use replies::LongAck;
 use report::ack::AckInfo;
 use report::ack::AckRead;
 ghost use mathlib.Core.Path.{_≡_};
-ghost use Prim.Native.Nat.{_≤_, min};
+ghost use Prim.Native.Nat.{_≤_};
 ghost use Rattle.report.specs.Ack.{ackOf};
 ghost use Rattle.config.specs.Ranged.{Ranged};
 ghost use Rattle.refusals.specs.Refusals.{maxReceived};
@@ -41,14 +42,10 @@ fn flags_of(f: u8) -> LongAck
     }
 }
 
-// The bytes of a payload: as many as its length says, or what is left.
-fn span(len: u32, left: usize) -> usize
-    ensures { λ r. ⌜ r ≡ min len left ⌝ }
+fn wide(x: u32) -> usize
+    ensures { λ r. ⌜ r ≡ x ⌝ }
 {
-    if (len as usize) < left {
-        return len as usize;
-    }
-    left
+    x as usize
 }
 
 // A long ack that is not awaited.
@@ -80,7 +77,8 @@ pub fn hear_frames(
     let mut at = 0;
     let mut i = 0;
     while i < n {
-        let k = span(r.len[i], payloads.len() - at);
+        let l = wide(r.len[i]);
+        let k = least(l, &payloads[at..]);
         let f = flags_of(r.flags[i]);
         if (r.kind[i] == 4) & (13 <= k) {
             if q.link.awaiting {
