@@ -180,7 +180,9 @@ struct vanitycrow_counts {
     uint32_t flying;      /* bytes */
     size_t pieces;        /* flying */
     uint32_t bytes_acked;
-    uint64_t airtime_ms;  /* stays at 2^64 - 1 once there */
+    /* Bursts with a frame, their cues, and the acks that came while one was awaited, by ack_s of the wave that they bear: each in
+     * milliseconds, rounded up by itself. Stays at 2^64 - 1 once there. */
+    uint64_t airtime_ms;
 };
 
 /* The n held pieces, by offset, with the bits held; the last `rest` of them are unsent. */

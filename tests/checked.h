@@ -198,6 +198,14 @@ static void queue_call(struct run *r, struct vanitycrow_message m, size_t n) {
     after(r, QUEUE, answer, expected, 0);
 }
 
+/* A time on the air, in whole milliseconds by itself. */
+static void count_air(struct run *r, double seconds) { r->airtime_ms += (uint64_t)ceil(seconds * 1000); }
+
+/* An ack that came: its time counts where a burst is outstanding. */
+static void ack_on_air(struct run *r, struct vanitycrow_heard h) {
+    if (r->t.outstanding) count_air(r, r->p->air.ack_s[h.wave]);
+}
+
 static void short_call(struct run *r, uint32_t wild) {
     struct vanitycrow_heard h = far_heard(&r->far, r->now, r->last, wild);
     struct vanitycrow_ack a = far_short(&r->far, wild);
@@ -207,6 +215,7 @@ static void short_call(struct run *r, uint32_t wild) {
     list_short(r->list, h, a, answer);
     if (!answer) {
         judge_ack(&r->judged, &r->t, h.time);
+        ack_on_air(r, h);
         tally_short(&r->t, a);
         r->last = h.time;
     }
@@ -230,6 +239,7 @@ static void long_call(struct run *r, uint32_t wild) {
     give_back(&payload);
     if (!answer) {
         judge_ack(&r->judged, &r->t, h.time);
+        ack_on_air(r, h);
         tally_long(&r->t, bytes);
         r->last = h.time;
     }
@@ -252,13 +262,15 @@ static void turn_call(struct run *r, uint32_t wild) {
     after(r, TURN, answer, expected, 0);
 }
 
-/* The seconds of a burst without its cue; the clock moves by them, the cue and the turnaround, and the milliseconds are counted. */
+/* The seconds of a burst and of its cue; the clock moves by them and the turnaround. Where a frame goes, the milliseconds of both are counted. */
 static void on_air(struct run *r, const struct vanitycrow_outgoing *o) {
     uint64_t bits = 0;
     for (size_t i = 0; i < o->frames.n; i++) bits += o->frames.bits[i];
     double s = r->p->air.pre_s[o->code] + (double)bits / r->p->air.rate[o->code];
-    if (o->frames.n) r->airtime_ms += (uint64_t)ceil(s * 1000);
-    r->now += s + (o->cue ? r->p->air.cue_s : 0) + r->p->lengths.turnaround_s;
+    double cue = o->cue ? r->p->air.cue_s : 0;
+    if (o->frames.n) count_air(r, s);
+    if (o->frames.n) count_air(r, cue);
+    r->now += s + cue + r->p->lengths.turnaround_s;
     if (r->now > 1000000000) r->now = 1000000000;
 }
 

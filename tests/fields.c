@@ -1003,6 +1003,82 @@ static void burst_lengths(void) {
     given = usual_arguments();
 }
 
+/* ---- the time on the air: document 02, Change 4 */
+
+/* A call on a copy that is accepted, and its count before and after. */
+static void air_check(const char *what, enum call c, uint64_t before, uint64_t after) {
+    memcpy(&tried, &subject, sizeof tried);
+    tried.record.sender.counts.airtime_ms = before;
+    uint8_t refusal = make_call(c, &tried, &given);
+    uint64_t got = tried.record.sender.counts.airtime_ms;
+    checks++;
+    if (!refusal && got == after) return;
+    printf("fields: %s: %s, answered by %u, leaves %llu ms on the air, not %llu\n", what, call_names[c], (unsigned)refusal,
+        (unsigned long long)got, (unsigned long long)after);
+    failures++;
+}
+
+/* It adds so many milliseconds: from nothing, up to just below 2^64 - 1, up to it, beyond it, and there. */
+static void air_adds(const char *what, enum call c, uint64_t ms) {
+    air_check(what, c, 0, ms);
+    air_check(what, c, UINT64_MAX - 1 - ms, UINT64_MAX - 1);
+    air_check(what, c, UINT64_MAX - ms, UINT64_MAX);
+    if (ms) air_check(what, c, UINT64_MAX + 1 - ms, UINT64_MAX);
+    air_check(what, c, UINT64_MAX, UINT64_MAX);
+}
+
+/* Acks in this wave take so long, those in all others 7 s. */
+static void air_of_acks(uint8_t wave, double seconds, uint64_t ms) {
+    for (uint8_t w = 0; w < VANITYCROW_WAVES; w++) subject.p.air.ack_s[w] = w == wave ? seconds : 7;
+    struct vanitycrow_sender *s = &subject.record.sender;
+    given.h.wave = wave;
+    for (int awaited = 0; awaited < 2; awaited++) {
+        s->link.awaiting = awaited;
+        for (given.ack.burst = 0; given.ack.burst < 4; given.ack.burst++) air_adds("an ack", SHORT_ACK, awaited ? ms : 0);
+        air_adds("an ack", LONG_ACK, awaited ? ms : 0);
+        air_adds("a turn", TURN, 0);
+    }
+}
+
+static void acks_on_air(void) {
+    const double after = nextafter(.001, 1);
+    const struct { double s; uint64_t ms; } times[] = {{0, 0}, {-0.0, 0}, {0x1p-1074, 1}, {.0005, 1}, {.001, 1}, {after, 2}, {60, 60000}};
+    for (int frames = 0; frames < 2; frames++)
+        for (uint8_t w = 0; w < VANITYCROW_WAVES; w++)
+            for (size_t i = 0; i < COUNT(times); i++) {
+                memcpy(&subject, &flown_one, sizeof subject);
+                if (!frames) subject.record.sender.last_burst.n = 0;
+                air_of_acks(w, times[i].s, times[i].ms);
+            }
+    given = usual_arguments();
+}
+
+/* One frame of 0.5 ms, and a cue of 0.5 ms where one was agreed. */
+static void bursts_on_air(void) {
+    for (int cue = 0; cue < 2; cue++)
+        for (int frames = 0; frames < 2; frames++) {
+            memcpy(&subject, &fresh_one, sizeof subject);
+            struct vanitycrow_air *air = &subject.p.air;
+            air->slot_bits[16] = air->max_bits[16] = 1;
+            air->pre_s[16] = 0;
+            air->rate[16] = 2000;
+            air->cue_s = .0005;
+            given.connect.snr_db = 3;
+            given.connect.cue = cue;
+            given.bytes_len = (size_t)frames;
+            uint8_t wrong = make_call(CONNECT, &subject, &given) | make_call(QUEUE, &subject, &given);
+            subject.record.sender.gear.level = 16;
+            memcpy(&tried, &subject, sizeof tried);
+            struct vanitycrow_burst b = vanitycrow_data_burst(&tried.p, &tried.record, tried.area, given.area_len, tried.out, given.out_len);
+            if (wrong || b.outgoing.cue != cue || b.outgoing.frames.n != (size_t)frames) {
+                printf("fields: another burst than of %d frames, cue %d\n", frames, cue);
+                failures++;
+            }
+            air_adds("a burst", BURST, frames ? 1 + (uint64_t)cue : 0);
+        }
+    given = usual_arguments();
+}
+
 /* Every pair of a lowest and a highest report. */
 static void level_ranges(void) {
     memcpy(&subject, &fresh_one, sizeof subject);
@@ -1131,6 +1207,8 @@ int main(void) {
     queue_label_values();
     output_lengths();
     burst_lengths();
+    acks_on_air();
+    bursts_on_air();
     level_ranges();
     order_of_refusals();
     order_of_queue_refusals();

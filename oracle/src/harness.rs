@@ -4,7 +4,7 @@ use crate::active::{self, Numbers};
 use crate::levels;
 use crate::link::frame::{AckInfo, Frame, Kind, Tiny, caps, flags};
 use crate::link::report::ChanClass;
-use crate::link::station::{Awaiting, Station, wave_rank};
+use crate::link::station::{Awaiting, Station, TINY, wave_of_rank, wave_rank};
 use crate::list::{AREA_MOST, Call, OUT_MOST};
 use crate::messages::{CLASS_MOST, MESSAGES_MOST, Messages};
 use crate::profile::{FRAME_BYTES, Profile};
@@ -217,6 +217,10 @@ impl Harness {
             return Answer::Refused(number);
         }
         active::set(&self.numbers, self.station.level);
+        // Whether an ack is awaited, the original says before it hears the reply.
+        if let (Call::Short { wave, .. } | Call::Long { wave, .. }, true) = (call, self.awaiting()) {
+            self.on_air(self.station.air.duration(wave_of_rank(*wave as usize), TINY, 0));
+        }
         let s = &mut self.station;
         match *call {
             Call::Connect {
@@ -359,9 +363,11 @@ impl Harness {
             .collect();
         if !frames.is_empty() {
             let bits = frames.iter().map(|f| f.bits).sum();
-            self.airtime_ms = self
-                .airtime_ms
-                .saturating_add(airtime_ms(s.air.duration(out.wave, out.code, bits)));
+            let seconds = s.air.duration(out.wave, out.code, bits);
+            self.on_air(seconds);
+            if out.cue {
+                self.on_air(self.numbers.cue_s);
+            }
         }
         Burst {
             wave: wave_rank(out.wave),
@@ -373,9 +379,9 @@ impl Harness {
             frames,
         }
     }
-}
 
-/// A duration in whole milliseconds: times 1,000 rounded once, then up.
-fn airtime_ms(seconds: f64) -> u64 {
-    (seconds * 1000.0).ceil() as u64
+    /// A burst, a cue or an ack of so many seconds, in whole milliseconds by itself: times 1,000 rounded once, then up.
+    fn on_air(&mut self, seconds: f64) {
+        self.airtime_ms = self.airtime_ms.saturating_add((seconds * 1000.0).ceil() as u64);
+    }
 }

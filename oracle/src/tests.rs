@@ -728,6 +728,88 @@ fn airtime_in_milliseconds() {
     assert_eq!(h.airtime_ms, u64::MAX);
 }
 
+/// A connected sender whose bursts at level 16 take 0.5 ms, and so does a cue where one was agreed; an ack in a wave of rank W takes W + 0.5 ms.
+fn half_milliseconds(cue: bool) -> Harness {
+    let mut p = Profile::usual();
+    p.values[16] = vec![Value::Whole(1), Value::F64(0.0), Value::F64(2000.0), Value::Whole(1)];
+    p.values[ACK_S] = (0..6).map(|w| Value::F64((w as f64 + 0.5) / 1000.0)).collect();
+    p.values[CUE_S] = vec![Value::F64(0.0005)];
+    p.values[DBS][2] = Value::F32(100.0);
+    p.values[ON][on::CUE] = Value::Flag(cue);
+    let mut h = Harness::new(p);
+    assert_eq!(number(&mut h, connect(0.0, 30.0)), 0);
+    h
+}
+
+/// What a burst adds, and its number.
+fn burst_adds(h: &mut Harness, cue: bool, frames: usize) -> (u64, u64) {
+    let before = h.airtime_ms;
+    let Answer::Burst(b) = h.call(&Call::Burst) else {
+        panic!()
+    };
+    assert_eq!((b.code, b.cue, b.frames.len()), (16, cue, frames));
+    (h.airtime_ms - before, b.number() as u64)
+}
+
+#[test]
+fn airtime_of_cues() {
+    for cue in [false, true] {
+        let mut h = half_milliseconds(cue);
+        assert_eq!(burst_adds(&mut h, cue, 0).0, 0);
+        h.call(&Call::queue(vec![1; 3]));
+        let adds = 1 + cue as u64;
+        assert_eq!(burst_adds(&mut h, cue, 1).0, adds);
+        for left in 0..4u64 {
+            h.airtime_ms = u64::MAX - left;
+            h.call(&Call::Burst);
+            assert_eq!(u64::MAX - h.airtime_ms, left.saturating_sub(adds));
+        }
+    }
+}
+
+#[test]
+fn airtime_of_acks() {
+    let short_in = |w, burst, bitmap| {
+        let mut call = short(1.0, burst, bitmap);
+        if let Call::Short { wave, .. } = &mut call {
+            *wave = w;
+        }
+        call
+    };
+    for frames in [0, 1] {
+        for w in 0..6 {
+            for last in 0..5 {
+                let mut h = half_milliseconds(true);
+                h.call(&Call::queue(vec![1; 3 * frames]));
+                let (_, burst) = burst_adds(&mut h, true, frames);
+                let before = h.airtime_ms;
+                let ack = || if last < 4 { short_in(w, last, 1) } else { long(1.0, w, 13) };
+                assert_eq!(number(&mut h, turn(-1.0, w, 0.0, None)), 5);
+                assert_eq!(number(&mut h, short_in(w, burst, 64)), 6);
+                assert_eq!(number(&mut h, long(1.0, 6, 13)), 6);
+                assert_eq!(number(&mut h, long(1.0, w, 12)), 7);
+                assert_eq!(h.airtime_ms, before);
+                // The first is awaited, the second is not.
+                for _ in 0..2 {
+                    assert_eq!(number(&mut h, ack()), 0);
+                    assert_eq!(h.airtime_ms, before + w + 1);
+                }
+            }
+        }
+    }
+    let mut h = half_milliseconds(true);
+    burst_adds(&mut h, true, 0);
+    assert_eq!(number(&mut h, turn(1.0, 5, 0.0, None)), 0);
+    assert_eq!(number(&mut h, short_in(5, 0, 1)), 0);
+    assert_eq!(h.airtime_ms, 0);
+    for left in [7, 6, 5, 0u64] {
+        burst_adds(&mut h, true, 0);
+        h.airtime_ms = u64::MAX - left;
+        assert_eq!(number(&mut h, long(1.0, 5, 13)), 0);
+        assert_eq!(u64::MAX - h.airtime_ms, left.saturating_sub(6));
+    }
+}
+
 #[test]
 fn lists_come_back_from_their_text() {
     for (index, kind) in generate::KINDS.into_iter().filter(|&kind| kind != "lines").enumerate() {

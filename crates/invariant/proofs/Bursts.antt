@@ -25,7 +25,7 @@ use Rattle.outgoing.specs.Outgoing.{after, countedAir}
 use Rattle.outgoing.proofs.Choices.{choice-ranged, choice-long}
 use Rattle.soundness.proofs.fields.Sound.{profile-sizes, sound-level, sound-settling}
 use Rattle.invariant.proofs.Ledgers.{Kept, PieceBytes, bytes-append, bytes-of}
-use Rattle.invariant.proofs.Well.{Well, well-gear, well-kept, stored-well}
+use Rattle.invariant.proofs.Well.{Well, well-gear, well-kept, stored-well, airtime-well}
 use Rattle.ledger.specs.Sizes.{Sizes}
 use Rattle.ledger.specs.SizesCode.{SizeRange}
 use Rattle.replies.specs.RepliesCode.{ReplyReady}
@@ -55,19 +55,6 @@ burst-kept z zr l g fit k =
 -- ---- the record
 
 module _ (p : Profile) where
-  -- the airtime alone is other: no test reads it
-  airtime-well : (s : Sender) (a : List ℕ) (q : Sender) (b : List ℕ) → Well p q b → Well p (countedAir p s a q) b
-  unfolding view
-  airtime-well s a q b w =
-      let so = w .sound in
-      let ar = w .arrays in
-      record {
-        sound = record { area = so .area; held = so .held; rest = so .rest; sent = so .sent; pieces = so .pieces; flying = so .flying; ledger = so .ledger; gear = so .gear; link = so .link };
-        arrays = record { heldOff = ar .heldOff; heldBits = ar .heldBits; sentOff = ar .sentOff; sentBits = ar .sentBits; sentHeld = ar .sentHeld };
-        bytes = w .bytes;
-        typed = w .typed;
-      }
-
   -- the plan that the record's gear makes
   pub choice-fits : Ranged p → (s : Sender) (a : List ℕ) → Well p s a → length (p .codes .ends) ≤ 6 → Fits (sizesOf p) (view s a) (planOf (sizesOf p) (choice p s) (view s a))
   choice-fits rg s a w six = planned-fits (sizesOf p) (choice p s) (view s a) (w .sound .ledger) (choice-ranged p rg s (sound-level p s a (w .sound)) six)
@@ -77,7 +64,7 @@ module _ (p : Profile) where
   bursted-well rg io s a w six =
       let zr = profile-sizes p rg io in
       let k = burst-kept (sizesOf p) zr (view s a) (planOf (sizesOf p) (choice p s) (view s a)) (choice-fits rg s a w six) (well-kept p s a w) in
-      airtime-well s a _ _ (stored-well p zr (after p s a) s a (s .gear) (s .link) w k (well-gear p s a w) (w .sound .link))
+      airtime-well p _ _ _ (stored-well p zr (after p s a) s a (s .gear) (s .link) w k (well-gear p s a w) (w .sound .link))
 
   -- two frames or more, or parity, keep the allowance of the record's choice
   pub choice-keeps-air : Ranged p → (s : Sender) (a : List ℕ) → Well p s a → length (p .codes .ends) ≤ 6 → KeepsAir (sizesOf p) (choice p s) (view s a)

@@ -42,7 +42,7 @@ use Rattle.invariant.specs.Invariant.{AckIn, LongAckIn, TurnIn, ConnAckI
 use Rattle.invariant.proofs.Gears.{class-well, ack-gear-well, connected-gear-well, turn-gear-well}
 use Rattle.invariant.proofs.Outcomes.{outcome-counts}
 use Rattle.invariant.proofs.Ledgers.{on-ack-kept, clear-kept, queue-kept}
-use Rattle.invariant.proofs.Well.{Well, well-gear, well-kept, given-well, stored-well}
+use Rattle.invariant.proofs.Well.{Well, well-gear, well-kept, given-well, stored-well, airtime-well}
 use Rattle.limits.specs.Limits.{maxNumber, maxWaiting, maxTaken}
 use Rattle.ledger.specs.SizesCode.{SizeRange}
 use Rattle.soundness.specs.SoundnessCode.{SoundLink}
@@ -84,9 +84,9 @@ module _ (p : Profile) (rg : Ranged p) (io : inOrder p ≡ true) where
       let q = w .sound .link in
       let k = noted-sound (s .link) (h .time) (r .«want_turn») (r .«want_disc») (r .burst) (i .time) (i .burst) q in
       either (WellBoth p) (s .link .awaiting) _ _
-      (ack-well (shortAck (r .burst) (r .bitmap)) (r .stored) (r .«snr_db») (h .time) _ a (i .db) (i .time)
+      (airtime-well p _ _ _ (ack-well (shortAck (r .burst) (r .bitmap)) (r .stored) (r .«snr_db») (h .time) _ a (i .db) (i .time)
       (given-well p s a _ _ w (class-well (s .gear) (r .class) (well-gear p s a w))
-      (record { time = k .time; number = k .number; heard = k .heard; notBelow = q .notBelow; notAbove = q .notAbove })))
+      (record { time = k .time; number = k .number; heard = k .heard; notBelow = q .notBelow; notAbove = q .notAbove }))))
       (given-well p s a (s .gear) _ w (well-gear p s a w) k)
 
   pub long-well : (h : Heard) (r : LongAck) (i : AckInfo) (s : Sender) (a : List ℕ) → LongAckIn p h i → Well p s a → WellBoth p (longAcked p h r i s a)
@@ -94,9 +94,9 @@ module _ (p : Profile) (rg : Ranged p) (io : inOrder p ≡ true) where
   long-well h r i s a j w =
       let k = noted-sound (s .link) (h .time) (r .«want_turn») (r .«want_disc») (i .burst) (j .time) (j .burst) (w .sound .link) in
       either (WellBoth p) (s .link .awaiting) _ _
-      (ack-well (longAck (i .burst) (i .bitmap)) (r .stored) (longDb p i) (h .time) _ a (j .db) (j .time)
+      (airtime-well p _ _ _ (ack-well (longAck (i .burst) (i .bitmap)) (r .stored) (longDb p i) (h .time) _ a (j .db) (j .time)
       (given-well p s a _ _ w (class-well (s .gear) (i .report .class) (well-gear p s a w))
-      (record { time = k .time; number = k .number; heard = k .heard; notBelow = j .notBelow; notAbove = j .notAbove })))
+      (record { time = k .time; number = k .number; heard = k .heard; notBelow = j .notBelow; notAbove = j .notAbove }))))
       (given-well p s a (s .gear) _ w (well-gear p s a w) k)
 
   -- ---- turn, connect answer and queuing

@@ -21,6 +21,7 @@ use Rattle.ledger.proofs.Stream.{length-bytesOf}
 use Rattle.area.specs.Layout.{areaBytes}
 use Rattle.area.specs.Table.{rowsFrom, total}
 use Rattle.pieces.specs.Pieces.{piecesOf}
+use Rattle.record.specs.Airtime.{withAir}
 use Rattle.record.specs.Fresh.{fresh}
 use Rattle.record.specs.Profiles.{sizesOf}
 use Rattle.record.specs.View.{view, storeArea, storeCounts, storeHeld, storeSent, storeLink, store}
@@ -136,6 +137,19 @@ module _ (p : Profile) where
   pub stored-well : SizeRange (sizesOf p) → (l : L.Sender) (s : Sender) (a : List ℕ) (g : Gear) (k : Link) → Well p s a → Kept (sizesOf p) l → WellGear g → SoundLink k
       → Well p (store l (withLink (withGear s g) k)) (storeArea l a)
   stored-well zr l s a g k w kept gw kw = stored zr l kept (withLink (withGear s g) k) a (given-arrays s g k (w .arrays)) (w .bytes) (w .sound .area) gw kw
+
+  -- another airtime: no test reads it
+  pub airtime-well : (s : Sender) (a : List ℕ) (ms : ℕ) → Well p s a → Well p (withAir s ms) a
+  unfolding view
+  airtime-well s a ms w =
+      let so = w .sound in
+      let ar = w .arrays in
+      record {
+        sound = record { area = so .area; held = so .held; rest = so .rest; sent = so .sent; pieces = so .pieces; flying = so .flying; ledger = so .ledger; gear = so .gear; link = so .link };
+        arrays = record { heldOff = ar .heldOff; heldBits = ar .heldBits; sentOff = ar .sentOff; sentBits = ar .sentBits; sentHeld = ar .sentHeld };
+        bytes = w .bytes;
+        typed = w .typed;
+      }
 
   -- a fresh record
   pub fresh-well : (a : List ℕ) → Bytes a → areaBytes ≤ length a → Well p fresh a

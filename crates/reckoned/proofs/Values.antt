@@ -2,15 +2,18 @@
 -- together with its code would still agree with the code, but not with these. P1 to P12 are in Table.antt.
 -- Assumes nothing.
 use mathlib.Core.Path.{_≡_, refl}
-use mathlib.Core.Bool.{true, false}
-use Prim.Native.Nat.{ℕ}
-use lib.Ieee.{Float, binary32, binary64, ofBits, ofInt, le, lt, neg}
+use mathlib.Core.Bool.{Bool, true, false}
+use Prim.Native.Nat.{ℕ, _-_, _^_}
+use lib.Ieee.{Float, binary32, binary64, ofBits, ofInt, le, lt, neg, mul}
 use Rattle.ieee.specs.Range.{inside}
 use Rattle.limits.specs.Limits.{partialMax}
 use Rattle.harq.specs.Held.{hMax, partialField, checkBits}
+use Rattle.float.specs.Floor.{ceilU}
+use Rattle.config.specs.Durations.{durationAt}
 use Rattle.config.specs.declared.Profile.{Profile}
 use Rattle.gear.specs.declared.Gear.{Gear}
 use Rattle.record.specs.declared.Link.{Link}
+use Rattle.record.specs.Airtime.{airAdded}
 use Rattle.record.specs.Fresh.{freshLink}
 use Rattle.outgoing.specs.declared.Frames.{Frames}
 use Rattle.outgoing.specs.Outgoing.{headed, tdEaseHz, airtimeOf}
@@ -30,6 +33,10 @@ five = at 0x4014_0000_0000_0000
 
 abbrev never : Float
 never = at 0xfff0_0000_0000_0000
+
+-- half a millisecond
+abbrev half : Float
+half = at 0x3f40_624d_d2f1_a9fc
 
 pub record Values : Type 0 where
   -- "The partial field is 0 where parity = stored, else min(parity, 62) + 1"; the plan of a burst pops increments down to the same limit
@@ -52,13 +59,22 @@ pub record Values : Type 0 where
   pub ease : (p : Profile) (g : Gear) (k : Link) (parity stored number : ℕ) (f : Frames) →
       (k .«peer_doppler_hz» ≡ db 0x3fe0_0000 → headed p g k parity stored number f .«td_ease» ≡ false)
       × (k .«peer_doppler_hz» ≡ db 0x4000_0000 → headed p g k parity stored number f .«td_ease» ≡ true)
-  -- "for each burst with a frame, its duration": one without adds nothing
-  pub airtime : (p : Profile) (level ms bits : ℕ) → airtimeOf p level ms 0 bits ≡ ms
+  -- "for each burst with a frame, its duration"; "the cue where a burst with a frame has one": a burst without adds nothing, behind a cue or not
+  pub airtime : (p : Profile) (level ms bits : ℕ) (cued : Bool) → airtimeOf p level cued ms 0 bits ≡ ms
+  -- "Each is rounded up to a millisecond separately": a burst of 0.0005 s is 1 ms, and with a cue of 0.0005 s it is 2
+  pub rounded : (p : Profile) (level bits : ℕ) → durationAt (p .air) level bits ≡ half → p .air .«cue_s» ≡ half →
+      (airtimeOf p level false 0 1 bits ≡ 1) × (airtimeOf p level true 0 1 bits ≡ 2)
+  -- 1 ms, the float above it, and no seconds
+  pub millisecond : (airAdded 7 (at 0x3f50_624d_d2f1_a9fc) ≡ 8) × (airAdded 7 (at 0x3f50_624d_d2f1_a9fd) ≡ 9) × (airAdded 7 (at 0) ≡ 7)
+      × (airAdded 7 (at 0x8000_0000_0000_0000) ≡ 7)
+  -- "The sum still stays at 2^64 - 1 once there": from below, up to it, beyond it, and there
+  pub most : (airAdded (2 ^ 64 - 3) half ≡ 2 ^ 64 - 2) × (airAdded (2 ^ 64 - 2) half ≡ 2 ^ 64 - 1)
+      × (airAdded (2 ^ 64 - 2) (at 0x404e_0000_0000_0000) ≡ 2 ^ 64 - 1) × (airAdded (2 ^ 64 - 1) half ≡ 2 ^ 64 - 1)
   -- call lists: "Before the connect .. PEER_WAVE 1" (`Station::new`)
   pub wave : freshLink .«peer_wave» ≡ 1
 
 pub values : Values
-unfolding partialField checkBits reportOk timeOk inside headed airtimeOf ofBits ofInt le lt neg
+unfolding partialField checkBits reportOk timeOk inside headed airtimeOf ceilU mul ofBits ofInt le lt neg
 values =
     record {
       partial = (refl, refl, refl, refl);
@@ -72,6 +88,9 @@ values =
       timeLeast = (refl, refl);
       timeMost = (refl, refl);
       ease = λ p g k parity stored number f. (λ e. rw e, λ e. rw e);
-      airtime = λ p level ms bits. refl;
+      airtime = λ p level ms bits cued. refl;
+      rounded = λ p level bits d c. (rw d refl, rw (d, c) refl);
+      millisecond = (refl, refl, refl, refl);
+      most = (refl, refl, refl, refl);
       wave = refl;
     }

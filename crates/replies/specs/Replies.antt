@@ -45,8 +45,7 @@ unfoldable pub shortAcked : Profile → Heard → Ack → Sender → List ℕ �
 shortAcked p h r s a =
     let k = ackNoted (s .link) (h .time) (r .«want_turn») (r .«want_disc») (r .burst) in
     cond (s .link .awaiting)
-    (countedAck p h
-    (ackIn p (shortAck (r .burst) (r .bitmap)) (r .stored) (r .«snr_db») (h .time)
+    (countedAck p h (ackIn p (shortAck (r .burst) (r .bitmap)) (r .stored) (r .«snr_db») (h .time)
     (withLink (withGear s (withClass (s .gear) (r .class))) (withPath k (r .slot) (s .link .«peer_doppler_hz»))) a))
     (withLink s k, a)
 
@@ -58,8 +57,7 @@ unfoldable pub longAcked : Profile → Heard → LongAck → AckInfo → Sender 
 longAcked p h r i s a =
     let k = ackNoted (s .link) (h .time) (r .«want_turn») (r .«want_disc») (i .burst) in
     cond (s .link .awaiting)
-    (countedAck p h
-    (ackIn p (longAck (i .burst) (i .bitmap)) (r .stored) (longDb p i) (h .time)
+    (countedAck p h (ackIn p (longAck (i .burst) (i .bitmap)) (r .stored) (longDb p i) (h .time)
     (withLink (withGear s (withClass (s .gear) (i .report .class))) (withPath k (i .report .slot) (i .report .«doppler_hz»))) a))
     (withLink s k, a)
 

@@ -33,7 +33,7 @@ use Rattle.receive.specs.Accepted.{acceptedReply}
 use Rattle.reception.specs.Reception.{decodedIn, framesHeard}
 use Rattle.reception.specs.declared.Reception.{Reception}
 use Rattle.sender.specs.Calls.{queueOf, receiveOf, framesOf, findOf, pieceOf}
-use Rattle.verdicts.proofs.Passed.{queue-passed, queue-room, receive-three, frames-passed}
+use Rattle.verdicts.proofs.Passed.{queue-passed, queue-room, receive-three, reply-passed, frames-passed}
 use Rattle.area.specs.FindCode.{bytesAt}
 use Rattle.replies.specs.RepliesCode.{ReplyReady}
 
@@ -94,6 +94,10 @@ module _ (p : Profile) (t : Station) (a : List ℕ) where
     answerable ar =
         let so = test-sound p s a ar (receive-three p t a h r (length payload) ok .2) in
         record { level = sound-level p s a so; settling = sound-settling p s a so ar; sound = so .ledger }
+
+    pub in-a-wave : h .wave ≤ 5
+    unfolding heardOk
+    in-a-wave = leb-true _ _ (and-first _ _ (reply-passed p t a h r (length payload) ok .1))
 
     pub receive-accepted : (x : Sender × List ℕ) (v : Verdict) → v ≡ receiveVerdict p t a h r (length payload) → x ≡ acceptedReply p h r payload s a
         → answer v (withSender t (x .0), x .1) ≡ receiveOf p t a h r payload

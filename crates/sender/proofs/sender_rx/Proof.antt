@@ -10,7 +10,7 @@ use Rattle.record.proofs.View.{Arrays}
 use Rattle.refusals.specs.declared.Verdict.{Verdict}
 use Rattle.verdicts.specs.Verdicts.{passed, firstOf, standing, replyVerdict, receiveVerdict}
 use Rattle.verdicts.proofs.Passed.{is-passed, not-passed}
-use Rattle.sender.proofs.Answered.{receive-refused, answer-ranged, answerable, receive-accepted}
+use Rattle.sender.proofs.Answered.{receive-refused, answer-ranged, answerable, in-a-wave, receive-accepted}
 use Rattle.sender.proofs.sender_rx.Statement.{statement}
 use Rattle.sender.proofs.sender_rx.Tie as tie
 use Rattle.limits.specs.Limits.{maxSlots}
@@ -75,7 +75,10 @@ answer-requires c κs =
     let s = S (c .before .before .before) in
     let ok = accepted (c .before) in (
       answer-ranged (s .args .p) (s .args .t) (now (s .args .a)) (s .args .h) (s .args .r) (now (s .args .payload)) ok,
-      answerable (s .args .p) (s .args .t) (now (s .args .a)) (s .args .h) (s .args .r) (now (s .args .payload)) ok (arrays s),
+      (
+        answerable (s .args .p) (s .args .t) (now (s .args .a)) (s .args .h) (s .args .r) (now (s .args .payload)) ok (arrays s),
+        in-a-wave (s .args .p) (s .args .t) (now (s .args .a)) (s .args .h) (s .args .r) (now (s .args .payload)) ok,
+      ),
     )
 
 same-length-2 : tie.Need-same-length-2

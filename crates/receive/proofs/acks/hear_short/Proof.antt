@@ -32,7 +32,7 @@ with-class-requires : tie.Need-with-class-requires
 with-class-requires c κs = search needs
 
 ack-airtime-requires : tie.Need-ack-airtime-requires
-ack-airtime-requires c κs = c .before .before .before .before .before .before .pre .1 .1
+ack-airtime-requires c κs = omega (arith, c .before .before .before .before .before .before .pre .1 .1)
 
 bits-for-requires : tie.Need-bits-for-requires
 bits-for-requires c κs = search needs
