@@ -53,7 +53,7 @@ use Rattle.refusals.specs.declared.Verdict.{Verdict}
 use Rattle.refusals.specs.declared.Verdict.the-variants.{Accepted, BadTime, BadValue, ShortPayload}
 use Rattle.refusals.specs.Refusals.{numberOf, maxReceived, timeOk, heardOk, replyOk}
 use Rattle.verdicts.specs.Verdicts.{passed, stationOk, takenBy, standing, firstOf, replyVerdict, hearingVerdict, framesStanding, receiveVerdict, framesVerdict}
-use Rattle.verdicts.proofs.Passed.{stands, frames-passed}
+use Rattle.verdicts.proofs.Passed.{stands, Receives, frames-passed}
 use Rattle.reception.specs.Reception.{Decoded, decodedFrom, decodedIn, isRead, flagsOf, framesHeard}
 use Rattle.reception.specs.declared.Reception.{Reception}
 use Rattle.reception.proofs.Laws.{read-long, read-info}
@@ -243,18 +243,20 @@ module _ (p : Profile) (rg : Ranged p) (ir : inRange p ≡ true) (io : inOrder p
       (λ e. rw e (all-run fs (after f c) (b .1) (after-takes f c e (b .0) k) ∙ ap (run (next p) (singlesOf h fs)) (sym (next-is f c k e))))
       (λ e. rw e (all-run fs c (b .1) k))
 
+  pub told-is : (f : Decoded) (c : State) → Takes c → isRead f ≡ true → told p (single h f) c ≡ reply (longAck (infoOf (f .payload) .burst) (infoOf (f .payload) .bitmap))
+  told-is f c k e =
+      hear-told p c h (LongAck (flagsOf (f .flags))) (f .payload) true (takes c k f e) ∙ ap longEvent (read-info (f .payload) (read-long f e))
+
   all-told : (fs : List Decoded) (c : State) (t : Tally) → EachBytes fs → Takes c → heardAll (repliesIn fs) t ≡ tally (next p) (told p) (singlesOf h fs) c t
   all-told [] c t b k = refl
   all-told (f ∷ fs) c t b k =
       test (isRead f)
       (λ e.
       let i = infoOf (f .payload) in
-      let ev : told p (single h f) c ≡ reply (longAck (i .burst) (i .bitmap)) =
-      hear-told p c h (LongAck (flagsOf (f .flags))) (f .payload) true (takes c k f e) ∙ ap longEvent (read-info (f .payload) (read-long f e)) in
       rw e
       (all-told fs (after f c) (feed (reply (longAck (i .burst) (i .bitmap))) t) (b .1) (after-takes f c e (b .0) k)
       ∙ ap (λ (d : State). tally (next p) (told p) (singlesOf h fs) d (feed (reply (longAck (i .burst) (i .bitmap))) t)) (sym (next-is f c k e))
-      ∙ ap (λ (x : Event). tally (next p) (told p) (singlesOf h fs) (next p (single h f) c) (feed x t)) (sym ev)))
+      ∙ ap (λ (x : Event). tally (next p) (told p) (singlesOf h fs) (next p (single h f) c) (feed x t)) (sym (told-is f c k e))))
       (λ e. rw e (all-told fs c t (b .1) k))
 
   all-said : (fs : List Decoded) (c : State) → EachBytes fs → Takes c → Along (next p) (λ (i : Call) (d : State). said p i d ≡ justVerdict Accepted) (singlesOf h fs) c
@@ -274,27 +276,17 @@ typed-arrays : (c : State) → Typed c → Arrays (c .0 .sender)
 typed-arrays c ty = record { heldOff = ty .heldOff; heldBits = ty .heldBits; sentOff = ty .sentOff; sentBits = ty .sentBits; sentHeld = ty .sentHeld }
 
 -- what a reception that is accepted finds
-module _ (p : Profile) (h : Heard) (c : State) (n : ℕ) (ty : Typed c) (e : passed (framesVerdict p (c .0) (c .1) h n) ≡ true) where
-  abbrev one : inRange p ≡ true
-  one = frames-passed p (c .0) (c .1) h n e .stands .0
-
-  abbrev two : inOrder p ≡ true
-  two = frames-passed p (c .0) (c .1) h n e .stands .1
-
-  abbrev heard : heardOk h ≡ true
-  heard = frames-passed p (c .0) (c .1) h n e .heard
-
-  finds : Takes p (ranged p one) one two h heard c
-  finds =
-      let q = frames-passed p (c .0) (c .1) h n e in
-      let ar = typed-arrays c ty in
-      record {
-        well = record { sound = test-sound p (c .0 .sender) (c .1) ar (q .stands .2); arrays = ar; bytes = ty .bytes; typed = ty .gear };
-        listed = q .stands .3;
-        taken = q .stands .4;
-        connected = stands-on p (c .0) (c .1) (q .standing);
-        time = q .time;
-      }
+pub finds : (p : Profile) (rg : Ranged p) (io : inOrder p ≡ true) (h : Heard) (c : State) (n : ℕ) → Typed c
+    → (q : Receives p (c .0) (c .1) h n) → Takes p rg (q .stands .0) io h (q .heard) c
+finds p rg io h c n ty q =
+    let ar = typed-arrays c ty in
+    record {
+      well = record { sound = test-sound p (c .0 .sender) (c .1) ar (q .stands .2); arrays = ar; bytes = ty .bytes; typed = ty .gear };
+      listed = q .stands .3;
+      taken = q .stands .4;
+      connected = stands-on p (c .0) (c .1) (q .standing);
+      time = q .time;
+    }
 
 module _ (p : Profile) (c : State) (h : Heard) (r : Reception) (bs : List ℕ) (few : r .n ≤ maxReceived) (ty : Typed c) (by8 : Bytes bs) where
   abbrev v : Verdict
@@ -305,11 +297,12 @@ module _ (p : Profile) (c : State) (h : Heard) (r : Reception) (bs : List ℕ) (
 
   all-taken : passed v ≡ true → Equals p c h r bs
   all-taken e =
-      let rg = ranged p (one p h c (r .n) ty e) in
-      let k = finds p h c (r .n) ty e in
-      let ir = one p h c (r .n) ty e in
-      let io = two p h c (r .n) ty e in
-      let ok = heard p h c (r .n) ty e in
+      let q = frames-passed p (c .0) (c .1) h (r .n) e in
+      let ir = q .stands .0 in
+      let io = q .stands .1 in
+      let ok = q .heard in
+      let rg = ranged p ir in
+      let k = finds p rg io h c (r .n) ty q in
       let b = each-bytes r bs by8 in
       let run-is = frames-yes p c h r bs e ∙ all-run p rg ir io h ok fs c b k in
       let whole-says : said p (receives h r bs) c ≡ justVerdict Accepted = ap justVerdict (frames-verdict p (c .0) (c .1) h r bs ∙ takes-all p rg ir io h ok c k (r .n) few) in
