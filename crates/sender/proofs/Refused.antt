@@ -164,7 +164,9 @@ module _ (p : Profile) (s : Sender) (a : List ℕ) (ar : Arrays s) (one : inRang
   frames-past h [] = refl
   frames-past h (f ∷ fs) =
       by (λ (c : Sender × List ℕ). Past (framesHeard p h fs c)) (isRead f)
-      (λ e. quiet-area p h fs _ (read-ends p h f s a e) ∙ long-past h (flagsOf (f .flags)) (ackOf (f .payload)))
+      (λ e.
+      let x = longRead p h (flagsOf (f .flags)) (ackOf (f .payload)) s a in
+      ap (drop areaBytes) (quiet-area p h fs x (read-ends p h f s a e)) ∙ long-past h (flagsOf (f .flags)) (ackOf (f .payload)))
       (λ e. frames-past h fs)
 
   reply-past : (h : Heard) (r : Reply) (payload : List ℕ) → Past (acceptedReply p h r payload s a)
