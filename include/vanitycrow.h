@@ -29,6 +29,7 @@ extern "C" {
 #define VANITYCROW_MAX_SLOTS 64 /* frames of a burst */
 #define VANITYCROW_MAX_WAITING 16384 /* bytes that may wait */
 #define VANITYCROW_MAX_MESSAGES 256 /* messages that may wait */
+#define VANITYCROW_MAX_RECEIVED 16 /* decoded frames of one reception at most */
 #define VANITYCROW_MAX_CLASS 3 /* classes of messages: VANITYCROW_FLASH to VANITYCROW_ROUTINE */
 #define VANITYCROW_ADIF_BYTES 256 /* least output of a link log */
 #define VANITYCROW_CARD_BYTES 751 /* a profile as a file of version 1 (docs/CARD.md) */
@@ -51,6 +52,7 @@ enum {
     VANITYCROW_TOO_MANY_MESSAGES = 12,   /* more than VANITYCROW_MAX_MESSAGES messages would wait */
     VANITYCROW_BAD_VERSION = 13,         /* a profile's file has a version byte of 0 or above 15 */
     VANITYCROW_BAD_CARD = 14,            /* it is empty, or a count doesn't agree with version or length; written: the output is under VANITYCROW_CARD_BYTES */
+    VANITYCROW_TOO_MANY_FRAMES = 15,     /* a reception has more than VANITYCROW_MAX_RECEIVED frames */
     VANITYCROW_STRETCH_RETIRED = 18,     /* a profile's file of version 2 or later has harq_stretch, which is retired */
     VANITYCROW_BAD_RANGE = 19,           /* the lowest report is above the highest */
     VANITYCROW_BAD_CALL_SIGN = 20,       /* not 1 to 12 capitals, digits and slashes */
@@ -265,6 +267,15 @@ struct vanitycrow_ack {
 /* The flags of a long ack's frame; the rest is in its payload. */
 struct vanitycrow_long_ack { bool want_turn; bool want_disc; bool stored; };
 
+/* The decoded frames of one reception, n of them: each with its kind (4 is an ack) and its flags (1 wants the turn, 2 wants to disconnect, 4 has
+ * stored what it misses) as the modem decoded them, and its payload's length. The payloads travel beside it, back to back. */
+struct vanitycrow_reception {
+    size_t n;
+    uint8_t kind[VANITYCROW_MAX_RECEIVED];
+    uint8_t flags[VANITYCROW_MAX_RECEIVED];
+    uint32_t len[VANITYCROW_MAX_RECEIVED];
+};
+
 /* A turn; its report is -100 to 300 dB. */
 struct vanitycrow_turn { struct vanitycrow_maybe_db report; };
 
@@ -327,6 +338,13 @@ uint8_t vanitycrow_short_ack(const struct vanitycrow_profile *p, struct vanitycr
 /* A long ack and the n bytes of its payload. Refusals 1 to 7. */
 uint8_t vanitycrow_long_ack(const struct vanitycrow_profile *p, struct vanitycrow_station *t, uint8_t *a, size_t a_len, struct vanitycrow_heard h,
                             struct vanitycrow_long_ack r, const uint8_t *payload, size_t n);
+
+/* All decoded frames of one reception, heard at one time, in one wave and with one dB, and the n bytes of their payloads back to back. Leaves what the acks
+ * among them leave as long acks one after the other; frames that are no acks and payloads under 13 bytes are passed over, and where the bytes
+ * run out a payload has what is left. Where none is read the record stays, its last time too. Refusals 1 2 3 15 4 5 6, in this order; 15 counts all
+ * frames. All or nothing: a refused call has read no frame. */
+uint8_t vanitycrow_frames(const struct vanitycrow_profile *p, struct vanitycrow_station *t, uint8_t *a, size_t a_len, struct vanitycrow_heard h,
+                          struct vanitycrow_reception r, const uint8_t *payloads, size_t n);
 
 /* A turn. Refusals 1 to 6. */
 uint8_t vanitycrow_turn(const struct vanitycrow_profile *p, struct vanitycrow_station *t, uint8_t *a, size_t a_len, struct vanitycrow_heard h,

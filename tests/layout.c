@@ -28,6 +28,7 @@ typedef struct vanitycrow_heard Heard;
 typedef struct vanitycrow_conn_ack ConnAck;
 typedef struct vanitycrow_ack Ack;
 typedef struct vanitycrow_long_ack LongAck;
+typedef struct vanitycrow_reception Reception;
 typedef struct vanitycrow_turn Turn;
 typedef struct vanitycrow_frames Frames;
 typedef struct vanitycrow_outgoing Outgoing;
@@ -113,6 +114,8 @@ static void reply_and_answer_lines(void) {
     F(Ack, burst); F(Ack, bitmap); F(Ack, snr_db); F(Ack, want_turn); F(Ack, want_disc); F(Ack, stored); FIELD_CLASS(Ack); F(Ack, slot);
     S(LongAck);
     F(LongAck, want_turn); F(LongAck, want_disc); F(LongAck, stored);
+    S(Reception);
+    F(Reception, n); F(Reception, kind); F(Reception, flags); F(Reception, len);
     S(Turn);
     F(Turn, report);
     S(Frames);

@@ -205,6 +205,12 @@ impl Tally {
                 let bitmap = (0..8).fold(0, |m, i| m | (payload[1 + i] as u64) << (8 * i));
                 self.ack(payload[0] % 4, bitmap, false);
             }
+            (Call::Frames { frames, .. }, _) => {
+                for d in frames.iter().filter(|d| d.kind == 4 && d.payload.len() >= 13) {
+                    let bitmap = (0..8).fold(0, |m, i| m | (d.payload[1 + i] as u64) << (8 * i));
+                    self.ack(d.payload[0] % 4, bitmap, false);
+                }
+            }
             (Call::Turn { .. }, _) => self.outstanding = None,
             _ => {}
         }
@@ -568,6 +574,10 @@ fn judged(call: &Call, answer: &Answer, outstanding: Option<usize>) -> Option<f6
     match (call, answer, outstanding?) {
         (_, Answer::Refused(_), _) => None,
         (Call::Short { t, .. } | Call::Long { t, .. }, ..) => Some(*t),
+        (Call::Frames { t, frames, .. }, ..) => frames
+            .iter()
+            .any(|d| d.kind == 4 && d.payload.len() >= 13)
+            .then_some(*t),
         (Call::Turn { t, .. }, _, 1..) => Some(*t),
         _ => None,
     }

@@ -49,7 +49,7 @@ fn first_difference(ours: &[u8], theirs: &[u8]) -> (usize, String, String) {
     (n + 1, line(&a), line(&b))
 }
 
-/// Lists of `kind`, or of all but `levels`, `classes` and `labels`.
+/// Lists of `kind`, or of all but `levels`, `classes`, `labels` and `frames`.
 pub fn compare(program: &str, seconds: u64, seed: u64, kind: Option<&'static str>) -> Result<(), String> {
     let until = Instant::now() + Duration::from_secs(seconds);
     let mut progress = Progress::new();

@@ -6,17 +6,17 @@ use std::cell::{Cell, RefCell};
 use crate::harness::{AREA_BYTES, Answer, Burst, Harness, LAST_SECOND, WAITING_MOST};
 use crate::levels;
 use crate::link::frame::Frame;
-use crate::list::{AREA_MOST, Call, Item, LONGEST_LINE, OUT_MOST, Said, text};
+use crate::list::{AREA_MOST, Call, Decoded, Item, LONGEST_LINE, OUT_MOST, Said, text};
 use crate::messages::MESSAGES_MOST;
 use crate::profile::{DBS, EFF_THRESHOLDS, FRAME_BYTES, LEVELS, ON, POWER, Profile, THRESHOLDS, Value, on};
 use crate::profiles;
 use crate::rng::Rng;
 
-/// What a list is about. Lists of `lines` may end in an error. `levels`, `classes` and `labels` are mixed with no other. In all but `classes`
+/// What a list is about. Lists of `lines` may end in an error. `levels`, `classes`, `labels` and `frames` are mixed with no other. In all but `classes`
 /// and `labels` every message is of class 3, by default; in all but `labels` none has a label.
-pub const KINDS: [&str; 13] = [
+pub const KINDS: [&str; 14] = [
     "usual", "ladder", "harq", "merge", "many", "extreme", "hostile", "limits", "profiles", "lines", "levels",
-    "classes", "labels",
+    "classes", "labels", "frames",
 ];
 
 /// How the far station answers.
@@ -69,6 +69,8 @@ struct Driver<'a> {
     first_queue: usize,
     /// Messages of classes; None: every queuing gives no class.
     mail: Option<Mail>,
+    /// One in this many acks comes as a reception; 0: none does.
+    receptions_in: u64,
 }
 
 impl<'a> Driver<'a> {
@@ -102,6 +104,7 @@ impl<'a> Driver<'a> {
             largest_queue,
             first_queue: 0,
             mail: None,
+            receptions_in: 0,
         }
     }
 
@@ -366,6 +369,65 @@ impl<'a> Driver<'a> {
         }
     }
 
+    /// A reception: some frames of which some are acks, at times none or more than are taken.
+    fn reception(&mut self) -> Call {
+        let count = self.r.pick(&[0, 1, 1, 2, 3, 5, 15, 16, 16, 17, 64]);
+        let mut frames = Vec::new();
+        for _ in 0..count {
+            let Call::Long { mut payload, stored, .. } = self.long() else {
+                unreachable!("a long ack")
+            };
+            if self.r.once_in(4) {
+                payload.resize(self.r.pick(&[0, 1, 12, 12, 13, 16, 17, 18, 300]), 0x55);
+            }
+            if self.r.once_in(4) {
+                payload.truncate(self.r.pick(&[12, 13, 13, 16]));
+            }
+            if !payload.is_empty() && self.r.once_in(3) {
+                payload[0] = self.r.below(4) as u8;
+            }
+            frames.push(Decoded {
+                kind: self.r.pick(&[4, 4, 4, 4, 4, 3, 1, 5, 0, 2, 255, 256 + 4, u64::MAX]),
+                flags: self.r.below(4) | (stored as u64) << 2 | self.r.pick(&[0, 0, 8, 0xF0, 256, 1 << 40]),
+                payload,
+            });
+        }
+        Call::Frames {
+            t: self.later(),
+            wave: self.wave(),
+            here: self.here(),
+            frames,
+        }
+    }
+
+    /// A reception on one side of a limit: its time, its wave, its dB here, its count.
+    fn reception_limit(&mut self) {
+        let mut call = self.reception();
+        let now = self.t;
+        if let Call::Frames { t, wave, here, frames } = &mut call {
+            match self.r.below(4) {
+                0 => *t = self.r.pick(&[-f64::from_bits(1), f64::NAN, LAST_SECOND.next_up(), now.next_down(), now, -0.0]),
+                1 => *wave = self.r.pick(&[5, 6, 256, u64::MAX]),
+                2 => *here = self.r.pick(&[-100.0, (-100.0f32).next_down(), 300.0, 300.0f32.next_up(), f32::NAN]),
+                _ => {
+                    let n = self.r.pick(&[16, 17]);
+                    frames.resize(
+                        n,
+                        Decoded {
+                            kind: self.r.pick(&[3, 4]),
+                            flags: 0,
+                            payload: self.r.bytes(13),
+                        },
+                    );
+                    if self.r.flag() {
+                        *wave = 6;
+                    }
+                }
+            }
+        }
+        self.call(call);
+    }
+
     /// What the original makes of a call, by one of its consequences.
     fn outcome(&self, call: &Call, which: u64) -> [u64; 3] {
         // On the list while it runs, for the case that the original panics.
@@ -461,6 +523,14 @@ impl<'a> Driver<'a> {
     }
 
     fn ack(&mut self) {
+        if self.receptions_in > 0 && self.r.once_in(self.receptions_in) {
+            if self.r.once_in(5) {
+                self.reception_limit();
+            }
+            let call = self.reception();
+            self.call(call);
+            return;
+        }
         let frames = self.last.as_ref().map_or(0, |b| b.frames.len());
         let short = if self.r.once_in(5) { self.r.flag() } else { frames <= 6 };
         let mut call = if short { self.short() } else { self.long() };
@@ -1293,10 +1363,22 @@ pub fn list(seed: u64, index: u64, calls: usize, kind: &str) -> Vec<Item> {
             messages_list(r, calls, kind == "labels");
             return made();
         }
+        "frames" => (
+            match r.below(4) {
+                0 => profiles::extreme(r),
+                1 => profiles::harq(r).0,
+                _ => profiles::usual(r),
+            },
+            r.pick(&[Far::Honest, Far::Lossy, Far::Lossy, Far::Fading, Far::Hostile]),
+        ),
         _ => unreachable!("kinds are checked"),
     };
     let mut d = Driver::new(r, profile, far);
     match kind {
+        "frames" => {
+            d.receptions_in = d.r.pick(&[1, 2, 2]);
+            d.tip_in = 20;
+        }
         "harq" => {
             d.snr = 12.0;
             d.class_in = 40;

@@ -5,13 +5,15 @@ use crate::levels;
 use crate::link::frame::{AckInfo, Frame, Kind, Tiny, caps, flags};
 use crate::link::report::ChanClass;
 use crate::link::station::{Awaiting, Station, TINY, wave_of_rank, wave_rank};
-use crate::list::{AREA_MOST, Call, OUT_MOST};
+use crate::list::{AREA_MOST, Call, Decoded, OUT_MOST};
 use crate::messages::{CLASS_MOST, MESSAGES_MOST, Messages};
 use crate::profile::{FRAME_BYTES, Profile};
 
 pub const AREA_BYTES: u64 = 49_152;
 pub const WAITING_MOST: usize = 16_384;
 pub const TAKEN_MOST: u64 = 0xFFFF_FFFF;
+/// Decoded frames of one reception.
+pub const RECEIVED_MOST: usize = 16;
 pub const LAST_SECOND: f64 = 1e9;
 
 #[derive(Clone, Debug)]
@@ -119,6 +121,11 @@ impl Harness {
         if self.area < AREA_BYTES {
             return Some(3);
         }
+        if let Call::Frames { ref frames, .. } = *call
+            && frames.len() > RECEIVED_MOST
+        {
+            return Some(15);
+        }
         if matches!(call, Call::Connect { .. }) == self.station.connected() {
             return Some(4);
         }
@@ -174,6 +181,14 @@ impl Harness {
                     return Some(7);
                 }
             }
+            Call::Frames { t, wave, here, .. } => {
+                if !timely(t) {
+                    return Some(5);
+                }
+                if !(wave <= 5 && db(here)) {
+                    return Some(6);
+                }
+            }
             Call::Turn {
                 t,
                 wave,
@@ -218,7 +233,9 @@ impl Harness {
         }
         active::set(&self.numbers, self.station.level);
         // Whether an ack is awaited, the original says before it hears the reply.
-        if let (Call::Short { wave, .. } | Call::Long { wave, .. }, true) = (call, self.awaiting()) {
+        if let (Call::Short { wave, .. } | Call::Long { wave, .. } | Call::Frames { wave, .. }, true) = (call, self.awaiting())
+            && !matches!(call, Call::Frames { frames, .. } if !frames.iter().any(read))
+        {
             self.on_air(self.station.air.duration(wave_of_rank(*wave as usize), TINY, 0));
         }
         let s = &mut self.station;
@@ -309,6 +326,18 @@ impl Harness {
                 s.hear_frame(wave as usize, here, frame, t);
                 self.last_time = Some(t);
             }
+            Call::Frames {
+                t,
+                wave,
+                here,
+                ref frames,
+            } => {
+                let decoded: Vec<Option<Frame>> = frames.iter().map(frame_of).collect();
+                s.hear_frames(wave as usize, here, &decoded, t);
+                if frames.iter().any(read) {
+                    self.last_time = Some(t);
+                }
+            }
             Call::Turn { t, wave, here, db } => {
                 s.hear_tiny(wave as usize, here, Tiny::Turn { snr_db: db }, t);
                 self.last_time = Some(t);
@@ -384,4 +413,24 @@ impl Harness {
     fn on_air(&mut self, seconds: f64) {
         self.airtime_ms = self.airtime_ms.saturating_add((seconds * 1000.0).ceil() as u64);
     }
+}
+
+/// A frame as the original decodes it; a kind that it does not know is no frame.
+fn frame_of(d: &Decoded) -> Option<Frame> {
+    let kind = match d.kind {
+        1 => Kind::ConnReq,
+        3 => Kind::Data,
+        4 => Kind::Ack,
+        5 => Kind::Stream,
+        _ => return None,
+    };
+    let mut frame = Frame::new(kind, 0);
+    frame.flags = d.flags as u8;
+    frame.payload = d.payload.clone();
+    Some(frame)
+}
+
+/// The original reads it as an ack.
+pub fn read(d: &Decoded) -> bool {
+    d.kind == 4 && AckInfo::from_bytes(&d.payload).is_some()
 }

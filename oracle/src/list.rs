@@ -6,6 +6,8 @@ use crate::messages::ROUTINE;
 use crate::profile::{LINES, Profile};
 
 pub const LONGEST_LINE: usize = 65_536;
+/// Frames that a line may have; more than 16 are refused.
+pub const FRAMES_MOST: u64 = 64;
 pub const AREA_MOST: u64 = 65_536;
 pub const OUT_MOST: u64 = 32_768;
 
@@ -73,6 +75,13 @@ pub enum Call {
         stored: bool,
         payload: Vec<u8>,
     },
+    /// All decoded frames of one reception.
+    Frames {
+        t: f64,
+        wave: u64,
+        here: f32,
+        frames: Vec<Decoded>,
+    },
     Turn {
         t: f64,
         wave: u64,
@@ -91,6 +100,14 @@ pub enum Call {
     Messages,
     Area(u64),
     Out(u64),
+}
+
+/// A decoded frame: its kind and flags by frame.rs's numbers, as the line has them.
+#[derive(Clone, Debug)]
+pub struct Decoded {
+    pub kind: u64,
+    pub flags: u64,
+    pub payload: Vec<u8>,
 }
 
 impl Call {
@@ -252,6 +269,20 @@ fn read_call(words: &[&[u8]]) -> Option<Call> {
             want_disc: w.flag()?,
             stored: w.flag()?,
             payload: w.hex()?,
+        },
+        b"frames" => Call::Frames {
+            t: w.f64()?,
+            wave: w.n()?,
+            here: w.f32()?,
+            frames: (0..w.n().filter(|&n| n <= FRAMES_MOST)?)
+                .map(|_| {
+                    Some(Decoded {
+                        kind: w.n()?,
+                        flags: w.n()?,
+                        payload: w.hex()?,
+                    })
+                })
+                .collect::<Option<_>>()?,
         },
         b"turn" => Call::Turn {
             t: w.f64()?,
@@ -465,6 +496,12 @@ impl fmt::Display for Call {
                 *stored as u8,
                 hex(payload)
             ),
+            Call::Frames { t, wave, here, frames } => {
+                write!(f, "frames {} {wave} {} {}", F64(*t), F32(*here), frames.len())?;
+                frames
+                    .iter()
+                    .try_for_each(|d| write!(f, " {} {} {}", d.kind, d.flags, hex(&d.payload)))
+            }
             Call::Turn { t, wave, here, db } => {
                 write!(f, "turn {} {wave} {} ", F64(*t), F32(*here))?;
                 match db {

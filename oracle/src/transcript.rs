@@ -33,6 +33,7 @@ fn name(call: &Call) -> &'static str {
         Call::Queue(..) => "queue",
         Call::Short { .. } => "short",
         Call::Long { .. } => "long",
+        Call::Frames { .. } => "frames",
         Call::Turn { .. } => "turn",
         Call::Burst => "burst",
         Call::Piece(_) => "piece",

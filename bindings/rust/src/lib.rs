@@ -7,7 +7,7 @@ pub mod raw;
 
 pub use raw::{
     Ack, Air, AtPeer, ChanClass, Codes, ConnAck, Counts, Frames, Gear, Heard, HoldTimes, Holds, LastBurst, Lengths, Link, Listing, LongAck, Marks,
-    MaybeDb, MaybeLevel, Message, Messages, Outgoing, Profile, Reports, Sender, Tries, Turn,
+    MaybeDb, MaybeLevel, Message, Messages, Outgoing, Profile, Reception, Reports, Sender, Tries, Turn,
 };
 
 /// The version of this interface, that of include/vanitycrow.h.
@@ -42,6 +42,8 @@ pub enum Refusal {
     TooManyMessages = 12,
     BadVersion = 13,
     BadCard = 14,
+    /// A reception of more than 16 frames.
+    TooManyFrames = 15,
     StretchRetired = 18,
     BadRange = 19,
     BadCallSign = 20,
@@ -74,6 +76,7 @@ fn told(number: u8) -> Result<(), Refusal> {
         12 => Err(TooManyMessages),
         13 => Err(BadVersion),
         14 => Err(BadCard),
+        15 => Err(TooManyFrames),
         18 => Err(StretchRetired),
         19 => Err(BadRange),
         20 => Err(BadCallSign),
@@ -81,6 +84,18 @@ fn told(number: u8) -> Result<(), Refusal> {
         22 => Err(ShortAdif),
         _ => unreachable!("the contracts give no other number"),
     }
+}
+
+/// Decoded frames of one reception at most, and the bytes of a payload that an ack is read from.
+const RECEIVED: usize = 16;
+const READ: usize = 17;
+
+/// A decoded frame: its kind and flags as the modem decoded them, and its payload.
+#[derive(Clone, Copy, Debug)]
+pub struct Decoded<'a> {
+    pub kind: u8,
+    pub flags: u8,
+    pub payload: &'a [u8],
 }
 
 /// A finished link as one record of ADIF 3: the far station's call sign, the link's first and last second since 1970 in UTC, the bytes
@@ -212,6 +227,22 @@ impl Station {
                 payload.len(),
             )
         })
+    }
+
+    /// All decoded frames of one reception: as the acks among them one after the other; the others are passed over.
+    pub fn frames(&mut self, heard: Heard, frames: &[Decoded]) -> Result<(), Refusal> {
+        let mut r = Reception { n: frames.len(), kind: [0; RECEIVED], flags: [0; RECEIVED], len: [0; RECEIVED] };
+        let mut payloads = [0; RECEIVED * READ];
+        let mut at = 0;
+        for (i, f) in frames.iter().enumerate().take(RECEIVED) {
+            // No ack is read past its 17th byte.
+            let payload = &f.payload[..f.payload.len().min(READ)];
+            (r.kind[i], r.flags[i], r.len[i]) = (f.kind, f.flags, payload.len() as u32);
+            payloads[at..at + payload.len()].copy_from_slice(payload);
+            at += payload.len();
+        }
+        // SAFETY: as above.
+        told(unsafe { raw::vanitycrow_frames(&self.profile, &mut self.record, self.area.as_mut_ptr(), AREA_BYTES, heard, r, payloads.as_ptr(), at) })
     }
 
     pub fn turn(&mut self, heard: Heard, reply: Turn) -> Result<(), Refusal> {

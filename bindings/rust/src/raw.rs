@@ -131,6 +131,7 @@ plain! {
         slot: u8,
     }
     struct LongAck { want_turn: bool, want_disc: bool, stored: bool, }
+    struct Reception { n: usize, kind: [u8; 16], flags: [u8; 16], len: [u32; 16], }
     struct Turn { report: MaybeDb, }
     struct Frames { off: [u32; 64], len: [u32; 64], start: [u32; 64], bits: [u32; 64], n: usize, }
     struct Outgoing {
@@ -163,6 +164,16 @@ extern "C" {
         h: Heard,
         r: LongAck,
         payload: *const u8,
+        n: usize,
+    ) -> u8;
+    pub fn vanitycrow_frames(
+        p: *const Profile,
+        t: *mut Station,
+        a: *mut u8,
+        a_len: usize,
+        h: Heard,
+        r: Reception,
+        payloads: *const u8,
         n: usize,
     ) -> u8;
     pub fn vanitycrow_turn(p: *const Profile, t: *mut Station, a: *mut u8, a_len: usize, h: Heard, r: Turn) -> u8;

@@ -1,14 +1,16 @@
 -- A call's line, read (docs/CALLS.md, Calls): what its words mean. `chars` are the line's characters, `r` how far it was read.
 -- Definitions only.
 use mathlib.Core.Bool.{Bool, cond, not, _&&_, _||_}
-use mathlib.Core.List.{List}
-use Prim.Native.Nat.{ℕ, _%_}
-use lib.Dec.{ltb, eqb}
+use mathlib.Core.List.{List, _++_}
+use Prim.Native.Nat.{ℕ, zero, suc, _+_, _%_}
+use lib.Dec.{leb, ltb, eqb}
 use lib.Ieee.{binary64, ofBits}
-use lib.ListN.{take, replicate}
+use lib.ListN.{length, take, drop, set, replicate}
 use Rattle.words.specs.declared.Read.{Read}
 use Rattle.words.specs.Words.{decimalOf, bitsOf, flagOf, noneOf, hexCount, hexInto}
-use Rattle.words.specs.Lines.{charsOf, nextWord, readAs, isDone}
+use Rattle.words.specs.Lines.{readAs, isDone, charsOf, nextWord}
+use Rattle.refusals.specs.Refusals.{maxReceived}
+use Rattle.reception.specs.declared.Reception.{Reception}
 use Rattle.profile_table.specs.Table.{singleOf}
 use Rattle.call_lines.specs.declared.Hearing.{Hearing}
 use Rattle.call_lines.specs.declared.ClassWords.{ClassWords}
@@ -21,6 +23,8 @@ use Rattle.call_lines.specs.declared.QueueLine.{QueueLine}
 use Rattle.call_lines.specs.declared.LinkLine.{LinkLine}
 use Rattle.call_lines.specs.declared.TurnLine.{TurnLine}
 use Rattle.call_lines.specs.declared.RangeLine.{RangeLine}
+use Rattle.call_lines.specs.declared.FrameWords.{FrameWords}
+use Rattle.call_lines.specs.declared.FramesLine.{FramesLine}
 
 -- a number too wide for its field is the largest
 abbrev pub fieldByte : ℕ → ℕ
@@ -139,6 +143,49 @@ longLine room chars r =
       payload = payload .value;
       ok = isDone chars payload;
     }
+
+-- no frame yet, of n to come
+abbrev pub noFrames : ℕ → Reception
+noFrames n = record { n = n; kind = replicate maxReceived 0; flags = replicate maxReceived 0; len = replicate maxReceived 0 }
+
+-- the frame at place i; of a 17th and further ones nothing is kept
+unfoldable pub placed : Reception → ℕ → ℕ → ℕ → ℕ → Reception
+placed q i kind flags len =
+    cond (ltb i maxReceived) (record { n = q .n; kind = set (q .kind) i kind; flags = set (q .flags) i flags; len = set (q .len) i len }) q
+
+-- KIND FLAGS PAYLOAD of the frame at place i: "KIND too wide reads as 255, FLAGS count modulo 256". Its bytes stand behind those of the others
+unfoldable pub frameWords : List ℕ → ℕ → FrameWords × List ℕ → FrameWords × List ℕ
+frameWords chars i g =
+    let kind : Read = readAs decimalOf chars (g .0 .read) in
+    let flags : Read = readAs decimalOf chars kind in
+    let free : List ℕ = drop (g .0 .used) (g .1) in
+    let payload : Read = readAs (hexCount (length free)) chars flags in
+    let into : List ℕ = hexInto free (charsOf chars (nextWord chars flags)) in
+    let n : ℕ = length (take (payload .value) into) in (
+      record {
+        read = payload;
+        reception = placed (g .0 .reception) i (fieldByte (kind .value)) (flags .value % 256) (n % 4294967296);
+        used = g .0 .used + n;
+      },
+      take (g .0 .used) (g .1) ++ into,
+    )
+
+-- n of them, from place i on
+abbrev pub frameWordsFrom : List ℕ → ℕ → ℕ → FrameWords × List ℕ → FrameWords × List ℕ
+frameWordsFrom chars zero i g = g
+frameWordsFrom chars (suc n) i g = frameWordsFrom chars n (i + 1) (frameWords chars i g)
+
+-- `frames` T W HERE COUNT, then COUNT times KIND FLAGS PAYLOAD, with the bytes after it: "COUNT above 64 is an error"
+unfoldable pub framesLine : List ℕ → List ℕ → Read → FramesLine × List ℕ
+framesLine bytes chars r =
+    let h : Hearing = heardFirst chars r in
+    let count : Read = readAs decimalOf chars (h .read) in
+    let few : Bool = leb (count .value) 64 in
+    let n : ℕ = cond few (count .value) 0 in
+    let g = frameWordsFrom chars n 0 (record { read = count; reception = noFrames n; used = 0 }, bytes) in (
+      record { heard = h .heard; reception = g .0 .reception; used = g .0 .used; ok = isDone chars (g .0 .read) && few },
+      g .1,
+    )
 
 -- `queue` HEX [CLASS [LABEL]], with room for so many bytes of HEX: "without it class 3. A CLASS too wide reads as 255"; "LABEL counts modulo
 -- 65,536", and without it there is none

@@ -21,7 +21,7 @@ orCalls n chars (w ∷ ws) = orCalls (orCall n chars (w .0) (w .1)) chars ws
 
 -- a queuing or a reply
 unfoldable pub asking : List ℕ → Named
-asking chars = orCalls noName chars ((text "short", 3) ∷ (text "queue", 2) ∷ (text "long", 4) ∷ (text "turn", 5) ∷ (text "connect", 1) ∷ [])
+asking chars = orCalls noName chars ((text "short", 3) ∷ (text "queue", 2) ∷ (text "long", 4) ∷ (text "turn", 5) ∷ (text "frames", 15) ∷ (text "connect", 1) ∷ [])
 
 -- any call
 unfoldable pub callOf : List ℕ → Named

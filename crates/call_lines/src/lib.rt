@@ -1,7 +1,10 @@
 // A call's line, read: the words after its name become the call's arguments (docs/CALLS.md, Calls).
 use config::MaybeDb;
 use float_bits::of_bits64;
+use byte_copy::least;
 use profile_table::single_of;
+use reception::Reception;
+use refusals::MAX_RECEIVED;
 use replies::Ack;
 use replies::ConnAck;
 use replies::Heard;
@@ -18,12 +21,12 @@ use words::single;
 use words::whole;
 ghost use mathlib.Core.Path.{_≡_};
 ghost use mathlib.Core.Bool.{cond};
-ghost use Prim.Native.Nat.{_%_};
+ghost use Prim.Native.Nat.{_%_, _≤_};
 ghost use lib.ListN.{length};
 ghost use Rattle.words.specs.Words.{hexInto};
 ghost use Rattle.words.specs.Lines.{charsOf, nextWord};
 ghost use Rattle.call_lines.specs.CallLines.{fieldByte, heardFirst, classWords, wishWords, burstWords, connectLine, shortLine};
-ghost use Rattle.call_lines.specs.CallLines.{turnLine, longWishes, longLine, queueLine, logLineRead, rangeLine};
+ghost use Rattle.call_lines.specs.CallLines.{turnLine, longWishes, longLine, noFrames, placed, frameWords, framesLine, queueLine, logLineRead, rangeLine};
 
 pub mod names;
 
@@ -237,6 +240,108 @@ pub fn long_words(line: &[u8], r: Read, bytes: &mut [u8]) -> LongLine
         },
         payload: payload.value as usize,
         ok: done(line, payload),
+    }
+}
+
+fn no_frames(n: usize) -> Reception
+    ensures { λ r. ⌜ r ≡ noFrames n ⌝ }
+{
+    Reception {
+        n,
+        kind: [0; MAX_RECEIVED],
+        flags: [0; MAX_RECEIVED],
+        len: [0; MAX_RECEIVED],
+    }
+}
+
+fn placed(q: Reception, i: usize, kind: u8, flags: u8, len: u32) -> Reception
+    ensures { λ r. ⌜ r ≡ placed q i kind flags len ⌝ }
+{
+    let mut q = q;
+    if i < MAX_RECEIVED {
+        q.kind[i] = kind;
+        q.flags[i] = flags;
+        q.len[i] = len;
+    }
+    q
+}
+
+// The frames that were read so far: how far the line was read, what they are, and how many bytes their payloads have.
+pub struct FrameWords {
+    pub read: Read,
+    pub reception: Reception,
+    pub used: usize,
+}
+
+// KIND FLAGS PAYLOAD of the frame at place i. The payload is put behind the bytes that are used.
+fn frame_words(line: &[u8], i: usize, g: FrameWords, bytes: &mut [u8]) -> FrameWords
+    requires { ⌜ g .used ≤ length (now bytes) ⌝ }
+    ensures { λ q. ⌜ (q, now (bytes .exit)) ≡ frameWords (now (line .entry)) i (g, now (bytes .entry)) ⌝ }
+    ensures { λ q. ⌜ q .used ≤ length (now (bytes .exit)) ⌝ }
+{
+    let at = g.used;
+    let kind = whole(line, g.read);
+    let flags = whole(line, kind);
+    let payload = hex(line, flags, &mut bytes[at..]);
+    let n = least(payload.value as usize, &bytes[at..]);
+    let reception = placed(
+        g.reception,
+        i,
+        u8_of(kind.value),
+        (flags.value % 256) as u8,
+        (n % 4294967296) as u32,
+    );
+    FrameWords {
+        read: payload,
+        reception,
+        used: at + n,
+    }
+}
+
+// A reception's line: its frames, how many bytes their payloads have, and whether the line was right. The payloads are put at the start of
+// `bytes`, back to back.
+pub struct FramesLine {
+    pub heard: Heard,
+    pub reception: Reception,
+    pub used: usize,
+    pub ok: bool,
+}
+
+// COUNT, where it is at most 64.
+fn frame_count(few: bool, n: u64) -> usize
+    ensures { λ r. ⌜ r ≡ cond few n 0 ⌝ }
+{
+    if few {
+        return n as usize;
+    }
+    0
+}
+
+pub fn frames_words(line: &[u8], r: Read, bytes: &mut [u8]) -> FramesLine
+    ensures { λ q. ⌜ (q, now (bytes .exit)) ≡ framesLine (now (bytes .entry)) (now (line .entry)) r ⌝ }
+{
+    let h = heard_first(line, r);
+    let heard = h.heard;
+    let count = whole(line, h.read);
+    let few = count.value <= 64;
+    let n = frame_count(few, count.value);
+    let reception = no_frames(n);
+    let mut g = FrameWords {
+        read: count,
+        reception,
+        used: 0,
+    };
+    let mut i = 0;
+    while i < n {
+        g = frame_words(line, i, g, bytes);
+        i += 1;
+    }
+    let reception = g.reception;
+    FramesLine {
+        heard,
+        reception,
+        used: g.used,
+        ok: done(line, g.read) & few,
     }
 }
 

@@ -35,6 +35,8 @@ pub const MESSAGES: u8 = 13;
 
 pub const CARD: u8 = 14;
 
+pub const FRAMES: u8 = 15;
+
 // A line's call, and how far the line was read.
 pub struct Named {
     pub call: u8,
@@ -77,6 +79,7 @@ fn asking(line: &[u8]) -> Named
     let n = or(n, line, b"queue", QUEUE);
     let n = or(n, line, b"long", LONG);
     let n = or(n, line, b"turn", TURN);
+    let n = or(n, line, b"frames", FRAMES);
     or(n, line, b"connect", CONNECT)
 }
 

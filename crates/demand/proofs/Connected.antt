@@ -6,7 +6,7 @@ use mathlib.Core.Bool.{Bool, true, false, cond, not, _&&_, _||_, false≢true}
 use Prim.Native.Nat.{ℕ}
 use lib.Dec.{eqb}
 use lib.ListN.{length}
-use Rattle.laws.proofs.Picks.{test, either}
+use Rattle.laws.proofs.Picks.{test, by, either}
 use Rattle.config.specs.declared.Profile.{Profile}
 use Rattle.config.specs.Ranges.{inRange, inOrder}
 use Rattle.report.specs.Ack.{ackOf}
@@ -21,16 +21,18 @@ use Rattle.replies.specs.declared.ConnAck as E
 use Rattle.replies.specs.declared.LongAck as B
 use Rattle.replies.specs.Replies.{shortAcked, longAcked, turned, connectedTo}
 use Rattle.receive.specs.Accepted.{longRead, acceptedReply}
+use Rattle.reception.specs.Reception.{Decoded, decodedIn, isRead, flagsOf, framesHeard}
+use Rattle.verdicts.proofs.Passed.{frames-passed}
 use Rattle.refusals.specs.Refusals.{kindOf}
 use Rattle.refusals.specs.declared.Reply.{Reply}
 use Rattle.refusals.specs.declared.Reply.the-variants.{ConnAck, Ack, LongAck, Turn}
 use Rattle.refusals.specs.declared.Verdict.{Verdict}
 use Rattle.refusals.specs.declared.Verdict.the-variants.{Accepted, ProfileOutOfRange, ShortOverLong, Unsound, OutOfTurn}
-use Rattle.queuing.specs.Station.{storeStation, queuedIn}
+use Rattle.queuing.specs.Station.{withSender, storeStation, queuedIn}
 use Rattle.queuing.specs.declared.Station.{Station}
-use Rattle.verdicts.specs.Verdicts.{stationOk, passed, standing, firstOf, queueVerdict, receiveVerdict, burstVerdict}
-use Rattle.demand.specs.Lists.{Call, queues, hears, bursts, State, next}
-use Rattle.demand.proofs.Answers.{queue-yes, queue-no, hear-yes, hear-no, burst-yes, burst-no}
+use Rattle.verdicts.specs.Verdicts.{stationOk, passed, standing, firstOf, queueVerdict, receiveVerdict, framesVerdict, burstVerdict}
+use Rattle.demand.specs.Lists.{Call, queues, hears, receives, bursts, State, next}
+use Rattle.demand.proofs.Answers.{queue-yes, queue-no, hear-yes, hear-no, frames-yes, frames-no, burst-yes, burst-no}
 
 -- a record that is not connected awaits nothing
 abbrev pub Quiet : State → Type 0
@@ -57,7 +59,7 @@ module _ (p : Profile) (t : Station) (a : List ℕ) where
   abbrev s : Sender
   s = t .sender
 
-  stands-on : passed (standing p t a false) ≡ true → s .link .connected ≡ true
+  pub stands-on : passed (standing p t a false) ≡ true → s .link .connected ≡ true
   unfolding standing
   stands-on e = in-turn (inRange p) (inOrder p) (stationOk p t a) (s .link .connected) false e
 
@@ -79,6 +81,19 @@ module _ (p : Profile) (t : Station) (a : List ℕ) where
     reply-on (Ack r) b e = either On (s .link .awaiting) _ _ (stands-on e) (stands-on e)
     reply-on (LongAck r) b e = long-on r (ackOf b) (stands-on e)
     reply-on (Turn r) b e = stands-on e
+
+-- ---- a reception
+
+frames-on : (p : Profile) (h : Heard) (fs : List Decoded) (t : Station) (a : List ℕ) → t .sender .link .connected ≡ true → On (framesHeard p h fs (t .sender, a))
+unfolding framesHeard
+frames-on p h [] t a e = e
+frames-on p h (f ∷ fs) t a e =
+    by (λ (c : Sender × List ℕ). On (framesHeard p h fs c)) (isRead f)
+    (λ _.
+    let g = flagsOf (f .flags) in
+    let i = ackOf (f .payload) in
+    let x = longRead p h g i (t .sender) a in frames-on p h fs (withSender t (x .0)) (x .1) (long-on p t a h g i e))
+    (λ _. frames-on p h fs t a e)
 
 -- ---- all calls
 
@@ -107,6 +122,13 @@ quiet-next p (hears h r b) c q =
     (λ e. subst Quiet (sym (hear-yes p c h r b e))
     (λ f. absurd (false≢true (sym f ∙ reply-on p (c .0) (c .1) h r b (first-passed (standing p (c .0) (c .1) (eqb (kindOf r) 0)) _ e)))))
     (λ e. subst Quiet (sym (hear-no p c h r b e)) q)
+quiet-next p (receives h r b) c q =
+    test (passed (framesVerdict p (c .0) (c .1) h (r .n)))
+    (λ e. subst Quiet (sym (frames-yes p c h r b e))
+    (λ f.
+    let on = stands-on p (c .0) (c .1) (frames-passed p (c .0) (c .1) h (r .n) e .standing) in
+    absurd (false≢true (sym f ∙ frames-on p h (decodedIn r b) (c .0) (c .1) on))))
+    (λ e. subst Quiet (sym (frames-no p c h r b e)) q)
 quiet-next p (bursts out) c q =
     test (passed (burstVerdict p (c .0) (c .1) (length out)))
     (λ e. subst Quiet (sym (burst-yes p c out e))

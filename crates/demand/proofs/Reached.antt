@@ -31,13 +31,14 @@ use Rattle.laws.specs.Bytes.{Bytes}
 use Rattle.invariant.proofs.Well.{Well, fresh-well}
 use Rattle.refusals.specs.declared.Verdict.{Verdict}
 use Rattle.refusals.specs.Refusals.{kindOf}
-use Rattle.verdicts.specs.Verdicts.{passed, takenBy, standing, firstOf, queueVerdict, receiveVerdict, burstVerdict}
-use Rattle.verdicts.proofs.Passed.{standing-three}
-use Rattle.demand.specs.Lists.{Call, queues, hears, bursts, State, Given, freshStart, shown, next, told}
+use Rattle.verdicts.specs.Verdicts.{passed, takenBy, standing, firstOf, queueVerdict, receiveVerdict, framesVerdict, burstVerdict}
+use Rattle.verdicts.proofs.Passed.{standing-three, frames-passed}
+use Rattle.demand.specs.Lists.{Call, queues, hears, receives, bursts, State, Given, freshStart, shown, next, told}
 use Rattle.demand.specs.Page.{messages, c, s, t}
 use Rattle.demand.specs.PageCode.{sizesFor, Reached}
-use Rattle.demand.proofs.Answers.{queue-no, queue-told, hear-no, hear-told, burst-no, burst-silent, burst-verdict}
-use Rattle.demand.proofs.Steps.{sizes, Ok, waiting-length, call, does}
+use Rattle.demand.proofs.Answers.{queue-no, queue-told, hear-no, hear-told, frames-no, frames-told, burst-no, burst-silent, burst-verdict}
+use Rattle.demand.proofs.Steps.{sizes, Ok, waiting-length}
+use Rattle.demand.proofs.AllCalls.{call, does}
 use Rattle.demand.proofs.Connected.{Quiet, quiet-next}
 use Rattle.demand.proofs.Sends.{sends}
 use Rattle.limits.specs.Limits.{minPayload, maxTaken}
@@ -104,6 +105,11 @@ module _ (p : Profile) (n : ℕ) (refused : (connect : Bool) → passed (standin
   stays (hears h r b) =
       let e = first-no (standing p freshStation (replicate n 0) (eqb (kindOf r) 0)) _ (refused (eqb (kindOf r) 0)) in
       (hear-no p (freshStart n) h r b e, hear-told p (freshStart n) h r b false e)
+  stays (receives h r b) =
+      let v = framesVerdict p freshStation (replicate n 0) h (r .n) in
+      let e : passed v ≡ false =
+      test (passed v) (λ t. absurd (false≢true (sym (refused false) ∙ frames-passed p freshStation (replicate n 0) h (r .n) t .standing))) (λ t. t) in
+      (frames-no p (freshStart n) h r b e, frames-told p (freshStart n) h r b false e)
   stays (bursts out) =
       let e = first-no (standing p freshStation (replicate n 0) false) _ (refused false) in
       (burst-no p (freshStart n) out e, burst-silent p (freshStart n) out e)

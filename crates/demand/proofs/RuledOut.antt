@@ -13,7 +13,7 @@ use Rattle.ledger.specs.Queue.{enqueue, superseded, flies, begins, message}
 use Rattle.ledger.specs.Station.{Station}
 use Rattle.ledger.specs.Tally.{Event, start, queued, sentOut, heard}
 use Rattle.ledger.specs.Calls.{run, history, tally}
-use Rattle.ledger.specs.CallsCode.{Move, idle, queues, hears, turns, bursts, freshStation, step, event}
+use Rattle.ledger.specs.CallsCode.{Move, idle, queues, hears, receives, turns, bursts, freshStation, step, event}
 use Rattle.demand.specs.Page.{Accounts}
 
 abbrev sizes : Sizes
@@ -43,6 +43,7 @@ abbrev nothing-settled : Move → Station → Station
 nothing-settled (hears r keep) s = with clearBurst s
 nothing-settled idle s = s
 nothing-settled (queues c l bs) s = step sizes (queues c l bs) s
+nothing-settled (receives xs) s = step sizes (receives xs) s
 nothing-settled turns s = step sizes turns s
 nothing-settled (bursts g) s = step sizes (bursts g) s
 
@@ -51,6 +52,7 @@ abbrev all-settled : Move → Station → Station
 all-settled (hears r keep) s = with (hearAck 2 (all (r .number)) keep) s
 all-settled idle s = s
 all-settled (queues c l bs) s = step sizes (queues c l bs) s
+all-settled (receives xs) s = step sizes (receives xs) s
 all-settled turns s = step sizes turns s
 all-settled (bursts g) s = step sizes (bursts g) s
 
@@ -59,6 +61,7 @@ abbrev count-invented : Move → Station → Station
 count-invented (hears r keep) s = with invented (step sizes (hears r keep) s)
 count-invented idle s = s
 count-invented (queues c l bs) s = step sizes (queues c l bs) s
+count-invented (receives xs) s = step sizes (receives xs) s
 count-invented turns s = step sizes turns s
 count-invented (bursts g) s = step sizes (bursts g) s
 
@@ -67,6 +70,7 @@ byte-altered (bursts g) s = with other-byte (step sizes (bursts g) s)
 byte-altered idle s = s
 byte-altered (queues c l bs) s = step sizes (queues c l bs) s
 byte-altered (hears r keep) s = step sizes (hears r keep) s
+byte-altered (receives xs) s = step sizes (receives xs) s
 byte-altered turns s = step sizes turns s
 
 -- a new message goes last, whatever its class
@@ -79,6 +83,7 @@ in-order-of-arrival (queues c l bs) s =
     }
 in-order-of-arrival idle s = s
 in-order-of-arrival (hears r keep) s = step sizes (hears r keep) s
+in-order-of-arrival (receives xs) s = step sizes (receives xs) s
 in-order-of-arrival turns s = step sizes turns s
 in-order-of-arrival (bursts g) s = step sizes (bursts g) s
 
@@ -87,6 +92,7 @@ abbrev older-stays : Move → Station → Station
 older-stays (queues c l bs) s = step sizes (queues c 0 bs) s
 older-stays idle s = s
 older-stays (hears r keep) s = step sizes (hears r keep) s
+older-stays (receives xs) s = step sizes (receives xs) s
 older-stays turns s = step sizes turns s
 older-stays (bursts g) s = step sizes (bursts g) s
 
@@ -97,6 +103,7 @@ begun-withdrawn (queues c l bs) s =
     (record { sender = s .sender; queue = record { begun = false; messages = s .queue .messages }; withdrawn = s .withdrawn })
 begun-withdrawn idle s = s
 begun-withdrawn (hears r keep) s = step sizes (hears r keep) s
+begun-withdrawn (receives xs) s = step sizes (receives xs) s
 begun-withdrawn turns s = step sizes turns s
 begun-withdrawn (bursts g) s = step sizes (bursts g) s
 
@@ -107,6 +114,7 @@ uncounted (queues c l bs) s =
     record { sender = x .sender; queue = x .queue; withdrawn = s .withdrawn }
 uncounted idle s = s
 uncounted (hears r keep) s = step sizes (hears r keep) s
+uncounted (receives xs) s = step sizes (receives xs) s
 uncounted turns s = step sizes turns s
 uncounted (bursts g) s = step sizes (bursts g) s
 

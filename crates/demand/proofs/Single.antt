@@ -49,26 +49,29 @@ use Rattle.refusals.specs.Refusals.{numberOf, kindOf}
 use Rattle.report.specs.declared.ack.AckRead.{AckRead}
 use Rattle.report.specs.declared.ack.AckRead.the-variants.{TooShort, Info}
 use Rattle.report.specs.Ack.{ackOf}
-use Rattle.verdicts.specs.Verdicts.{passed, stationOk, takenBy, firstOf, standing, roomVerdict, replyVerdict, outputVerdict}
-use Rattle.verdicts.specs.Verdicts.{queueVerdict, receiveVerdict, burstVerdict}
+use Rattle.verdicts.specs.Verdicts.{passed, stationOk, takenBy, firstOf, standing, roomVerdict, replyVerdict, hearingVerdict, framesStanding, outputVerdict}
+use Rattle.verdicts.specs.Verdicts.{queueVerdict, receiveVerdict, framesVerdict, burstVerdict}
 use Rattle.receive.specs.Accepted.{acceptedReply}
+use Rattle.reception.specs.Reception.{decodedIn, framesHeard}
+use Rattle.reception.specs.declared.Reception.{Reception}
 use Rattle.outgoing.specs.Outgoing.{burstOf}
 use Rattle.outgoing.specs.declared.Outgoing.{Outgoing}
-use Rattle.sender.specs.Base.{standingBase, queueVerdictBase, queueBase, receiveBase, burstBase}
-use Rattle.sender.specs.Calls.{queueOf, receiveOf, noBurst, burstCall}
+use Rattle.sender.specs.Base.{standingBase, queueVerdictBase, queueBase, receiveBase, framesBase, burstBase}
+use Rattle.sender.specs.Calls.{queueOf, receiveOf, framesOf, noBurst, burstCall}
 use Rattle.sender.specs.declared.Answer.{Answer}
 use Rattle.sender.specs.declared.Bursted.{Bursted}
-use Rattle.demand.specs.Lists.{Call, queues, hears, bursts, State, Given, freshStart, shown, next}
+use Rattle.demand.specs.Lists.{Call, queues, hears, receives, bursts, State, Given, freshStart, shown, next}
 use Rattle.demand.specs.Single.{BaseCall, plain, Said, justVerdict, BaseState, nextBase, saidBase, allSaidBase, said, tooMany, erased, allSaid, OneClass, SingleClass}
 use Rattle.laws.specs.Bytes.{Bytes}
 use Rattle.messages.specs.SoundCode.{SoundMessages}
-use Rattle.sender.proofs.Refused.{queue-verdict, receive-verdict, burst-verdict}
+use Rattle.sender.proofs.Refused.{queue-verdict, receive-verdict, frames-verdict, burst-verdict}
 use Rattle.verdicts.proofs.Passed.{queue-passed, queue-room}
 use Rattle.replies.specs.declared.LongAck as B
-use Rattle.demand.proofs.Answers.{queue-no, hear-no, burst-no}
+use Rattle.demand.proofs.Answers.{queue-no, hear-no, frames-no, burst-no}
 use Rattle.demand.proofs.OneClass.{AllOf, single, superseded-none as superseded-nothing, enqueue-all, flies-all}
 use Rattle.demand.proofs.Connected.{quiet-next}
-use Rattle.demand.proofs.Steps.{does, call, callOf, longCallOf}
+use Rattle.demand.proofs.Steps.{callOf, longCallOf}
+use Rattle.demand.proofs.AllCalls.{does, call}
 use Rattle.demand.proofs.Reached.{Fit, fresh-fit, stays, refused-by}
 
 abbrev core : State → BaseState
@@ -162,6 +165,22 @@ module _ (p : Profile) (c : State) (ok : Listed c) where
       ap justVerdict (receive-verdict p (c .0) (c .1) h r b ∙ reply-verdict),
     )
 
+  module _ (h : Heard) (r : Reception) (b : List ℕ) where
+    abbrev vf : Verdict
+    vf = framesVerdict p (c .0) (c .1) h (r .n)
+
+    frames-verdict-same : vf ≡ firstOf (framesStanding (standingBase p s (c .1) false) (r .n)) (hearingVerdict (s .link .«last_time») h)
+    unfolding framesVerdict
+    frames-verdict-same = ap (λ (v : Verdict). firstOf (framesStanding v (r .n)) (hearingVerdict (s .link .«last_time») h)) (standing-same p c ok false)
+
+    frames-same : Same p c (receives h r b)
+    unfolding framesOf framesBase
+    frames-same = (
+      by₂ (λ (y : Answer × List ℕ) (z : BaseState). (y .0 .next .sender, y .1) ≡ z) (passed vf) (λ t. refl) (λ t. refl)
+          ∙ ap (λ (v : Verdict). cond (passed v) (framesHeard p h (decodedIn r b) (s, c .1)) (core c)) frames-verdict-same,
+      ap justVerdict (frames-verdict p (c .0) (c .1) h r b ∙ frames-verdict-same),
+    )
+
   module _ (out : List ℕ) where
     abbrev vb : Verdict
     vb = burstVerdict p (c .0) (c .1) (length out)
@@ -246,6 +265,7 @@ not-passed v w e t = ne-eqb (numberOf v) 0 (λ z. omega (arith, z, eqb-true (num
 many-stays : (p : Profile) (i : Call) (c : State) → tooMany p i c ≡ true → next p i c ≡ c
 many-stays p (queues k l bs) c t = queue-no p c k l bs (not-passed _ _ (queue-verdict p (c .0) (c .1) k l bs) t)
 many-stays p (hears h r b) c t = hear-no p c h r b (not-passed _ _ (receive-verdict p (c .0) (c .1) h r b) t)
+many-stays p (receives h r b) c t = frames-no p c h r b (not-passed _ _ (frames-verdict p (c .0) (c .1) h r b) t)
 many-stays p (bursts out) c t = burst-no p c out (not-passed _ _ (burst-verdict p (c .0) (c .1) out) t)
 
 not-many : (p : Profile) (c : State) (k l : ℕ) (bs : List ℕ) → tooMany p (queues k l bs) c ≡ false
@@ -299,6 +319,7 @@ module _ (p : Profile) (rg : Ranged p) (io : inOrder p ≡ true) (six : length (
       (λ _. h)
   plain-after (hears h r b) c o a =
       by (After c) (passed (receiveVerdict p (c .0) (c .1) h r (length b))) (λ _. reply-plain c r b a) (λ _. a)
+  plain-after (receives h r b) c o a = by (After c) (passed (framesVerdict p (c .0) (c .1) h (r .n))) (λ _. a) (λ _. a)
   plain-after (bursts out) c o h =
       by (After c) (passed (burstVerdict p (c .0) (c .1) (length out))) (λ _. (flies-all k _ (shown c .queue) (h .0), h .1)) (λ _. h)
 
@@ -319,6 +340,7 @@ module _ (p : Profile) (rg : Ranged p) (io : inOrder p ≡ true) (six : length (
       (queue-does p c ok k low bs
       (λ _. queued-last p c ok k low bs (v .1 .0) counted (w .well .bytes) (w .well .arrays) (w .listed) bs refl) (plain-few p c k j l bs o t))
   same-through (hears h r b) c g o v ok t = reply-same p c ok h r b
+  same-through (receives h r b) c g o v ok t = frames-same p c ok h r b
   same-through (bursts out) c g o v ok t = burst-same p c ok out
 
   through : (n : ℕ) → areaBytes ≤ n → (is : List Call) → Along (next p) Given is (freshStart n) → Along (next p) (OneClass k) is (freshStart n) → Ends p is (freshStart n)
@@ -343,6 +365,7 @@ module _ (p : Profile) (n : ℕ) (no : (inRange p && inOrder p) ≡ true → are
       plain-same p (freshStart n) k j l bs o
       (queue-does p (freshStart n) fresh-listed k low bs (λ e. absurd (never bs e)) (plain-few p (freshStart n) k j l bs o t))
   same-refused (hears h r b) o t = reply-same p (freshStart n) fresh-listed h r b
+  same-refused (receives h r b) o t = frames-same p (freshStart n) fresh-listed h r b
   same-refused (bursts out) o t = burst-same p (freshStart n) fresh-listed out
 
   refused : (is : List Call) → Along (next p) Given is (freshStart n) → Along (next p) (OneClass k) is (freshStart n) → Ends p is (freshStart n)

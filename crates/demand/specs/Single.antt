@@ -17,20 +17,23 @@ use Rattle.replies.specs.declared.Heard.{Heard}
 use Rattle.refusals.specs.declared.Verdict.{Verdict}
 use Rattle.refusals.specs.declared.Reply.{Reply}
 use Rattle.refusals.specs.Refusals.{numberOf}
-use Rattle.sender.specs.Base.{queueBase, receiveBase, burstBase}
-use Rattle.sender.specs.Calls.{queueOf, receiveOf, noBurst, burstCall}
-use Rattle.demand.specs.Lists.{Call, queues, hears, bursts, State, Given, freshStart, next}
+use Rattle.reception.specs.declared.Reception.{Reception}
+use Rattle.sender.specs.Base.{queueBase, receiveBase, framesBase, burstBase}
+use Rattle.sender.specs.Calls.{queueOf, receiveOf, framesOf, noBurst, burstCall}
+use Rattle.demand.specs.Lists.{Call, queues, hears, receives, bursts, State, Given, freshStart, next}
 
 -- a call of the base
 pub data BaseCall : Type 0 where
   queuesBytes : List ℕ → BaseCall
   hearsReply : Heard → Reply → List ℕ → BaseCall
+  hearsFrames : Heard → Reception → List ℕ → BaseCall
   burstsInto : List ℕ → BaseCall
 
 -- class and label left off
 abbrev pub plain : Call → BaseCall
 plain (queues k l bs) = queuesBytes bs
 plain (hears h r b) = hearsReply h r b
+plain (receives h r b) = hearsFrames h r b
 plain (bursts out) = burstsInto out
 
 -- what a call answers: its verdict, a burst and the output
@@ -51,11 +54,13 @@ module _ (p : Profile) where
   abbrev pub nextBase : BaseCall → BaseState → BaseState
   nextBase (queuesBytes bs) c = queueBase p (c .0) (c .1) bs .1
   nextBase (hearsReply h r b) c = receiveBase p (c .0) (c .1) h r b .1
+  nextBase (hearsFrames h r b) c = framesBase p (c .0) (c .1) h r b .1
   nextBase (burstsInto out) c = let x = burstBase p (c .0) (c .1) out .1 in (x .0 .1, x .1 .0)
 
   abbrev pub saidBase : BaseCall → BaseState → Said
   saidBase (queuesBytes bs) c = justVerdict (queueBase p (c .0) (c .1) bs .0)
   saidBase (hearsReply h r b) c = justVerdict (receiveBase p (c .0) (c .1) h r b .0)
+  saidBase (hearsFrames h r b) c = justVerdict (framesBase p (c .0) (c .1) h r b .0)
   saidBase (burstsInto out) c = let x = burstBase p (c .0) (c .1) out in record { verdict = x .0; outgoing = x .1 .0 .0; out = x .1 .1 .1 }
 
   abbrev pub allSaidBase : List BaseCall → BaseState → List Said
@@ -67,6 +72,7 @@ module _ (p : Profile) where
   abbrev pub said : Call → State → Said
   said (queues k l bs) c = justVerdict (queueOf p (c .0) (c .1) k l bs .0 .verdict)
   said (hears h r b) c = justVerdict (receiveOf p (c .0) (c .1) h r b .0 .verdict)
+  said (receives h r b) c = justVerdict (framesOf p (c .0) (c .1) h r b .0 .verdict)
   said (bursts out) c = let x = burstCall p (c .0) (c .1) out in record { verdict = x .0 .verdict; outgoing = x .0 .outgoing; out = x .1 .1 }
 
   -- refused by 12
@@ -86,6 +92,7 @@ module _ (p : Profile) where
 abbrev pub OneClass : ℕ → Call → State → Type 0
 OneClass k (queues j l bs) c = (j ≡ k) × (l ≡ 0)
 OneClass k (hears h r b) c = Unit {0}
+OneClass k (receives h r b) c = Unit {0}
 OneClass k (bursts out) c = Unit {0}
 
 abbrev pub SingleClass : Type 0

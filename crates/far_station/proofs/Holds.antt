@@ -17,17 +17,18 @@ use borrow.Author.Tests.{ne-eqb}
 use lib.Ieee.{Float, binary64, add, le}
 use lib.Ieee.Bits.{is-true}
 use lib.ListN.{length}
+use Rattle.laws.specs.Bytes.{Bytes}
 use Rattle.laws.proofs.Picks.{test, by, by₂, either, and-second}
 use Rattle.ieee.specs.Range.{w64, inside}
 use Rattle.ieee.proofs.Tests.{yes}
 use Rattle.ieee.proofs.Value.{le-trans, le-refl, le-no-nan}
-use Rattle.report.specs.Ack.{ackOf}
+use Rattle.report.specs.Ack.{infoOf, ackOf}
 use Rattle.report.specs.declared.ack.AckInfo.{AckInfo}
 use Rattle.report.specs.declared.ack.AckRead.{AckRead}
 use Rattle.report.specs.declared.ack.AckRead.the-variants.{TooShort, Info}
 use Rattle.config.specs.declared.Profile.{Profile}
 use Rattle.config.specs.Ranged.{Ranged}
-use Rattle.config.specs.Ranges.{inOrder}
+use Rattle.config.specs.Ranges.{inRange, inOrder}
 use Rattle.gear.specs.declared.Gear.{Gear}
 use Rattle.gear.specs.declared.Outcome.{Outcome}
 use Rattle.gear.specs.Judging.{failHold, onAck}
@@ -45,7 +46,7 @@ use Rattle.ledger.specs.Sizes.{Sizes}
 use Rattle.ledger.specs.Sound.{Sound}
 use Rattle.ledger.specs.Reply as R
 use Rattle.ledger.specs.Reply.{shortAck, longAck}
-use Rattle.ledger.specs.Tally.{Tally, Event, reply, turn, nothing, outstanding, feed}
+use Rattle.ledger.specs.Tally.{Tally, Event, silent, reply, replies, turn, Outstanding, nothing, outstanding, heard, feed}
 use Rattle.ledger.proofs.Agree.{Agree}
 use Rattle.ledger.proofs.Kept.{step-agree, step-queue}
 use Rattle.record.specs.Profiles.{sizesOf}
@@ -65,14 +66,19 @@ use Rattle.receive.specs.Accepted.{longRead, acceptedReply}
 use Rattle.outgoing.specs.Outgoing.{burstOf}
 use Rattle.refusals.specs.declared.Reply.{Reply}
 use Rattle.refusals.specs.declared.Reply.the-variants.{ConnAck, Ack, LongAck, Turn}
-use Rattle.refusals.specs.Refusals.{timeOk}
-use Rattle.verdicts.specs.Verdicts.{passed, queueVerdict, receiveVerdict, burstVerdict}
-use Rattle.verdicts.proofs.Passed.{reply-passed}
-use Rattle.demand.specs.Lists.{Call, queues, hears, bursts, State, Given, shown, longEvent, replyEvent, next, told}
-use Rattle.demand.proofs.Answers.{queue-yes, queue-no, hear-yes, hear-no, hear-told, burst-yes, burst-no}
+use Rattle.refusals.specs.Refusals.{timeOk, heardOk}
+use Rattle.verdicts.specs.Verdicts.{passed, queueVerdict, receiveVerdict, framesVerdict, burstVerdict}
+use Rattle.verdicts.proofs.Passed.{reply-passed, Receives, frames-passed}
+use Rattle.demand.specs.Lists.{Call, queues, hears, receives, bursts, State, Given, shown, longEvent, replyEvent, repliesIn, next, told}
+use Rattle.demand.specs.AsSingles.{singlesOf}
+use Rattle.reception.specs.Reception.{Decoded, decodedIn, isRead, flagsOf}
+use Rattle.reception.specs.declared.Reception.{Reception}
+use Rattle.demand.proofs.Answers.{queue-yes, queue-no, hear-yes, hear-no, hear-told, frames-no, frames-told, burst-yes, burst-no}
 use Rattle.demand.proofs.Connected.{quiet-next}
 use Rattle.demand.proofs.Values.{time-in}
-use Rattle.demand.proofs.Steps.{Ok, sizes, call, does}
+use Rattle.demand.proofs.Steps.{Ok, sizes}
+use Rattle.demand.proofs.AllCalls.{typed, call, does}
+use Rattle.demand.proofs.AsSingles.{single, EachBytes, each-bytes, Takes, after-takes, next-is, told-is, finds, as-singles}
 use Rattle.demand.proofs.Reached.{Fit}
 use Rattle.far_station.specs.CannotForce.{judges, judgedBy, lastJudged, latest, EndsBy}
 
@@ -81,11 +87,20 @@ use Rattle.far_station.specs.CannotForce.{judges, judgedBy, lastJudged, 
 abbrev pub Idle : L.Sender → Type 0
 Idle s = s .awaited ≡ false → s .sent ≡ []
 
+idle-ack : (z : Sizes) (r : R.Reply) (keep : Bool) (s : L.Sender) → Idle s → Idle (hearAck (z .top) r keep s)
+unfolding hearAck clearBurst settleBurst
+idle-ack z r keep s i = by Idle (s .awaited) (λ w. either Idle (settles r s) _ _ (λ e. refl) (λ e. refl)) (λ w. i)
+
+idle-all : (z : Sizes) (xs : List (R.Reply × Bool)) (s : L.Sender) → Idle s → Idle (C.hearAll (z .top) xs s)
+idle-all z [] s i = i
+idle-all z (x ∷ xs) s i = idle-all z xs (hearAck (z .top) (x .0) (x .1) s) (idle-ack z (x .0) (x .1) s i)
+
 idle-step : (z : Sizes) (k : C.Move) (q : Queue) (s : L.Sender) → Idle s → Idle (C.senderAfter z k q s)
-unfolding hearAck requeue clearBurst settleBurst dataBurst
+unfolding requeue clearBurst dataBurst
 idle-step z C.idle q s i = i
 idle-step z (C.queues c l bs) q s i = i
-idle-step z (C.hears r keep) q s i = by Idle (s .awaited) (λ w. either Idle (settles r s) _ _ (λ e. refl) (λ e. refl)) (λ w. i)
+idle-step z (C.hears r keep) q s i = idle-ack z r keep s i
+idle-step z (C.receives xs) q s i = idle-all z xs s i
 idle-step z C.turns q s i = λ e. refl
 idle-step z (C.bursts g) q s i = λ e. absurd (false≢true (sym e))
 
@@ -276,20 +291,15 @@ module _ (p : Profile) (rg : Ranged p) (io : inOrder p ≡ true) (six : length (
       subst (After (told p (hears h r b) c)) (sym (hear-no p c h r b e))
       (subst (λ (y : Event). After y c) (sym (hear-told p c h r b false e)) (k .bounded)))
 
-  call-bounded : (i : Call) (c : State) (t : Tally) (j : Option Float) → Carried c t j
-      → Bounded (judgedBy i (told p i c) (t .out) j) (next p i c .0 .sender)
-  call-bounded (queues k l bs) c t j b =
-      same-bounded j (c .0 .sender) (next p (queues k l bs) c .0 .sender) (queue-same k l bs c) (b .bounded)
-  call-bounded (bursts out) c t j b = same-bounded j (c .0 .sender) (next p (bursts out) c .0 .sender) (burst-same out c) (b .bounded)
-  call-bounded (hears h r pl) c t j b = hear-bounded h r pl c t j b
-
   shown-sound : (c : State) → Ok p rg io six c → Sound (sizesOf p) (shown c .sender)
   unfolding viewStation
   shown-sound c w = w .well .sound .ledger
 
-  carried-next : (i : Call) (c : State) (t : Tally) (j : Option Float) → Given i c → Carried c t j
+  -- what is carried over a call, where its bound is
+  carried-step : (i : Call) (c : State) (t : Tally) (j : Option Float) → Given i c → Carried c t j
+      → Bounded (judgedBy i (told p i c) (t .out) j) (next p i c .0 .sender)
       → Carried (next p i c) (feed (told p i c) t) (judgedBy i (told p i c) (t .out) j)
-  carried-next i c t j g b =
+  carried-step i c t j g b bound =
       let d = does p rg io six i c g (b .fit .0) (b .fit .1) in
       let k = call p rg io six i c in
       let z = sizesOf p in
@@ -299,8 +309,86 @@ module _ (p : Profile) (rg : Ranged p) (io : inOrder p ≡ true) (six : length (
         queue = rw (d .steps, d .tells) (step-queue z (sizes p rg io six) k (shown c) t (d .allowed) so (b .queue) (b .agree));
         agree = rw (d .steps, d .tells) (step-agree z (sizes p rg io six) k (shown c) t (d .allowed) so (b .queue) (b .agree));
         idle = rw (d .steps) (idle-step (sizesOf p) k (C.queueAfter k (shown c)) (shown c .sender) (b .idle));
-        bounded = call-bounded i c t j b;
+        bounded = bound;
       }
+
+  -- ---- a reception, by its single calls
+
+  -- where none is outstanding none is judged
+  none-judged : (rs : List R.Reply) → judges (replies rs) nothing ≡ false
+  none-judged [] = refl
+  none-judged (r ∷ rs) = refl
+
+  first-judged : (r : R.Reply) (rs : List R.Reply) (out : Outstanding) → judges (replies (r ∷ rs)) out ≡ judges (reply r) out
+  first-judged r rs nothing = refl
+  first-judged r rs (outstanding n fs) = refl
+
+  heard-none : (r : R.Reply) (t : Tally) → feed (reply r) t .out ≡ nothing
+  unfolding heard
+  heard-none r t = refl
+
+  module _ (h : Heard) where
+    singles-carried : (fs : List Decoded) (c : State) (t : Tally) (j : Option Float) → EachBytes fs → Carried c t j
+        → Bounded (lastJudged p (singlesOf h fs) c t j) (run (next p) (singlesOf h fs) c .0 .sender)
+    singles-carried [] c t j b k = k .bounded
+    singles-carried (f ∷ fs) c t j b k =
+        by (λ (is : List Call). Bounded (lastJudged p is c t j) (run (next p) is c .0 .sender)) (isRead f)
+        (λ e.
+        let i = single h f in
+        let bound = hear-bounded h (LongAck (flagsOf (f .flags))) (f .payload) c t j k in
+        singles-carried fs (next p i c) (feed (told p i c) t) (judgedBy i (told p i c) (t .out) j) (b .1) (carried-step i c t j (b .0) k bound))
+        (λ e. singles-carried fs c t j (b .1) k)
+
+    module _ (ir : inRange p ≡ true) (ok : heardOk h ≡ true) where
+      singles-judged : (fs : List Decoded) (c : State) (t : Tally) (j : Option Float) → EachBytes fs → Takes p rg ir io h ok c
+          → lastJudged p (singlesOf h fs) c t j ≡ cond (judges (replies (repliesIn fs)) (t .out)) (some (h .time)) j
+      singles-judged [] c t j b k = refl
+      singles-judged (f ∷ fs) c t j b k =
+          by₂ (λ (is : List Call) (rs : List R.Reply). lastJudged p is c t j ≡ cond (judges (replies rs) (t .out)) (some (h .time)) j) (isRead f)
+          (λ e.
+          let i = single h f in
+          let r = longAck (infoOf (f .payload) .burst) (infoOf (f .payload) .bitmap) in
+          let k′ = subst (Takes p rg ir io h ok) (sym (next-is p rg ir io h ok f c k e)) (after-takes p rg ir io h ok f c e (b .0) k) in
+          let j′ = judgedBy i (told p i c) (t .out) j in
+          let ev = told-is p rg ir io h ok f c k e in
+          let none : judges (replies (repliesIn fs)) (feed (told p i c) t .out) ≡ false =
+          ap (λ (x : Event). judges (replies (repliesIn fs)) (feed x t .out)) ev ∙ ap (judges (replies (repliesIn fs))) (heard-none r t) ∙ none-judged (repliesIn fs) in
+          singles-judged fs (next p i c) (feed (told p i c) t) j′ (b .1) k′
+          ∙ ap (λ (x : Bool). cond x (some (h .time)) j′) none
+          ∙ ap (λ (x : Event). cond (judges x (t .out)) (some (h .time)) j) ev
+          ∙ sym (ap (λ (x : Bool). cond x (some (h .time)) j) (first-judged r (repliesIn fs) (t .out))))
+          (λ e. singles-judged fs c t j (b .1) k)
+
+  frames-bounded : (h : Heard) (r : Reception) (b : List ℕ) (c : State) (t : Tally) (j : Option Float) → Bytes b → Carried c t j
+      → Bounded (judgedBy (receives h r b) (told p (receives h r b) c) (t .out) j) (next p (receives h r b) c .0 .sender)
+  frames-bounded h r b c t j by8 k =
+      let After : Event → State → Type 0 = λ e d. Bounded (cond (judges e (t .out)) (some (h .time)) j) (d .0 .sender) in
+      let fs = decodedIn r b in
+      test (passed (framesVerdict p (c .0) (c .1) h (r .n)))
+      (λ e.
+      let q = frames-passed p (c .0) (c .1) h (r .n) e in
+      let ty = typed p rg io six c (k .fit .0) in
+      let bs = each-bytes r b by8 in
+      let takes = finds p rg io h c (r .n) ty q in
+      subst (After (told p (receives h r b) c)) (sym (as-singles p c h r b (q .few) ty by8 .state))
+      (subst (λ (y : Event). After y (run (next p) (singlesOf h fs) c)) (sym (frames-told p c h r b true e))
+      (subst (λ (x : Option Float). Bounded x (run (next p) (singlesOf h fs) c .0 .sender))
+      (singles-judged h (q .stands .0) (q .heard) fs c t j bs takes) (singles-carried h fs c t j bs k))))
+      (λ e.
+      subst (After (told p (receives h r b) c)) (sym (frames-no p c h r b e))
+      (subst (λ (y : Event). After y c) (sym (frames-told p c h r b false e)) (k .bounded)))
+
+  call-bounded : (i : Call) (c : State) (t : Tally) (j : Option Float) → Given i c → Carried c t j
+      → Bounded (judgedBy i (told p i c) (t .out) j) (next p i c .0 .sender)
+  call-bounded (queues k l bs) c t j g b =
+      same-bounded j (c .0 .sender) (next p (queues k l bs) c .0 .sender) (queue-same k l bs c) (b .bounded)
+  call-bounded (bursts out) c t j g b = same-bounded j (c .0 .sender) (next p (bursts out) c .0 .sender) (burst-same out c) (b .bounded)
+  call-bounded (hears h r pl) c t j g b = hear-bounded h r pl c t j b
+  call-bounded (receives h r pl) c t j g b = frames-bounded h r pl c t j g b
+
+  carried-next : (i : Call) (c : State) (t : Tally) (j : Option Float) → Given i c → Carried c t j
+      → Carried (next p i c) (feed (told p i c) t) (judgedBy i (told p i c) (t .out) j)
+  carried-next i c t j g b = carried-step i c t j g b (call-bounded i c t j g b)
 
   pub all-bounded : (is : List Call) (c : State) (t : Tally) (j : Option Float) → Along (next p) Given is c → Carried c t j
       → Each (EndsBy p (lastJudged p is c t j)) (run (next p) is c .0 .sender .gear)

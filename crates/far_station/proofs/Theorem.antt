@@ -24,7 +24,7 @@ use Rattle.record.specs.Fresh.{fresh}
 use Rattle.queuing.specs.Station.{freshStation}
 use Rattle.queuing.proofs.Shown.{fresh-shows}
 use Rattle.verdicts.specs.Verdicts.{passed, standing}
-use Rattle.demand.specs.Lists.{Call, queues, hears, bursts, State, Given, freshStart, shown, next, told}
+use Rattle.demand.specs.Lists.{Call, queues, hears, receives, bursts, State, Given, freshStart, shown, next, told}
 use Rattle.demand.specs.Page.{c as reached}
 use Rattle.demand.proofs.Reached.{stays, refused-by, fresh-fit, well}
 use Rattle.far_station.specs.CannotForce.{judgedBy, lastJudged, EndsBy, NeverStopped, HoldsEnd, CannotForce}
@@ -47,6 +47,7 @@ module _ (p : Profile) (n : ℕ) (refused : (connect : Bool) → passed (standin
   unjudged : (i : Call) (t : Tally) → judgedBy i (told p i (freshStart n)) (t .out) none ≡ none
   unjudged (queues k l bs) t = refl
   unjudged (bursts out) t = refl
+  unjudged (receives h r b) t = ap (λ (e : Event). judgedBy (receives h r b) e (t .out) none) (stays p n refused (receives h r b) .1)
   unjudged (hears h r b) t = ap (λ (e : Event). judgedBy (hears h r b) e (t .out) none) (stays p n refused (hears h r b) .1)
 
   all-stay : (is : List Call) (c : State) (t : Tally) → c ≡ freshStart n

@@ -23,10 +23,10 @@ use Rattle.ledger.specs.Calls.{Along}
 use Rattle.ledger.specs.Claim.{ackedAt}
 use Rattle.ledger.specs.Ledger.{Piece, Frame, size, recut, oldOffs, newPieces}
 use Rattle.ledger.specs.Plan.{planOf}
-use Rattle.ledger.specs.Tally.{Tally, start, Event, silent, took, reply, turn, went, Outstanding, nothing, outstanding, within, feed}
+use Rattle.ledger.specs.Tally.{Tally, start, Event, silent, took, reply, replies, turn, went, Outstanding, nothing, outstanding, within, feed}
 use Rattle.outgoing.specs.Choosing.{choice}
 use Rattle.record.specs.Profiles.{sizesOf}
-use Rattle.demand.specs.Lists.{Call, queues, hears, bursts, State, Given, freshStart, framesAnswered, next, told}
+use Rattle.demand.specs.Lists.{Call, queues, hears, receives, bursts, State, Given, freshStart, framesAnswered, next, told}
 use Rattle.demand.specs.Page.{c as reached, s as shows, t as tallied, answer}
 
 -- ---- 1. acknowledged bytes
@@ -60,6 +60,9 @@ judges silent out = false
 judges (took k l bs) out = false
 judges (reply r) nothing = false
 judges (reply r) (outstanding n fs) = true
+judges (replies []) out = false
+judges (replies (r ∷ rs)) nothing = false
+judges (replies (r ∷ rs)) (outstanding n fs) = true
 judges turn nothing = false
 judges turn (outstanding n []) = false
 judges turn (outstanding n (f ∷ fs)) = true
@@ -69,6 +72,7 @@ judges (went n fs) out = false
 abbrev pub judgedBy : Call → Event → Outstanding → Option Float → Option Float
 judgedBy (queues k l bs) e out j = j
 judgedBy (hears h r payload) e out j = cond (judges e out) (some (h .time)) j
+judgedBy (receives h r payloads) e out j = cond (judges e out) (some (h .time)) j
 judgedBy (bursts o) e out j = j
 
 module _ (p : Profile) where

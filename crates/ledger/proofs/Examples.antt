@@ -6,14 +6,14 @@ use mathlib.Core.Path.{_≡_, refl}
 use mathlib.Core.Bool.{Bool, true, false}
 use mathlib.Core.List.{List, [], _∷_}
 use lib.ListN.{length, replicate}
-use Rattle.ledger.specs.Reply.{shortAck, longAck}
+use Rattle.ledger.specs.Reply.{Reply, shortAck, longAck}
 use Rattle.ledger.specs.Ledger.{Piece, len, split, mergeInflight, requeue, dataBurst, hearAck, settleBurst, clearBurst, Held, Sent, Sender, sentOffs}
 use Rattle.ledger.specs.Queue.{Queue, noQueue, messageBytes, goes, enqueue, superseded, flies, begins}
 use Rattle.ledger.specs.Tally.{Tally, waits, inFlight, acknowledged, start, queued, sentOut, heard, noneOutstanding}
 use Rattle.ledger.specs.Plan.{parity, room}
 use Rattle.ledger.specs.Calls.{run, tally}
 use Rattle.ledger.specs.Sizes.{Sizes}
-use Rattle.ledger.specs.CallsCode.{Move, bursts, queues, hears, turns, step, moveTold, freshStation}
+use Rattle.ledger.specs.CallsCode.{Move, bursts, queues, hears, receives, turns, step, moveTold, freshStation}
 use Rattle.ledger.specs.LedgerCode.{freshLedger}
 
 -- offset and length of each piece
@@ -83,6 +83,26 @@ counts t = t .taken ∷ length (waits t) ∷ inFlight (t .flown) ∷ acknowledge
 after-tally : counts (tally (step sizes) (moveTold sizes) calls freshStation start) ≡ 200 ∷ 20 ∷ 30 ∷ 150 ∷ 0 ∷ []
 unfolding calls dataBurst hearAck settleBurst clearBurst requeue enqueue superseded flies begins queued sentOut heard noneOutstanding
 after-tally = refl
+
+-- ---- a reception: of its acks the first alone can settle, and another burst's number first settles nothing
+
+abbrev receptionOf : List (Reply × Bool) → List Move
+receptionOf xs = queues 3 0 (replicate 200 5) ∷ plan 30 0 4 1 ∷ receives xs ∷ []
+
+abbrev afterReception : List (Reply × Bool) → List ℕ
+afterReception xs = counts (tally (step sizes) (moveTold sizes) (receptionOf xs) freshStation start)
+
+first-settles : afterReception ((longAck 1 10, true) ∷ (longAck 1 15, true) ∷ []) ≡ 200 ∷ 80 ∷ 60 ∷ 60 ∷ 0 ∷ []
+unfolding dataBurst hearAck settleBurst clearBurst requeue enqueue superseded flies begins queued sentOut heard
+first-settles = refl
+
+another-first : afterReception ((longAck 2 15, true) ∷ (longAck 1 15, true) ∷ []) ≡ 200 ∷ 80 ∷ 120 ∷ 0 ∷ 0 ∷ []
+unfolding dataBurst hearAck settleBurst clearBurst requeue enqueue superseded flies begins queued sentOut heard
+another-first = refl
+
+no-ack : afterReception [] ≡ 200 ∷ 80 ∷ 120 ∷ 0 ∷ 0 ∷ []
+unfolding dataBurst hearAck settleBurst clearBurst requeue enqueue superseded flies begins queued sentOut heard
+no-ack = refl
 
 -- ---- a burst's frames, and the held list
 

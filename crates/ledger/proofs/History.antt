@@ -12,7 +12,7 @@ use Rattle.laws.proofs.Picks.{either}
 use Rattle.laws.proofs.Lists.{map-map, map-id, map-append}
 use Rattle.ledger.specs.Reply.{Reply}
 use Rattle.ledger.specs.Ledger.{Frame}
-use Rattle.ledger.specs.Tally.{unacked, byteOf, acknowledge, Flown, acknowledgeAll, acknowledgedBy, Outstanding, nothing, outstanding, Tally, Event, feed, queuedIn, queued, sentOut, heard, turn, noneOutstanding, silent, took, reply, went, furthest, start}
+use Rattle.ledger.specs.Tally.{unacked, byteOf, acknowledge, Flown, acknowledgeAll, acknowledgedBy, Outstanding, nothing, outstanding, Tally, Event, feed, queuedIn, queued, sentOut, heard, turn, noneOutstanding, silent, took, reply, replies, went, heardAll, furthest, start}
 use Rattle.ledger.specs.Queue.{Message, messageBytes, goes, behind, rest, message, count, ofClass, withdraws, Ascending, Sublist}
 use Rattle.ledger.specs.Queue.{enqueue, superseded, flies, begins}
 use Rattle.ledger.specs.Calls.{tally, history}
@@ -154,11 +154,20 @@ module _ (ms : List Message) (t : Tally) (k : Told ms t) where
             ∙ ap (λ (x : List ℕ). x ++ messageBytes (begins j q)) (k .history) ∙ sym (bytes-append (t .began) (begins j q));
       })
 
+heard-told : (r : Reply) (ms : List Message) (t : Tally) → Told ms t → Told (ms ++ []) (heard r t)
+unfolding heard
+heard-told r ms t k = same ms t (heard r t) refl refl refl refl (bytes-answered r (t .out) (t .flown)) k
+
+replies-told : (rs : List Reply) (ms : List Message) (t : Tally) → Told ms t → Told (ms ++ []) (heardAll rs t)
+replies-told [] ms t k = same ms t t refl refl refl refl refl k
+replies-told (r ∷ rs) ms t k = replies-told rs ms (heard r t) (subst (λ (x : List Message). Told x (heard r t)) (append-nil ms) (heard-told r ms t k))
+
 fed : (e : Event) (ms : List Message) (t : Tally) → Told ms t → Told (ms ++ queuedIn e) (feed e t)
-unfolding heard noneOutstanding
+unfolding noneOutstanding
 fed silent ms t k = same ms t t refl refl refl refl refl k
 fed (took c l bs) ms t k = took-told ms t k c l bs
-fed (reply r) ms t k = same ms t (heard r t) refl refl refl refl (bytes-answered r (t .out) (t .flown)) k
+fed (reply r) ms t k = heard-told r ms t k
+fed (replies rs) ms t k = replies-told rs ms t k
 fed turn ms t k = same ms t (noneOutstanding t) refl refl refl refl refl k
 fed (went n fs) ms t k = went-told ms t k n fs
 

@@ -1,7 +1,7 @@
 -- Every allowed call keeps the record sound and in agreement with the tally, and a piece that is held after it as it was.
 -- Assumes nothing.
 use Prim.Native.Nat.{ℕ, suc, _+_, _≤_}
-use mathlib.Core.Path.{_≡_, refl, sym, ap, ap₂, _∙_}
+use mathlib.Core.Path.{_≡_, refl, sym, ap, ap₂, _∙_, subst}
 use mathlib.Core.Bool.{Bool, true, false, cond, not, _&&_}
 use mathlib.Core.List.{List, [], _∷_, _++_, append-nil}
 use native.Mathlib.Omega.{arith}
@@ -13,19 +13,20 @@ use Rattle.laws.proofs.Picks.{by, and-second, either, and-yes, and-first}
 use Rattle.laws.proofs.Lists.{occurs-append}
 use Rattle.ledger.specs.Reply.{Reply}
 use Rattle.ledger.specs.Ledger.{Held, missed, Sent, Piece, Sender, sentOffs, heldOffs, offs, remaining, settleBurst, clearBurst, requeue, hearAck, settles, Plan, dataBurst, find, size, newPieces}
-use Rattle.ledger.specs.Queue.{Queue, messageBytes, goes, enqueue, superseded, flies}
+use Rattle.ledger.specs.Queue.{Message, Queue, messageBytes, goes, enqueue, superseded, flies}
 use Rattle.ledger.proofs.Queue.{goes-flies, length-enqueue, length-bytes-append}
 use Rattle.ledger.specs.Station.{Station}
-use Rattle.ledger.specs.Tally.{acknowledgedBy, Flown, outstanding, Tally, waits, sentOut, heard, acknowledgeAll, nothing, queued, noneOutstanding, feed}
+use Rattle.ledger.specs.Tally.{acknowledgedBy, Flown, outstanding, Tally, waits, sentOut, heard, acknowledgeAll, nothing, queued, noneOutstanding, heardAll, feed}
 use Rattle.ledger.specs.Sound.{HeldBits, SentBits, Sound, Fits}
 use Rattle.ledger.proofs.Agree.{Agree}
 use Rattle.ledger.proofs.Burst.{burst-taken, burst-sound, burst-agree, burst-takes, burst-keeps}
 use Rattle.ledger.proofs.HeldPieces.{heldOffs-append}
 use Rattle.ledger.proofs.Offsets.{flying-within, Within, within-flying}
+use Rattle.ledger.proofs.Sentences.{not-awaited}
 use Rattle.ledger.proofs.Settle.{ascend-remaining, missed-remaining, ackedBytes-remaining, missed-few, shortFrames-remaining, acknowledgeAll-remaining, find-remaining}
 use Rattle.limits.specs.Limits.{maxSlots, maxWaiting, maxTaken}
 use Rattle.ledger.specs.Sizes.{Sizes}
-use Rattle.ledger.specs.CallsCode.{Allowed, queues, step, Move, idle, hears, turns, bursts, event, moveTold, SoundStation}
+use Rattle.ledger.specs.CallsCode.{Allowed, queues, step, Move, idle, hears, receives, hearAll, repliesOf, turns, bursts, event, moveTold, SoundStation}
 use Rattle.ledger.specs.CoverCode.{Ascend}
 use Rattle.ledger.specs.LedgerCode.{frames, takenOf, freshLedger}
 use Rattle.ledger.specs.SizesCode.{SizeRange}
@@ -161,6 +162,24 @@ module _ (z : Sizes) where
       (λ w. either (λ (x : Sender). Sound z x) (settles r s) _ _ (settle-sound r keep s so) (clear-sound s so))
       (λ w. so)
 
+  -- what every ack keeps, those of a reception keep
+  hear-all : (P : Sender → Type 0) → ((r : Reply) (keep : Bool) (s : Sender) → P s → P (hearAck (z .top) r keep s)) →
+      (xs : List (Reply × Bool)) (s : Sender) → P s → P (hearAll (z .top) xs s)
+  hear-all P f [] s h = h
+  hear-all P f (x ∷ xs) s h = hear-all P f xs (hearAck (z .top) (x .0) (x .1) s) (f (x .0) (x .1) s h)
+
+  -- no ack changes what waits, nor what is taken
+  ack-shows : (w : List ℕ) (r : Reply) (keep : Bool) (s : Sender) → s .waiting ≡ w → hearAck (z .top) r keep s .waiting ≡ w
+  unfolding hearAck settleBurst clearBurst
+  ack-shows w r keep s h =
+      by (λ (x : Sender). x .waiting ≡ w) (s .awaited) (λ _. either (λ (x : Sender). x .waiting ≡ w) (settles r s) _ _ h h) (λ _. h)
+
+  ack-taken : (n : ℕ) (r : Reply) (keep : Bool) (s : Sender) → takenOf s + n ≤ maxTaken → takenOf (hearAck (z .top) r keep s) + n ≤ maxTaken
+  unfolding hearAck settleBurst clearBurst
+  ack-taken n r keep s h =
+      let Few : Sender → Type 0 = λ x. takenOf x + n ≤ maxTaken in
+      by Few (s .awaited) (λ _. either Few (settles r s) _ _ h h) (λ _. h)
+
   pub fresh-sound : Sound z freshLedger
   fresh-sound =
       record {
@@ -189,28 +208,29 @@ module _ (z : Sizes) where
         queue-sound (goes (enqueue c l bs (st .queue))) (st .sender) (al .0)
         (omega (arith, al .1, length-enqueue c l (st .queue) bs, ap length sh)) so
     sender-sound (hears r keep) st al so sh = ack-sound r keep (st .sender) so
+    sender-sound (receives xs) st al so sh = hear-all (Sound z) ack-sound xs (st .sender) so
     sender-sound turns st al so sh = clear-sound (st .sender) so
     sender-sound (bursts g) st al so sh = burst-sound z zr (st .sender) g so al
 
     -- the waiting bytes are the messages'
     sender-shows : (c : Move) (st : Station) → st .sender .waiting ≡ goes (st .queue) → step z c st .sender .waiting ≡ goes (step z c st .queue)
-    unfolding hearAck settleBurst clearBurst requeue dataBurst
+    unfolding clearBurst requeue dataBurst
     sender-shows idle st sh = sh
     sender-shows (queues c l bs) st sh = refl
-    sender-shows (hears r keep) st sh =
-        by (λ (x : Sender). x .waiting ≡ goes (st .queue)) (st .sender .awaited) (λ _. either (λ (x : Sender). x .waiting ≡ goes (st .queue)) (settles r (st .sender)) _ _ sh sh) (λ _. sh)
+    sender-shows (hears r keep) st sh = ack-shows (goes (st .queue)) r keep (st .sender) sh
+    sender-shows (receives xs) st sh = hear-all (λ (x : Sender). x .waiting ≡ goes (st .queue)) (ack-shows (goes (st .queue))) xs (st .sender) sh
     sender-shows turns st sh = sh
     sender-shows (bursts g) st sh = let k = size (newPieces g (st .sender)) in ap (drop k) sh ∙ sym (goes-flies k (st .queue))
 
     -- the bytes taken, those withdrawn among them, grow by those queued alone
     sender-taken : (c : Move) (st : Station) → Allowed z c st → SoundStation z st →
         takenOf (step z c st .sender) + step z c st .withdrawn ≤ maxTaken
-    unfolding hearAck settleBurst clearBurst requeue
+    unfolding clearBurst requeue
     sender-taken idle st al ss = ss .taken
     sender-taken (queues c l bs) st al ss = omega (arith, al .1, length-enqueue c l (st .queue) bs, ap length (ss .shows))
-    sender-taken (hears r keep) st al ss =
-        let Few : Sender → Type 0 = λ x. takenOf x + st .withdrawn ≤ maxTaken in
-        by Few (st .sender .awaited) (λ _. either Few (settles r (st .sender)) _ _ (ss .taken) (ss .taken)) (λ _. ss .taken)
+    sender-taken (hears r keep) st al ss = ack-taken (st .withdrawn) r keep (st .sender) (ss .taken)
+    sender-taken (receives xs) st al ss =
+        hear-all (λ (x : Sender). takenOf x + st .withdrawn ≤ maxTaken) (ack-taken (st .withdrawn)) xs (st .sender) (ss .taken)
     sender-taken turns st al ss = ss .taken
     sender-taken (bursts g) st al ss = omega (arith, ss .taken, burst-taken z zr (st .sender) g (ss .sound) al)
 
@@ -262,6 +282,18 @@ module _ (z : Sizes) where
   unfolding noneOutstanding
   turn-agree s t ag = clear-agree s t (noneOutstanding t) refl refl refl ag
 
+  ack-agree : (r : Reply) (keep : Bool) (s : Sender) (t : Tally) → Sound z s → Agree s t → Agree (hearAck (z .top) r keep s) (heard r t)
+  unfolding hearAck
+  ack-agree r keep s t so ag =
+      by (λ (x : Sender). Agree x (heard r t)) (s .awaited)
+      (λ w. by (λ (x : Sender). Agree x (heard r t)) (settles r s) (λ n. settle-agree r keep s t w n so ag) (λ n. unmatched-agree r s t w n ag))
+      (λ w. not-awaited-agree r s t w ag)
+
+  all-agree : (xs : List (Reply × Bool)) (s : Sender) (t : Tally) → Sound z s → Agree s t → Agree (hearAll (z .top) xs s) (heardAll (repliesOf xs) t)
+  all-agree [] s t so ag = ag
+  all-agree (x ∷ xs) s t so ag =
+      all-agree xs (hearAck (z .top) (x .0) (x .1) s) (heard (x .0) t) (ack-sound (x .0) (x .1) s so) (ack-agree (x .0) (x .1) s t so ag)
+
   module _ (zr : SizeRange z) where
     burst-event : (g : Plan) (s : Sender) (t : Tally) → Fits z s g → Sound z s → Agree s t → Agree (dataBurst g s) (feed (event (bursts g) (dataBurst g s)) t)
     unfolding dataBurst
@@ -269,16 +301,22 @@ module _ (z : Sizes) where
 
     pub step-agree : (c : Move) (st : Station) (t : Tally) → Allowed z c st → Sound z (st .sender) → t .queue ≡ st .queue →
         Agree (st .sender) t → Agree (step z c st .sender) (feed (moveTold z c st) t)
-    unfolding hearAck
     step-agree idle st t al so e ag = ag
     step-agree (queues c l bs) st t al so e ag = queue-agree c l bs (st .queue) (st .sender) t e ag
-    step-agree (hears r keep) st t al so e ag =
-        let s = st .sender in
-        by (λ (x : Sender). Agree x (heard r t)) (s .awaited)
-        (λ w. by (λ (x : Sender). Agree x (heard r t)) (settles r s) (λ n. settle-agree r keep s t w n so ag) (λ n. unmatched-agree r s t w n ag))
-        (λ w. not-awaited-agree r s t w ag)
+    step-agree (hears r keep) st t al so e ag = ack-agree r keep (st .sender) t so ag
+    step-agree (receives xs) st t al so e ag = all-agree xs (st .sender) t so ag
     step-agree turns st t al so e ag = turn-agree (st .sender) t ag
     step-agree (bursts g) st t al so e ag = burst-event g (st .sender) t al so ag
+
+    all-queue : (rs : List Reply) (t : Tally) → heardAll rs t .queue ≡ t .queue
+    unfolding heard
+    all-queue [] t = refl
+    all-queue (r ∷ rs) t = all-queue rs (heard r t)
+
+    all-withdrawn : (rs : List Reply) (t : Tally) → heardAll rs t .withdrawn ≡ t .withdrawn
+    unfolding heard
+    all-withdrawn [] t = refl
+    all-withdrawn (r ∷ rs) t = all-withdrawn rs (heard r t)
 
     -- and the tally's messages are the sender's
     pub step-queue : (c : Move) (st : Station) (t : Tally) → Allowed z c st → Sound z (st .sender) → t .queue ≡ st .queue →
@@ -287,6 +325,7 @@ module _ (z : Sizes) where
     step-queue idle st t al so e ag = e
     step-queue (queues c l bs) st t al so e ag = ap (enqueue c l bs) e
     step-queue (hears r keep) st t al so e ag = e
+    step-queue (receives xs) st t al so e ag = all-queue (repliesOf xs) t ∙ e
     step-queue turns st t al so e ag = e
     step-queue (bursts g) st t al so e ag = ap₂ flies (burst-takes z zr (st .sender) g so al t ag) e
 
@@ -299,6 +338,7 @@ module _ (z : Sizes) where
         let gone = ap (λ (q : Queue). length (messageBytes (superseded l bs q))) e in
         omega (arith, w, gone, length-bytes-append (t .withdrawn) (superseded l bs (t .queue)))
     step-withdrawn (hears r keep) st t e w = w
+    step-withdrawn (receives xs) st t e w = w ∙ sym (ap (λ (ms : List Message). length (messageBytes ms)) (all-withdrawn (repliesOf xs) t))
     step-withdrawn turns st t e w = w
     step-withdrawn (bursts g) st t e w = w
 
@@ -310,6 +350,17 @@ module _ (z : Sizes) where
   settle-keeps r keep s o so h =
       find-remaining (z .long) (s .next) (r .bit (length (s .sent))) 0 o (s .sent) (s .pieces) (so .ascend) (omega (arith, after-within r keep s so o))
 
+  -- after an ack none is awaited, and one that is not awaited changes nothing
+  ack-ends : (r : Reply) (keep : Bool) (s : Sender) → hearAck (z .top) r keep s .awaited ≡ false
+  unfolding hearAck settleBurst clearBurst
+  ack-ends r keep s =
+      by (λ (x : Sender). x .awaited ≡ false) (s .awaited) (λ _. either (λ (x : Sender). x .awaited ≡ false) (settles r s) _ _ refl refl) (λ w. w)
+
+  none-awaited : (xs : List (Reply × Bool)) (s : Sender) → s .awaited ≡ false → hearAll (z .top) xs s ≡ s
+  none-awaited [] s e = refl
+  none-awaited (x ∷ xs) s e =
+      none-awaited xs (hearAck (z .top) (x .0) (x .1) s) (ack-ends (x .0) (x .1) s) ∙ not-awaited (z .top) (x .0) (x .1) s e
+
   clear-pieces : (s : Sender) → clearBurst s .pieces ≡ s .pieces
   unfolding clearBurst
   clear-pieces s = refl
@@ -318,19 +369,28 @@ module _ (z : Sizes) where
   unfolding requeue
   queue-pieces w s = refl
 
+  abbrev KeepsAt : ℕ → Sender → Sender → Type 0
+  KeepsAt o s x = 1 ≤ occurs o (heldOffs (x .held)) → find o (x .pieces) ≡ find o (s .pieces)
+
+  ack-keeps : (r : Reply) (keep : Bool) (s : Sender) (o : ℕ) → Sound z s → KeepsAt o s (hearAck (z .top) r keep s)
+  unfolding hearAck
+  ack-keeps r keep s o so =
+      by (KeepsAt o s) (s .awaited)
+      (λ w. by (KeepsAt o s) (settles r s) (λ n. settle-keeps r keep s o so) (λ n u. rw (clear-pieces s)))
+      (λ w u. refl)
+
+  all-keeps : (xs : List (Reply × Bool)) (s : Sender) (o : ℕ) → Sound z s → KeepsAt o s (hearAll (z .top) xs s)
+  all-keeps [] s o so = λ h. refl
+  all-keeps (x ∷ xs) s o so =
+      subst (KeepsAt o s) (sym (none-awaited xs (hearAck (z .top) (x .0) (x .1) s) (ack-ends (x .0) (x .1) s))) (ack-keeps (x .0) (x .1) s o so)
+
   module _ (zr : SizeRange z) where
     pub step-keeps : (c : Move) (st : Station) (o : ℕ) → Allowed z c st → Sound z (st .sender) →
         1 ≤ occurs o (heldOffs (step z c st .sender .held)) →
         find o (step z c st .sender .pieces) ≡ find o (st .sender .pieces)
-    unfolding hearAck
     step-keeps idle st o al so h = refl
     step-keeps (queues c l bs) st o al so h = rw (queue-pieces (goes (enqueue c l bs (st .queue))) (st .sender))
-    step-keeps (hears r keep) st o al so h =
-        let s = st .sender in
-        by (λ (x : Sender). 1 ≤ occurs o (heldOffs (x .held)) → find o (x .pieces) ≡ find o (s .pieces)) (s .awaited)
-        (λ w.
-        by (λ (x : Sender). 1 ≤ occurs o (heldOffs (x .held)) → find o (x .pieces) ≡ find o (s .pieces)) (settles r s)
-        (λ n. settle-keeps r keep s o so) (λ n u. rw (clear-pieces s)))
-        (λ w u. refl) h
+    step-keeps (hears r keep) st o al so h = ack-keeps r keep (st .sender) o so h
+    step-keeps (receives xs) st o al so h = all-keeps xs (st .sender) o so h
     step-keeps turns st o al so h = rw (clear-pieces (st .sender))
     step-keeps (bursts g) st o al so h = burst-keeps z zr (st .sender) g so al o h

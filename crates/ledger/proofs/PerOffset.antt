@@ -1,7 +1,7 @@
 -- Offset by offset: how many pieces cover it, and when it becomes acknowledged.
 -- Assumes nothing.
 use Prim.Native.Nat.{ℕ, zero, suc, _+_, _-_, _≤_, _<_}
-use mathlib.Core.Path.{_≡_, refl, sym, _∙_}
+use mathlib.Core.Path.{_≡_, refl, sym, ap, _∙_}
 use mathlib.Core.Bool.{Bool, true, false, cond, _&&_, _||_}
 use mathlib.Core.List.{List, [], _∷_, _++_, map}
 use mathlib.Core.Option.{Option, none, some}
@@ -14,8 +14,8 @@ use borrow.Author.Tests.{ltb-true, ltb-false, lt-ltb, le-ltb}
 use Rattle.laws.proofs.Picks.{test, either}
 use Rattle.ledger.specs.Reply.{Reply}
 use Rattle.ledger.specs.Ledger.{Piece, end, len, Frame}
-use Rattle.ledger.specs.Tally.{within, Flown, acknowledge, acknowledgeAll, unacked, acknowledgedBy, Outstanding, nothing, outstanding, Event, Tally, waits, feed, queued, sentOut, heard, turn, noneOutstanding, silent, took, reply, went, furthest}
-use Rattle.ledger.specs.Claim.{covering, flyingAt, ackedAt, bitOver, named, settledBy}
+use Rattle.ledger.specs.Tally.{within, Flown, acknowledge, acknowledgeAll, unacked, acknowledgedBy, Outstanding, nothing, outstanding, Event, Tally, waits, feed, queued, sentOut, heard, turn, noneOutstanding, silent, took, reply, replies, went, heardAll, furthest}
+use Rattle.ledger.specs.Claim.{covering, flyingAt, ackedAt, bitOver, named, anyNamed, settledBy}
 use Rattle.ledger.proofs.Acknowledge.{within-before, within-in, within-after}
 use Rattle.ledger.proofs.InFlight.{filled, filled-flying}
 use Rattle.ledger.specs.CoverCode.{Ascend, byOffset, flyingByte}
@@ -145,11 +145,35 @@ ackedAt-answered r (outstanding n fs) o fl =
     (λ e. rw e (ackedAt-all (r .bit (length fs)) o 0 fs fl))
     (λ e. rw e (or-none (ackedAt o fl) (ltb o (length fl))))
 
+-- where none is outstanding acks change nothing
+quiet-flown : (rs : List Reply) (t : Tally) → t .out ≡ nothing → heardAll rs t .flown ≡ t .flown
+unfolding heard
+quiet-flown [] t e = refl
+quiet-flown (r ∷ rs) t e = quiet-flown rs (heard r t) refl ∙ ap (λ (x : Outstanding). acknowledgedBy r x (t .flown)) e
+
+any-none : (rs : List Reply) (o : ℕ) → anyNamed rs nothing o ≡ false
+any-none [] o = refl
+any-none (r ∷ rs) o = any-none rs o
+
+or-false : (x : Bool) → x || false ≡ x
+or-false true = refl
+or-false false = refl
+
+ackedAt-replies : (rs : List Reply) (t : Tally) (o : ℕ) →
+    ackedAt o (heardAll rs t .flown) ≡ ackedAt o (t .flown) || (ltb o (length (t .flown)) && anyNamed rs (t .out) o)
+unfolding heard
+ackedAt-replies [] t o = or-none (ackedAt o (t .flown)) (ltb o (length (t .flown)))
+ackedAt-replies (r ∷ rs) t o =
+    ap (ackedAt o) (quiet-flown rs (heard r t) refl) ∙ ackedAt-answered r (t .out) o (t .flown)
+    ∙ ap (λ (b : Bool). ackedAt o (t .flown) || (ltb o (length (t .flown)) && b))
+    (sym (ap (λ (b : Bool). named r (t .out) o || b) (any-none rs o) ∙ or-false (named r (t .out) o)))
+
 pub acked-exactly : (e : Event) (t : Tally) (o : ℕ) → ackedAt o (feed e t .flown) ≡ ackedAt o (t .flown) || (ltb o (length (t .flown)) && settledBy e (t .out) o)
 unfolding queued sentOut heard noneOutstanding
 acked-exactly silent t o = or-none (ackedAt o (t .flown)) (ltb o (length (t .flown)))
 acked-exactly (took c l bs) t o = or-none (ackedAt o (t .flown)) (ltb o (length (t .flown)))
 acked-exactly (reply r) t o = ackedAt-answered r (t .out) o (t .flown)
+acked-exactly (replies rs) t o = ackedAt-replies rs t o
 acked-exactly turn t o = or-none (ackedAt o (t .flown)) (ltb o (length (t .flown)))
 acked-exactly (went n fs) t o =
     ackedAt-unacked o (t .flown) (take (furthest fs - length (t .flown)) (waits t)) ∙ or-none (ackedAt o (t .flown)) (ltb o (length (t .flown)))

@@ -23,7 +23,7 @@ use Rattle.ledger.proofs.Kept.{out-occurs, step-sound, step-agree, step
 use Rattle.ledger.proofs.Offsets.{find-some, flying-within}
 use Rattle.ledger.proofs.ShortFrames.{pieces-shortFrames}
 use Rattle.ledger.specs.Sizes.{Sizes}
-use Rattle.ledger.specs.CallsCode.{Move, Allowed, step, moveTold, idle, queues, hears, turns, bursts, freshStation, SoundStation}
+use Rattle.ledger.specs.CallsCode.{Move, Allowed, step, moveTold, idle, queues, hears, receives, turns, bursts, freshStation, SoundStation}
 use Rattle.ledger.specs.LedgerCode.{frames, freshLedger}
 use Rattle.ledger.specs.SizesCode.{SizeRange}
 
@@ -45,6 +45,7 @@ module _ (z : Sizes) (zr : SizeRange z) (st : Station) (t : Tally) (ss : SoundSt
   call-carries idle so′ ag′ = tt
   call-carries (queues d l bs) so′ ag′ = tt
   call-carries (hears r keep) so′ ag′ = tt
+  call-carries (receives xs) so′ ag′ = tt
   call-carries turns so′ ag′ = tt
   call-carries (bursts g) so′ ag′ =
       carry z zr (dataBurst g (st .sender)) (feed (moveTold z (bursts g) st) t) so′ ag′ (dataBurst g (st .sender) .sent)

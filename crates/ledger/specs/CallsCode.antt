@@ -2,13 +2,13 @@
 use Prim.Native.Nat.{ℕ, _+_, _≤_}
 use mathlib.Core.Path.{_≡_}
 use mathlib.Core.Bool.{Bool}
-use mathlib.Core.List.{List}
+use mathlib.Core.List.{List, [], _∷_}
 use lib.ListN.{length}
 use Rattle.ledger.specs.Reply.{Reply}
 use Rattle.ledger.specs.Ledger.{Sender, Plan, size, newPieces, dataBurst, hearAck, clearBurst, requeue}
 use Rattle.ledger.specs.Queue.{Queue, noQueue, messageBytes, goes, enqueue, superseded, flies}
 use Rattle.ledger.specs.Station.{Station}
-use Rattle.ledger.specs.Tally.{Event, silent, took, reply, turn, went}
+use Rattle.ledger.specs.Tally.{Event, silent, took, reply, replies, turn, went}
 use Rattle.ledger.specs.Sound.{Sound, Fits}
 use Rattle.limits.specs.Limits.{maxWaiting, maxTaken}
 use Rattle.ledger.specs.Sizes.{Sizes}
@@ -21,6 +21,8 @@ pub data Move : Type 0 where
   queues : ℕ → ℕ → List ℕ → Move
   -- a short or long ack, and whether what it misses is held then
   hears : Reply → Bool → Move
+  -- the acks of one reception, each so
+  receives : List (Reply × Bool) → Move
   -- a turn
   turns : Move
   -- a burst, with the plan that the gear makes of it
@@ -29,11 +31,21 @@ pub data Move : Type 0 where
 abbrev pub freshStation : Station
 freshStation = record { sender = freshLedger; queue = noQueue; withdrawn = 0 }
 
+-- acks one after the other
+abbrev pub hearAll : ℕ → List (Reply × Bool) → Sender → Sender
+hearAll top [] s = s
+hearAll top (x ∷ xs) s = hearAll top xs (hearAck top (x .0) (x .1) s)
+
+abbrev pub repliesOf : List (Reply × Bool) → List Reply
+repliesOf [] = []
+repliesOf (x ∷ xs) = x .0 ∷ repliesOf xs
+
 -- the messages that a call leaves
 abbrev pub queueAfter : Move → Station → Queue
 queueAfter idle s = s .queue
 queueAfter (queues c l bs) s = enqueue c l bs (s .queue)
 queueAfter (hears r keep) s = s .queue
+queueAfter (receives xs) s = s .queue
 queueAfter turns s = s .queue
 queueAfter (bursts g) s = flies (size (newPieces g (s .sender))) (s .queue)
 
@@ -42,6 +54,7 @@ abbrev pub withdrawnAfter : Move → Station → ℕ
 withdrawnAfter idle s = s .withdrawn
 withdrawnAfter (queues c l bs) s = s .withdrawn + length (messageBytes (superseded l bs (s .queue)))
 withdrawnAfter (hears r keep) s = s .withdrawn
+withdrawnAfter (receives xs) s = s .withdrawn
 withdrawnAfter turns s = s .withdrawn
 withdrawnAfter (bursts g) s = s .withdrawn
 
@@ -50,6 +63,7 @@ abbrev pub senderAfter : Sizes → Move → Queue → Sender → Sender
 senderAfter z idle q s = s
 senderAfter z (queues c l bs) q s = requeue (goes q) s
 senderAfter z (hears r keep) q s = hearAck (z .top) r keep s
+senderAfter z (receives xs) q s = hearAll (z .top) xs s
 senderAfter z turns q s = clearBurst s
 senderAfter z (bursts g) q s = dataBurst g s
 
@@ -61,6 +75,7 @@ abbrev pub event : Move → Sender → Event
 event idle s = silent
 event (queues c l bs) s = took c l bs
 event (hears r keep) s = reply r
+event (receives xs) s = replies (repliesOf xs)
 event turns s = turn
 event (bursts g) s = went (s .number) (frames (s .pieces) (s .sent))
 
@@ -70,6 +85,7 @@ Allowed z idle s = Unit {0}
 Allowed z (queues c l bs) s =
     (length (goes (enqueue c l bs (s .queue))) ≤ maxWaiting) × (takenOf (s .sender) + s .withdrawn + length bs ≤ maxTaken)
 Allowed z (hears r keep) s = Unit {0}
+Allowed z (receives xs) s = Unit {0}
 Allowed z turns s = Unit {0}
 Allowed z (bursts g) s = Fits z (s .sender) g
 

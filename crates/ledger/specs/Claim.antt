@@ -7,7 +7,7 @@ use lib.ListN.{length}
 use Rattle.laws.specs.Lists.{one}
 use Rattle.ledger.specs.Reply.{Reply}
 use Rattle.ledger.specs.Ledger.{Piece, Frame, len}
-use Rattle.ledger.specs.Tally.{Flown, Outstanding, nothing, outstanding, Event, silent, took, reply, turn, went, within}
+use Rattle.ledger.specs.Tally.{Flown, Outstanding, nothing, outstanding, Event, silent, took, reply, replies, turn, went, within}
 
 -- how many pieces cover offset o
 abbrev pub covering : ℕ → List Piece → ℕ
@@ -36,9 +36,15 @@ abbrev pub named : Reply → Outstanding → ℕ → Bool
 named r nothing o = false
 named r (outstanding n fs) o = eqb (r .number) n && bitOver (r .bit (length fs)) 0 fs o
 
+-- one of several acks does, each after the one before it: any ack leaves none outstanding
+abbrev pub anyNamed : List Reply → Outstanding → ℕ → Bool
+anyNamed [] out o = false
+anyNamed (r ∷ rs) out o = named r out o || anyNamed rs nothing o
+
 abbrev pub settledBy : Event → Outstanding → ℕ → Bool
 settledBy silent out o = false
 settledBy (took c l bs) out o = false
 settledBy (reply r) out o = named r out o
+settledBy (replies rs) out o = anyNamed rs out o
 settledBy turn out o = false
 settledBy (went n fs) out o = false

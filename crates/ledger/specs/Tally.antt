@@ -46,6 +46,8 @@ pub data Event : Type 0 where
   took : ℕ → ℕ → List ℕ → Event
   -- an ack
   reply : Reply → Event
+  -- the acks of one reception, in order (Change 7)
+  replies : List Reply → Event
   -- a turn
   turn : Event
   -- a burst's number, and its frames' full offsets and lengths
@@ -129,6 +131,11 @@ heard r t =
       out = nothing;
     }
 
+-- acks one after the other: the first leaves none outstanding
+abbrev pub heardAll : List Reply → Tally → Tally
+heardAll [] t = t
+heardAll (r ∷ rs) t = heardAll rs (heard r t)
+
 unfoldable pub noneOutstanding : Tally → Tally
 noneOutstanding t =
     record { taken = t .taken; queue = t .queue; began = t .began; withdrawn = t .withdrawn; flown = t .flown; out = nothing }
@@ -138,6 +145,7 @@ abbrev pub feed : Event → Tally → Tally
 feed silent t = t
 feed (took c l bs) t = queued c l bs t
 feed (reply r) t = heard r t
+feed (replies rs) t = heardAll rs t
 feed turn t = noneOutstanding t
 feed (went n fs) t = sentOut n fs t
 
@@ -146,6 +154,7 @@ abbrev pub queuedIn : Event → List Message
 queuedIn silent = []
 queuedIn (took c l bs) = message c l bs
 queuedIn (reply r) = []
+queuedIn (replies rs) = []
 queuedIn turn = []
 queuedIn (went n fs) = []
 
@@ -154,5 +163,6 @@ abbrev pub framesTold : Event → List Frame
 framesTold silent = []
 framesTold (took c l bs) = []
 framesTold (reply r) = []
+framesTold (replies rs) = []
 framesTold turn = []
 framesTold (went n fs) = fs

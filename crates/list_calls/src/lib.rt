@@ -2,8 +2,10 @@
 // record by value. The module `answers` has these with their answers, a burst and the question for a piece.
 use byte_copy::least;
 use call_lines::connect_words;
+use call_lines::frames_words;
 use call_lines::long_words;
 use call_lines::names::CONNECT;
+use call_lines::names::FRAMES;
 use call_lines::names::LONG;
 use call_lines::names::Named;
 use call_lines::names::SHORT;
@@ -17,7 +19,7 @@ use numbered::Message;
 use queuing::Station;
 use words::Read;
 ghost use mathlib.Core.Path.{_≡_};
-ghost use Rattle.list_calls.specs.Asked.{broken, connectAsked, shortAsked, turnAsked, longAsked, queueAsked, askedOf};
+ghost use Rattle.list_calls.specs.Asked.{broken, connectAsked, shortAsked, turnAsked, longAsked, framesAsked, queueAsked, askedOf};
 
 pub mod answers;
 
@@ -88,6 +90,19 @@ fn long(line: &[u8], r: Read, p: Profile, s: Station, area: &mut [u8]) -> Asked
     Asked { ok: true, left }
 }
 
+fn frames(line: &[u8], r: Read, p: Profile, s: Station, area: &mut [u8]) -> Asked
+    ensures { λ q. ⌜ (q, now (area .exit)) ≡ framesAsked p s (now (area .entry)) (now (line .entry)) r ⌝ }
+{
+    let mut bytes = [0u8; BYTES];
+    let q = frames_words(line, r, &mut bytes);
+    if !q.ok {
+        return broken(s);
+    }
+    let n = least(q.used, &bytes);
+    let left = numbered::frames(p, s, area, q.heard, q.reception, &bytes[..n]);
+    Asked { ok: true, left }
+}
+
 fn queue(line: &[u8], r: Read, p: Profile, s: Station, area: &mut [u8]) -> Asked
     ensures { λ q. ⌜ (q, now (area .exit)) ≡ queueAsked p s (now (area .entry)) (now (line .entry)) r ⌝ }
 {
@@ -105,7 +120,7 @@ fn queue(line: &[u8], r: Read, p: Profile, s: Station, area: &mut [u8]) -> Asked
     Asked { ok: true, left }
 }
 
-// A queuing or a reply.
+// A queuing, a reply or a reception.
 pub(crate) fn ask(n: Named, line: &[u8], p: Profile, s: Station, area: &mut [u8]) -> Asked
     ensures { λ q. ⌜ (q, now (area .exit)) ≡ askedOf p s (now (area .entry)) (now (line .entry)) n ⌝ }
 {
@@ -120,6 +135,9 @@ pub(crate) fn ask(n: Named, line: &[u8], p: Profile, s: Station, area: &mut [u8]
     }
     if n.call == CONNECT {
         return connect(line, n.read, p, s, area);
+    }
+    if n.call == FRAMES {
+        return frames(line, n.read, p, s, area);
     }
     queue(line, n.read, p, s, area)
 }

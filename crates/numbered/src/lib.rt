@@ -2,6 +2,7 @@
 use config::Profile;
 use outgoing::Outgoing;
 use queuing::Station;
+use reception::Reception;
 use refusals::Reply;
 use refusals::number;
 use replies::Ack;
@@ -9,10 +10,11 @@ use replies::ConnAck;
 use replies::Heard;
 use replies::LongAck;
 use replies::Turn;
+use sender::frames_rx;
 use sender::sender_rx;
 ghost use mathlib.Core.Path.{_≡_};
 ghost use mathlib.Core.List.{[]};
-ghost use Rattle.sender.specs.Calls.{queueOf, receiveOf, findOf, burstCall};
+ghost use Rattle.sender.specs.Calls.{queueOf, receiveOf, framesOf, findOf, burstCall};
 ghost use Rattle.refusals.specs.declared.Reply.the-variants as R;
 ghost use Rattle.numbered.specs.Numbered.{answerNumber, burstNumber, findNumber};
 
@@ -96,6 +98,24 @@ pub fn turn(p: Profile, t: Station, a: &mut [u8], h: Heard, r: Turn) -> Left
 {
     let none: [u8; 1] = [0];
     reply(p, t, a, h, Reply::Turn(r), &none[..0])
+}
+
+// All decoded frames of one reception, the payloads back to back.
+pub fn frames(
+    p: Profile,
+    t: Station,
+    a: &mut [u8],
+    h: Heard,
+    r: Reception,
+    payloads: &[u8],
+) -> Left
+    ensures { λ q. ⌜ (q, now (a .exit)) ≡ answerNumber (framesOf p t (now (a .entry)) h r (now (payloads .entry))) ⌝ }
+{
+    let q = frames_rx(p, t, a, h, r, payloads);
+    let v = q.verdict;
+    let refusal = number(v);
+    let next = q.next;
+    Left { refusal, next }
 }
 
 pub fn data_burst(p: Profile, t: Station, a: &mut [u8], out: &mut [u8]) -> LeftBurst

@@ -19,7 +19,7 @@ ghost use Rattle.replies.specs.Replies.{ackNoted, longDb, shortAcked, longAcked
 ghost use Rattle.replies.specs.RepliesCode.{ReplyReady};
 
 // The wishes, the number last heard, and the time.
-fn note(k: Link, time: f64, turn: bool, disc: bool, number: u8) -> Link
+pub fn note(k: Link, time: f64, turn: bool, disc: bool, number: u8) -> Link
     ensures { λ r. ⌜ r ≡ ackNoted k time turn disc number ⌝ }
 {
     let mut q = k;

@@ -8,7 +8,7 @@ use Rattle.laws.specs.Tests.{all}
 use Rattle.ieee.specs.Range.{w32, w64, inside}
 use Rattle.replies.specs.declared.Heard.{Heard}
 use Rattle.refusals.specs.declared.Verdict.{Verdict}
-use Rattle.refusals.specs.declared.Verdict.the-variants.{Accepted, ProfileOutOfRange, ShortOverLong, Unsound, OutOfTurn, BadTime, BadValue, ShortPayload, QueueFull, AllTaken, ShortOutput, BadClass, TooManyMessages}
+use Rattle.refusals.specs.declared.Verdict.the-variants.{Accepted, ProfileOutOfRange, ShortOverLong, Unsound, OutOfTurn, BadTime, BadValue, ShortPayload, QueueFull, AllTaken, ShortOutput, BadClass, TooManyMessages, TooManyFrames}
 use Rattle.refusals.specs.declared.Reply.{Reply}
 use Rattle.refusals.specs.declared.Reply.the-variants.{ConnAck, Ack, LongAck, Turn}
 use Rattle.limits.specs.Limits.{maxNumber, tinyAll}
@@ -28,6 +28,11 @@ numberOf AllTaken = 9
 numberOf ShortOutput = 10
 numberOf BadClass = 11
 numberOf TooManyMessages = 12
+numberOf TooManyFrames = 15
+
+-- 15: "It refuses more than 16 frames" (document 02, Change 7)
+abbrev pub maxReceived : ℕ
+maxReceived = 16
 
 -- 5: "The time isn't within 0 to 10^9 or is earlier than the last accepted one (equal is fine)"
 unfoldable pub timeOk : Float → Float → Bool

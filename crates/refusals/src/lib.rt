@@ -7,7 +7,7 @@ use replies::Turn;
 ghost use mathlib.Core.Path.{_≡_};
 ghost use Rattle.refusals.specs.Refusals.{numberOf, kindOf, timeOk, reportOk, heardOk, replyOk};
 
-// What becomes of a call: the papers' refusals, each by its name: document 01's 1 to 10, and 11 and 12 of document 02.
+// What becomes of a call: the papers' refusals, each by its name: document 01's 1 to 10, and 11, 12 and 15 of document 02.
 pub enum Verdict {
     Accepted,
     ProfileOutOfRange,
@@ -22,7 +22,11 @@ pub enum Verdict {
     ShortOutput,
     BadClass,
     TooManyMessages,
+    TooManyFrames,
 }
+
+// Decoded frames of one reception at most.
+pub const MAX_RECEIVED: usize = 16;
 
 // A reply. A long ack's payload travels beside it.
 pub enum Reply {
@@ -50,6 +54,7 @@ pub fn number(v: Verdict) -> u8
         Verdict::ShortOutput => 10,
         Verdict::BadClass => 11,
         Verdict::TooManyMessages => 12,
+        Verdict::TooManyFrames => 15,
     }
 }
 

@@ -5,6 +5,7 @@ use mathlib.Core.List.{List}
 use mathlib.Core.Bool.{true, false}
 use Prim.Native.Nat.{ℕ, _≤_}
 use native.Mathlib.Omega.{arith}
+use lib.Dec.{leb}
 use lib.ListN.{length}
 use borrow.Author.Tests.{leb-true}
 use Rattle.laws.proofs.Picks.{cond-yes, cond-no, by₂, and-first}
@@ -22,15 +23,17 @@ use Rattle.queuing.specs.Station.{withSender, queuedIn}
 use Rattle.queuing.specs.StationCode.{Fit}
 use Rattle.queuing.specs.declared.Station.{Station}
 use Rattle.replies.specs.declared.Heard.{Heard}
-use Rattle.refusals.specs.Refusals.{heardOk}
 use Rattle.refusals.specs.declared.Verdict.{Verdict}
 use Rattle.refusals.specs.declared.Reply.{Reply}
+use Rattle.refusals.specs.Refusals.{maxReceived, heardOk}
 use Rattle.sender.specs.declared.Answer.{Answer}
 use Rattle.sender.specs.declared.Finding.{Finding}
-use Rattle.verdicts.specs.Verdicts.{passed, standing, queueVerdict, receiveVerdict}
+use Rattle.verdicts.specs.Verdicts.{passed, standing, queueVerdict, receiveVerdict, framesVerdict}
 use Rattle.receive.specs.Accepted.{acceptedReply}
-use Rattle.sender.specs.Calls.{queueOf, receiveOf, findOf, pieceOf}
-use Rattle.verdicts.proofs.Passed.{queue-passed, queue-room, receive-three, reply-passed}
+use Rattle.reception.specs.Reception.{decodedIn, framesHeard}
+use Rattle.reception.specs.declared.Reception.{Reception}
+use Rattle.sender.specs.Calls.{queueOf, receiveOf, framesOf, findOf, pieceOf}
+use Rattle.verdicts.proofs.Passed.{queue-passed, queue-room, receive-three, reply-passed, frames-passed}
 use Rattle.area.specs.FindCode.{bytesAt}
 use Rattle.replies.specs.RepliesCode.{ReplyReady}
 
@@ -100,6 +103,32 @@ module _ (p : Profile) (t : Station) (a : List ℕ) where
         → answer v (withSender t (x .0), x .1) ≡ receiveOf p t a h r payload
     unfolding receiveOf
     receive-accepted x v e d = cond-yes _ _ _ _ ok (ap₂ (λ (u : Verdict) (y : Sender × List ℕ). answer u (withSender t (y .0), y .1)) e d)
+
+  -- ---- all frames of one reception
+
+  pub frames-refused : (h : Heard) (r : Reception) (payloads : List ℕ) (v : Verdict) → v ≡ framesVerdict p t a h (r .n)
+      → passed (framesVerdict p t a h (r .n)) ≡ false → answer v (t, a) ≡ framesOf p t a h r payloads
+  unfolding framesOf
+  frames-refused h r payloads v e d = cond-no _ _ _ _ d (ap (λ (u : Verdict). answer u (t, a)) e)
+
+  module _ (h : Heard) (r : Reception) (payloads : List ℕ) (ok : passed (framesVerdict p t a h (r .n)) ≡ true) where
+    pub frames-ranged : Ranged p
+    frames-ranged = ranged p (frames-passed p t a h (r .n) ok .stands .0)
+
+    pub frames-ready : Arrays s → ReplyReady p s a × (h .wave ≤ 5) × (r .n ≤ maxReceived)
+    unfolding heardOk
+    frames-ready ar =
+        let q = frames-passed p t a h (r .n) ok in
+        let so = test-sound p s a ar (q .stands .2) in (
+          record { level = sound-level p s a so; settling = sound-settling p s a so ar; sound = so .ledger },
+          leb-true (h .wave) 5 (and-first (leb (h .wave) 5) _ (q .heard)),
+          q .few,
+        )
+
+    pub frames-accepted : (x : Sender × List ℕ) (v : Verdict) → v ≡ framesVerdict p t a h (r .n) → x ≡ framesHeard p h (decodedIn r payloads) (s, a)
+        → answer v (withSender t (x .0), x .1) ≡ framesOf p t a h r payloads
+    unfolding framesOf
+    frames-accepted x v e d = cond-yes _ _ _ _ ok (ap₂ (λ (u : Verdict) (y : Sender × List ℕ). answer u (withSender t (y .0), y .1)) e d)
 
 -- ---- lookup
 

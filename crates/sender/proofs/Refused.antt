@@ -60,13 +60,16 @@ use Rattle.refusals.specs.declared.Reply.the-variants.{ConnAck, Ack, LongAck, T
 use Rattle.outgoing.specs.Choosing.{choice}
 use Rattle.outgoing.specs.Outgoing.{burstOf}
 use Rattle.outgoing.proofs.Choices.{choice-ranged}
-use Rattle.verdicts.specs.Verdicts.{passed, queueVerdict, receiveVerdict, burstVerdict}
-use Rattle.verdicts.proofs.Passed.{queue-passed, receive-three, burst-passed}
+use Rattle.verdicts.specs.Verdicts.{passed, queueVerdict, receiveVerdict, framesVerdict, burstVerdict}
+use Rattle.verdicts.proofs.Passed.{queue-passed, receive-three, frames-passed, burst-passed}
 use Rattle.receive.specs.Accepted.{longRead, acceptedReply}
+use Rattle.reception.specs.Reception.{Decoded, decodedIn, isRead, flagsOf, framesHeard}
+use Rattle.reception.specs.declared.Reception.{Reception}
+use Rattle.reception.proofs.Laws.{read-ends, quiet-area}
 use Rattle.sender.specs.declared.Answer.{Answer}
 use Rattle.sender.specs.declared.Bursted.{Bursted}
-use Rattle.sender.specs.Calls.{queueOf, receiveOf, noBurst, burstCall}
-use Rattle.sender.proofs.Answered.{queue-refused, receive-refused}
+use Rattle.sender.specs.Calls.{queueOf, receiveOf, framesOf, noBurst, burstCall}
+use Rattle.sender.proofs.Answered.{queue-refused, receive-refused, frames-refused}
 use Rattle.sender.proofs.Bursting.{burst-refused}
 use Rattle.limits.specs.Limits.{maxPieces}
 
@@ -80,6 +83,10 @@ module _ (p : Profile) (t : Station) (a : List ℕ) where
   pub receive-verdict : (h : Heard) (r : Reply) (payload : List ℕ) → receiveOf p t a h r payload .0 .verdict ≡ receiveVerdict p t a h r (length payload)
   unfolding receiveOf
   receive-verdict h r payload = let v = receiveVerdict p t a h r (length payload) in either (λ (x : Answer × List ℕ). x .0 .verdict ≡ v) (passed v) _ _ refl refl
+
+  pub frames-verdict : (h : Heard) (r : Reception) (payloads : List ℕ) → framesOf p t a h r payloads .0 .verdict ≡ framesVerdict p t a h (r .n)
+  unfolding framesOf
+  frames-verdict h r payloads = let v = framesVerdict p t a h (r .n) in either (λ (x : Answer × List ℕ). x .0 .verdict ≡ v) (passed v) _ _ refl refl
 
   pub burst-verdict : (out : List ℕ) → burstCall p t a out .0 .verdict ≡ burstVerdict p t a (length out)
   unfolding burstCall
@@ -95,6 +102,10 @@ module _ (p : Profile) (t : Station) (a : List ℕ) where
   pub receive-keeps : (h : Heard) (r : Reply) (payload : List ℕ) → passed (receiveVerdict p t a h r (length payload)) ≡ false
       → receiveOf p t a h r payload ≡ (record { verdict = receiveVerdict p t a h r (length payload); next = t }, a)
   receive-keeps h r payload e = sym (receive-refused p t a h r payload (receiveVerdict p t a h r (length payload)) refl e)
+
+  pub frames-keeps : (h : Heard) (r : Reception) (payloads : List ℕ) → passed (framesVerdict p t a h (r .n)) ≡ false
+      → framesOf p t a h r payloads ≡ (record { verdict = framesVerdict p t a h (r .n); next = t }, a)
+  frames-keeps h r payloads e = sym (frames-refused p t a h r payloads (framesVerdict p t a h (r .n)) refl e)
 
   pub burst-keeps : (out : List ℕ) → passed (burstVerdict p t a (length out)) ≡ false
       → burstCall p t a out ≡ (record { verdict = burstVerdict p t a (length out); outgoing = noBurst; next = t }, (a, out))
@@ -147,6 +158,17 @@ module _ (p : Profile) (s : Sender) (a : List ℕ) (ar : Arrays s) (one : inRang
   long-past h r TooShort = refl
   long-past h r (Info i) = either Past (s .link .awaiting) _ _ (ack-past _ _ _ _ _ refl) refl
 
+  -- the first frame that is read may settle; after it the work area stays
+  frames-past : (h : Heard) (fs : List Decoded) → Past (framesHeard p h fs (s, a))
+  unfolding framesHeard
+  frames-past h [] = refl
+  frames-past h (f ∷ fs) =
+      by (λ (c : Sender × List ℕ). Past (framesHeard p h fs c)) (isRead f)
+      (λ e.
+      let x = longRead p h (flagsOf (f .flags)) (ackOf (f .payload)) s a in
+      ap (drop areaBytes) (quiet-area p h fs x (read-ends p h f s a e)) ∙ long-past h (flagsOf (f .flags)) (ackOf (f .payload)))
+      (λ e. frames-past h fs)
+
   reply-past : (h : Heard) (r : Reply) (payload : List ℕ) → Past (acceptedReply p h r payload s a)
   unfolding shortAcked turned view
   reply-past h (ConnAck r) payload = refl
@@ -192,6 +214,13 @@ module _ (p : Profile) (t : Station) (a : List ℕ) (ar : Arrays (t .sender)) wh
   receive-past h r payload =
       by (λ (x : Answer × List ℕ). drop areaBytes (x .1) ≡ drop areaBytes a) (passed (receiveVerdict p t a h r (length payload)))
       (λ e. let ok = receive-three p t a h r (length payload) e in reply-past p s a ar (ok .0) (ok .1) (ok .2) h r payload)
+      (λ e. refl)
+
+  pub reception-past : (h : Heard) (r : Reception) (payloads : List ℕ) → drop areaBytes (framesOf p t a h r payloads .1) ≡ drop areaBytes a
+  unfolding framesOf
+  reception-past h r payloads =
+      by (λ (x : Answer × List ℕ). drop areaBytes (x .1) ≡ drop areaBytes a) (passed (framesVerdict p t a h (r .n)))
+      (λ e. let ok = frames-passed p t a h (r .n) e .stands in frames-past p s a ar (ok .0) (ok .1) (ok .2) h (decodedIn r payloads))
       (λ e. refl)
 
   pub burst-past : length (p .codes .ends) ≤ 6 → (out : List ℕ) → drop areaBytes (burstCall p t a out .1 .0) ≡ drop areaBytes a

@@ -1,4 +1,4 @@
--- THE BASE: the sender's calls by document 01 (and Changes 4 and 5), with one queue of bytes and no messages. Change 1's sentence "with a single class the Rust is
+-- THE BASE: the sender's calls by document 01 (and Changes 4, 5 and 7), with one queue of bytes and no messages. Change 1's sentence "with a single class the Rust is
 -- still equalled" is measured by them (crates/demand/specs/Single.antt). Definitions only.
 use mathlib.Core.List.{List, _++_}
 use mathlib.Core.Bool.{Bool, false, cond, not, _&&_, _||_}
@@ -17,8 +17,10 @@ use Rattle.refusals.specs.declared.Verdict.{Verdict}
 use Rattle.refusals.specs.declared.Verdict.the-variants.{Accepted, ProfileOutOfRange, ShortOverLong, Unsound, OutOfTurn, QueueFull, AllTaken}
 use Rattle.refusals.specs.declared.Reply.{Reply}
 use Rattle.refusals.specs.Refusals.{kindOf}
-use Rattle.verdicts.specs.Verdicts.{passed, firstOf, replyVerdict, outputVerdict}
+use Rattle.verdicts.specs.Verdicts.{passed, firstOf, replyVerdict, hearingVerdict, framesStanding, outputVerdict}
 use Rattle.receive.specs.Accepted.{acceptedReply}
+use Rattle.reception.specs.Reception.{decodedIn, framesHeard}
+use Rattle.reception.specs.declared.Reception.{Reception}
 use Rattle.outgoing.specs.Outgoing.{burstOf}
 use Rattle.outgoing.specs.declared.Outgoing.{Outgoing}
 use Rattle.sender.specs.Calls.{noBurst}
@@ -50,6 +52,12 @@ module _ (p : Profile) (s : Sender) (a : List ℕ) where
   receiveBase h r payload =
       let v = firstOf (standingBase (eqb (kindOf r) 0)) (replyVerdict (s .link .«last_time») h r (length payload)) in
       (v, cond (passed v) (acceptedReply p h r payload s a) (s, a))
+
+  -- all frames of one reception (document 02, Change 7), the loop at the end of `sender_rx`: 1 2 3 15 4 5 6
+  unfoldable pub framesBase : Heard → Reception → List ℕ → Verdict × (Sender × List ℕ)
+  framesBase h r payloads =
+      let v = firstOf (framesStanding (standingBase false) (r .n)) (hearingVerdict (s .link .«last_time») h) in
+      (v, cond (passed v) (framesHeard p h (decodedIn r payloads) (s, a)) (s, a))
 
   -- a burst: 1 2 3 4 10. The answer with the next record, the work area, the output
   unfoldable pub burstBase : List ℕ → Verdict × ((Outgoing × Sender) × (List ℕ × List ℕ))

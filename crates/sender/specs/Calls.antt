@@ -18,12 +18,14 @@ use Rattle.record.specs.declared.Sender.{Sender}
 use Rattle.replies.specs.declared.Heard.{Heard}
 use Rattle.refusals.specs.declared.Reply.{Reply}
 use Rattle.receive.specs.Accepted.{acceptedReply}
+use Rattle.reception.specs.Reception.{decodedIn, framesHeard}
+use Rattle.reception.specs.declared.Reception.{Reception}
 use Rattle.sender.specs.declared.Answer.{Answer}
 use Rattle.sender.specs.declared.Finding.{Finding}
 use Rattle.outgoing.specs.Outgoing.{burstOf}
 use Rattle.outgoing.specs.declared.Outgoing.{Outgoing}
 use Rattle.sender.specs.declared.Bursted.{Bursted}
-use Rattle.verdicts.specs.Verdicts.{passed, standing, queueVerdict, receiveVerdict, burstVerdict}
+use Rattle.verdicts.specs.Verdicts.{passed, standing, queueVerdict, receiveVerdict, framesVerdict, burstVerdict}
 use Rattle.limits.specs.Limits.{maxSlots}
 
 -- ---- queue: 1 2 3 4 11 8 9 12
@@ -41,6 +43,15 @@ unfoldable pub receiveOf : Profile → Station → List ℕ → Heard → Reply 
 receiveOf p t a h r payload =
     let v = receiveVerdict p t a h r (length payload) in
     let after = acceptedReply p h r payload (t .sender) a in
+    cond (passed v) (record { verdict = v; next = withSender t (after .0) }, after .1) (record { verdict = v; next = t }, a)
+
+-- ---- all frames of one reception: 1 2 3 15 4 5 6
+
+-- "gives what the loop at the end of `sender_rx` gives"; where no frame is read, record and work area stay as they are
+unfoldable pub framesOf : Profile → Station → List ℕ → Heard → Reception → List ℕ → Answer × List ℕ
+framesOf p t a h r payloads =
+    let v = framesVerdict p t a h (r .n) in
+    let after = framesHeard p h (decodedIn r payloads) (t .sender, a) in
     cond (passed v) (record { verdict = v; next = withSender t (after .0) }, after .1) (record { verdict = v; next = t }, a)
 
 -- ---- lookup: 1 2 3 4

@@ -8,18 +8,21 @@ use outgoing::Outgoing;
 use queuing::Station;
 use queuing::enqueue;
 use receive::accepted::answer;
+use reception::Reception;
+use reception::hear_frames;
 use refusals::Reply;
 use refusals::Verdict;
 use refusals::kind;
 use refusals::number;
 use replies::Heard;
 use verdicts::burst_verdict;
+use verdicts::frames_verdict;
 use verdicts::queue_verdict;
 use verdicts::receive_verdict;
 use verdicts::standing;
 ghost use mathlib.Core.Path.{_≡_};
 ghost use Rattle.queuing.specs.Station.{freshStation};
-ghost use Rattle.sender.specs.Calls.{queueOf, receiveOf, findOf, pieceOf, noBurst, burstCall};
+ghost use Rattle.sender.specs.Calls.{queueOf, receiveOf, framesOf, findOf, pieceOf, noBurst, burstCall};
 
 // What a queuing or a reply answers, and the next record.
 pub struct Answer {
@@ -81,6 +84,33 @@ pub fn sender_rx(p: Profile, t: Station, a: &mut [u8], h: Heard, r: Reply, paylo
         };
     }
     let sender = answer(p, t.sender, a, h, r, payload);
+    let messages = t.messages;
+    Answer {
+        verdict: v,
+        next: Station { sender, messages },
+    }
+}
+
+// All decoded frames of one reception, the payloads back to back. The messages stay.
+pub fn frames_rx(
+    p: Profile,
+    t: Station,
+    a: &mut [u8],
+    h: Heard,
+    r: Reception,
+    payloads: &[u8],
+) -> Answer
+    ensures { λ q. ⌜ (q, now (a .exit)) ≡ framesOf p t (now (a .entry)) h r (now (payloads .entry)) ⌝ }
+{
+    let last = t.sender.link.last_time;
+    let v = frames_verdict(standing(p, t, a, false), last, h, r.n);
+    if number(v) != 0 {
+        return Answer {
+            verdict: v,
+            next: t,
+        };
+    }
+    let sender = hear_frames(p, t.sender, a, h, r, payloads);
     let messages = t.messages;
     Answer {
         verdict: v,

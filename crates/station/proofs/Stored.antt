@@ -10,6 +10,7 @@ use Rattle.laws.proofs.Picks.{by}
 use Rattle.config.specs.declared.Profile.{Profile}
 use Rattle.queuing.specs.declared.Station.{Station}
 use Rattle.replies.specs.declared.Heard.{Heard}
+use Rattle.reception.specs.declared.Reception.{Reception}
 use Rattle.replies.specs.declared.ConnAck.{ConnAck}
 use Rattle.replies.specs.declared.Ack.{Ack}
 use Rattle.replies.specs.declared.LongAck.{LongAck}
@@ -18,11 +19,11 @@ use Rattle.refusals.specs.declared.Reply.{Reply}
 use Rattle.refusals.specs.declared.Reply.the-variants as R
 use Rattle.refusals.specs.declared.Verdict.{Verdict}
 use Rattle.refusals.specs.Refusals.{numberOf}
-use Rattle.verdicts.specs.Verdicts.{passed, queueVerdict, receiveVerdict, burstVerdict}
+use Rattle.verdicts.specs.Verdicts.{passed, queueVerdict, receiveVerdict, framesVerdict, burstVerdict}
 use Rattle.sender.specs.declared.Answer.{Answer}
 use Rattle.sender.specs.declared.Bursted.{Bursted}
-use Rattle.sender.specs.Calls.{queueOf, receiveOf, burstCall}
-use Rattle.sender.proofs.Refused.{queue-verdict, receive-verdict, burst-verdict, queue-keeps, receive-keeps, burst-keeps}
+use Rattle.sender.specs.Calls.{queueOf, receiveOf, framesOf, burstCall}
+use Rattle.sender.proofs.Refused.{queue-verdict, receive-verdict, frames-verdict, burst-verdict, queue-keeps, receive-keeps, frames-keeps, burst-keeps}
 use Rattle.numbered.specs.declared.Message.{Message}
 use Rattle.numbered.specs.declared.Left.{Left}
 use Rattle.numbered.specs.declared.Burst.{Burst}
@@ -104,6 +105,13 @@ module _ (p : Profile) (t : Station) (a : List ℕ) where
         → (after : Station) → after ≡ kept t (r .refusal) (r .next)
         → (left (r .refusal) after, b) ≡ answerNumber (receiveOf p t a h (R.Turn c) [])
     turned c r b said u = replied (R.Turn c) [] r b said
+
+    pub frames : (c : Reception) (payloads : List ℕ) (r : Left) (b : List ℕ) → (r, b) ≡ answerNumber (framesOf p t a h c payloads)
+        → Unit {0} → (after : Station) → after ≡ kept t (r .refusal) (r .next)
+        → (left (r .refusal) after, b) ≡ answerNumber (framesOf p t a h c payloads)
+    frames c payloads r b said u =
+        kept-left t (framesVerdict p t a h (c .n)) (framesOf p t a h c payloads) (frames-verdict p t a h c payloads)
+        (λ e. ap (λ (x : Answer × List ℕ). x .0 .next) (frames-keeps p t a h c payloads e)) r b said
 
   pub sent : (out : List ℕ) (r : LeftBurst) (b o : List ℕ) → (r, (b, o)) ≡ burstNumber (burstCall p t a out)
       → (l : Left) → (l .refusal ≡ r .burst .refusal) × (l .next ≡ r .next)

@@ -11,6 +11,7 @@ use numbered::LeftBurst;
 use numbered::Message;
 use numbered::Place;
 use queuing::Station;
+use reception::Reception;
 use reachable::Listing;
 use replies::Ack;
 use replies::ConnAck;
@@ -21,7 +22,7 @@ use report::ChanClass;
 ghost use mathlib.Core.Path.{_≡_};
 ghost use mathlib.Core.List.{[]};
 ghost use Rattle.queuing.specs.Station.{freshStation};
-ghost use Rattle.sender.specs.Calls.{queueOf, receiveOf, findOf, pieceOf, burstCall};
+ghost use Rattle.sender.specs.Calls.{queueOf, receiveOf, framesOf, findOf, pieceOf, burstCall};
 ghost use Rattle.refusals.specs.declared.Reply.the-variants as R;
 ghost use Rattle.numbered.specs.Numbered.{answerNumber, burstNumber, findNumber};
 ghost use Rattle.adif.specs.Adif.{logOf};
@@ -164,6 +165,24 @@ pub extern "C" fn vanitycrow_turn(
         ≡ answerNumber (receiveOf (now (p .entry)) (now (t .entry)) (now (a .entry)) h (R.Turn r) []) ⌝ }
 {
     let q = numbered::turn(*p, *t, a, h, r);
+    keep(t, q.refusal, q.next);
+    q.refusal
+}
+
+// All decoded frames of one reception, and their payloads back to back.
+#[no_mangle]
+pub extern "C" fn vanitycrow_frames(
+    p: &Profile,
+    t: &mut Station,
+    a: &mut [u8],
+    h: Heard,
+    r: Reception,
+    payloads: &[u8],
+) -> u8
+    ensures { λ q. ⌜ (left q (now (t .exit)), now (a .exit))
+        ≡ answerNumber (framesOf (now (p .entry)) (now (t .entry)) (now (a .entry)) h r (now (payloads .entry))) ⌝ }
+{
+    let q = numbered::frames(*p, *t, a, h, r, payloads);
     keep(t, q.refusal, q.next);
     q.refusal
 }

@@ -18,11 +18,11 @@ use Rattle.messages.specs.Messages.{Entry, total, withdrawnIn}
 use Rattle.queuing.specs.declared.Station.{Station}
 use Rattle.replies.specs.declared.Heard.{Heard}
 use Rattle.refusals.specs.declared.Verdict.{Verdict}
-use Rattle.refusals.specs.declared.Verdict.the-variants.{Accepted, ProfileOutOfRange, ShortOverLong, Unsound, OutOfTurn, BadTime, BadValue, ShortPayload, QueueFull, AllTaken, ShortOutput, BadClass, TooManyMessages}
+use Rattle.refusals.specs.declared.Verdict.the-variants.{Accepted, ProfileOutOfRange, ShortOverLong, Unsound, OutOfTurn, BadTime, BadValue, ShortPayload, QueueFull, AllTaken, ShortOutput, BadClass, TooManyMessages, TooManyFrames}
 use Rattle.refusals.specs.declared.Reply.{Reply}
-use Rattle.refusals.specs.Refusals.{numberOf, kindOf, timeOk, heardOk, replyOk}
-use Rattle.verdicts.specs.Verdicts.{takenBy, stationOk, firstOf, standing, replyVerdict, roomVerdict, outputVerdict, queueVerdict, receiveVerdict, burstVerdict}
-use Rattle.verdicts.specs.Reasons.{Reason, First, standingReasons, lookupReasons, queueReasons, replyReasons, burstReasons}
+use Rattle.refusals.specs.Refusals.{numberOf, kindOf, maxReceived, timeOk, heardOk, replyOk}
+use Rattle.verdicts.specs.Verdicts.{takenBy, stationOk, firstOf, passed, standing, replyVerdict, hearingVerdict, framesStanding, roomVerdict, outputVerdict, queueVerdict, receiveVerdict, framesVerdict, burstVerdict}
+use Rattle.verdicts.specs.Reasons.{Reason, First, standingReasons, lookupReasons, queueReasons, replyReasons, framesReasons, burstReasons}
 use Rattle.limits.specs.Limits.{maxSlots, maxWaiting, maxTaken, maxClass, maxMessages}
 
 -- ---- tables
@@ -143,6 +143,28 @@ module _ (p : Profile) (t : Station) (a : List ℕ) where
         (standing-refusals false) (standing-first false) room-first
 
   module _ (n : ℕ) where
+    -- each test by itself: in range, in order, sound, connected, too many, on time, heard
+    frames-tests : (x y z c m t₅ t₆ : Bool)
+        → let v = cond (not x) ProfileOutOfRange (cond (not y) ShortOverLong (cond (not z) Unsound (cond ((c && false) || (not c && true)) OutOfTurn Accepted))) in
+        let u = cond (ltb 0 (numberOf v) && leb (numberOf v) 3) v (cond m TooManyFrames v) in
+        First ((1, not x) ∷ (2, not y) ∷ (3, not z) ∷ (15, m) ∷ (4, not c) ∷ (5, not t₅) ∷ (6, not t₆) ∷ [])
+        (numberOf (firstOf u (cond (not t₅) BadTime (cond (not t₆) BadValue Accepted))))
+    frames-tests false y z c m t₅ t₆ = inl (refl, refl)
+    frames-tests true false z c m t₅ t₆ = inr (refl, inl (refl, refl))
+    frames-tests true true false c m t₅ t₆ = inr (refl, inr (refl, inl (refl, refl)))
+    frames-tests true true true false true t₅ t₆ = inr (refl, inr (refl, inr (refl, inl (refl, refl))))
+    frames-tests true true true true true t₅ t₆ = inr (refl, inr (refl, inr (refl, inl (refl, refl))))
+    frames-tests true true true false false t₅ t₆ = inr (refl, inr (refl, inr (refl, inr (refl, inl (refl, refl)))))
+    frames-tests true true true true false false t₆ = inr (refl, inr (refl, inr (refl, inr (refl, inr (refl, inl (refl, refl))))))
+    frames-tests true true true true false true false = inr (refl, inr (refl, inr (refl, inr (refl, inr (refl, inr (refl, inl (refl, refl)))))))
+    frames-tests true true true true false true true = inr (refl, inr (refl, inr (refl, inr (refl, inr (refl, inr (refl, inr (refl, refl)))))))
+
+    pub frames-first : (h : Heard) → First (framesReasons p t a h n) (numberOf (framesVerdict p t a h n))
+    unfolding framesVerdict framesStanding hearingVerdict standing
+    frames-first h =
+        frames-tests (inRange p) (inOrder p) (stationOk p t a) (t .sender .link .connected) (ltb maxReceived n)
+        (timeOk (t .sender .link .«last_time») (h .time)) (heardOk h)
+
     pub burst-first : First (burstReasons p t a n) (numberOf (burstVerdict p t a n))
     unfolding burstVerdict outputVerdict
     burst-first =

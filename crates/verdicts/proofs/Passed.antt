@@ -7,7 +7,7 @@ use Prim.Native.Nat.{ℕ, _+_, _-_, _*_, _≤_, _<_}
 use native.Mathlib.Omega.{arith}
 use lib.Dec.{leb, ltb, eqb}
 use lib.ListN.{length}
-use borrow.Author.Tests.{not-false, eq-eqb, ne-eqb, leb-true, le-leb, leb-false, ltb-true, ltb-false}
+use borrow.Author.Tests.{not-false, eq-eqb, eqb-true, ne-eqb, leb-true, le-leb, leb-false, ltb-true, ltb-false}
 use Rattle.laws.proofs.Picks.{test, cond-no, and-first, and-second}
 use Rattle.laws.proofs.Tests.{all-at}
 use Rattle.config.specs.declared.Profile.{Profile}
@@ -25,10 +25,10 @@ use Rattle.messages.specs.Messages.{Entry, messagesOk, withdrawnIn}
 use Rattle.queuing.specs.declared.Station.{Station}
 use Rattle.replies.specs.declared.Heard.{Heard}
 use Rattle.refusals.specs.declared.Verdict.{Verdict}
-use Rattle.refusals.specs.declared.Verdict.the-variants.{Accepted, AllTaken, BadClass, BadTime, BadValue, OutOfTurn, ProfileOutOfRange, QueueFull, ShortOutput, ShortOverLong, ShortPayload, TooManyMessages, Unsound}
+use Rattle.refusals.specs.declared.Verdict.the-variants.{Accepted, AllTaken, BadClass, BadTime, BadValue, OutOfTurn, ProfileOutOfRange, QueueFull, ShortOutput, ShortOverLong, ShortPayload, TooManyFrames, TooManyMessages, Unsound}
 use Rattle.refusals.specs.declared.Reply.{Reply}
-use Rattle.refusals.specs.Refusals.{numberOf, kindOf, timeOk, heardOk, replyOk}
-use Rattle.verdicts.specs.Verdicts.{takenBy, stationOk, passed, firstOf, standing, roomVerdict, replyVerdict, outputVerdict, queueVerdict, receiveVerdict, burstVerdict}
+use Rattle.refusals.specs.Refusals.{numberOf, kindOf, maxReceived, timeOk, heardOk, replyOk}
+use Rattle.verdicts.specs.Verdicts.{takenBy, stationOk, passed, firstOf, standing, roomVerdict, replyVerdict, hearingVerdict, framesStanding, outputVerdict, queueVerdict, receiveVerdict, framesVerdict, burstVerdict}
 use Rattle.limits.specs.Limits.{maxSlots, maxWaiting, maxTaken, maxPieces, maxClass, maxMessages}
 
 -- the number that a call reads says whether it is refused
@@ -49,6 +49,17 @@ first-by false v w e h = absurd (false≢true (sym e ∙ h))
 
 first-passed : (v w : Verdict) → passed (firstOf v w) ≡ true → (passed v ≡ true) × (passed w ≡ true)
 first-passed v w h = first-by (passed v) v w refl h
+
+-- 15
+few-passed : (v : Verdict) (n : ℕ) → passed (framesStanding v n) ≡ true → (ltb maxReceived n ≡ false) × (passed v ≡ true)
+unfolding framesStanding
+few-passed v n h =
+    let low = ltb 0 (numberOf v) && leb (numberOf v) 3 in
+    test low
+    (λ e.
+    let k : passed v ≡ true = rw e at h in
+    absurd (omega (arith, eqb-true (numberOf v) 0 k, ltb-true 0 (numberOf v) (and-first (ltb 0 (numberOf v)) _ e))))
+    (λ e. over-first (ltb maxReceived n) TooManyFrames v refl (rw e at h))
 
 -- connect comes first, and once
 turn : (x connect : Bool) → x ≡ not connect → ((x && connect) || (not x && not connect)) ≡ false
@@ -166,6 +177,29 @@ module _ (p : Profile) (t : Station) (a : List ℕ) where
   pub receive-three : (h : Heard) (r : Reply) (n : ℕ) → passed (receiveVerdict p t a h r n) ≡ true → Stands
   unfolding receiveVerdict
   receive-three h r n e = standing-three (eqb (kindOf r) 0) (first-passed (standing p t a (eqb (kindOf r) 0)) (replyVerdict (s .link .«last_time») h r n) e .0)
+
+  -- nor do 15, 5 and 6
+  pub record Receives (h : Heard) (n : ℕ) : Type 0 where
+    pub stands : Stands
+    pub standing : passed (standing p t a false) ≡ true
+    pub few : n ≤ maxReceived
+    pub time : timeOk (s .link .«last_time») (h .time) ≡ true
+    pub heard : heardOk h ≡ true
+
+  pub frames-passed : (h : Heard) (n : ℕ) → passed (framesVerdict p t a h n) ≡ true → Receives h n
+  unfolding framesVerdict hearingVerdict
+  frames-passed h n e =
+      let q = first-passed (framesStanding (standing p t a false) n) (hearingVerdict (s .link .«last_time») h) e in
+      let f = few-passed (standing p t a false) n (q .0) in
+      let h₁ = over-first (not (timeOk (s .link .«last_time») (h .time))) BadTime _ refl (q .1) in
+      let h₂ = over-first (not (heardOk h)) BadValue Accepted refl (h₁ .1) in
+      record {
+        stands = standing-three false (f .1);
+        standing = f .1;
+        few = ltb-false maxReceived n (f .0);
+        time = not-false _ (h₁ .0);
+        heard = not-false _ (h₂ .0);
+      }
 
   -- nor does 10
   pub burst-passed : (n : ℕ) → passed (burstVerdict p t a n) ≡ true → (inRange p ≡ true) × (inOrder p ≡ true) × (soundOk p s a ≡ true) × (maxSlots * p .«long_bytes» ≤ n) × Listed × Taken

@@ -12,7 +12,7 @@ use Rattle.config.specs.declared.Profile.{Profile}
 use Rattle.queuing.specs.declared.Station.{Station}
 use Rattle.replies.specs.declared.Heard.{Heard}
 use Rattle.refusals.specs.declared.Reply.{Reply}
-use Rattle.refusals.specs.Refusals.{kindOf, timeOk, heardOk, replyOk}
+use Rattle.refusals.specs.Refusals.{kindOf, maxReceived, timeOk, heardOk, replyOk}
 use Rattle.messages.specs.Messages.{total, withdrawnIn}
 use Rattle.verdicts.specs.Verdicts.{stationOk, takenBy}
 use Rattle.limits.specs.Limits.{maxSlots, maxWaiting, maxTaken, maxClass, maxMessages}
@@ -52,6 +52,12 @@ replyReasons p t a h r n =
     standingReasons p t a (eqb (kindOf r) 0)
     ++ ((5, not (timeOk (t .sender .link .«last_time») (h .time)))
     ∷ (6, not (heardOk h && replyOk r)) ∷ (7, eqb (kindOf r) 2 && ltb n 13) ∷ [])
+
+-- a reception of n decoded frames. 15: "more than 16 frames .. straight after 3"
+abbrev pub framesReasons : Profile → Station → List ℕ → Heard → ℕ → List Reason
+framesReasons p t a h n =
+    (1, not (inRange p)) ∷ (2, not (inOrder p)) ∷ (3, not (stationOk p t a)) ∷ (15, ltb maxReceived n)
+    ∷ (4, not (t .sender .link .connected)) ∷ (5, not (timeOk (t .sender .link .«last_time») (h .time))) ∷ (6, not (heardOk h)) ∷ []
 
 -- a burst into n bytes of output. 10: "The output is shorter than 64 times the long frame"
 abbrev pub burstReasons : Profile → Station → List ℕ → ℕ → List Reason

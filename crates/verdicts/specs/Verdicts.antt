@@ -1,4 +1,4 @@
--- What the station turns down (document 01; 11 and 12 of document 02), in this order. Definitions only.
+-- What the station turns down (document 01; 11, 12 and 15 of document 02), in this order. Definitions only.
 use mathlib.Core.List.{List}
 use mathlib.Core.Bool.{Bool, false, cond, not, _&&_, _||_}
 use Prim.Native.Nat.{ℕ, _+_, _-_, _*_}
@@ -16,9 +16,9 @@ use Rattle.queuing.specs.declared.Station.{Station}
 use Rattle.replies.specs.declared.Heard.{Heard}
 use Rattle.refusals.specs.declared.Verdict.{Verdict}
 use Rattle.refusals.specs.declared.Verdict.the-variants.{Accepted, ProfileOutOfRange, ShortOverLong, Unsound, OutOfTurn, BadTime, BadValue}
-use Rattle.refusals.specs.declared.Verdict.the-variants.{ShortPayload, QueueFull, AllTaken, ShortOutput, BadClass, TooManyMessages}
+use Rattle.refusals.specs.declared.Verdict.the-variants.{ShortPayload, QueueFull, AllTaken, ShortOutput, BadClass, TooManyMessages, TooManyFrames}
 use Rattle.refusals.specs.declared.Reply.{Reply}
-use Rattle.refusals.specs.Refusals.{numberOf, kindOf, timeOk, heardOk, replyOk}
+use Rattle.refusals.specs.Refusals.{numberOf, kindOf, maxReceived, timeOk, heardOk, replyOk}
 use Rattle.limits.specs.Limits.{maxSlots, maxTaken, maxClass, maxMessages}
 
 abbrev pub passed : Verdict → Bool
@@ -51,6 +51,14 @@ replyVerdict last h r n =
     (cond (not (heardOk h && replyOk r)) BadValue
     (cond (eqb (kindOf r) 2 && ltb n 13) ShortPayload Accepted))
 
+-- 5 and 6, of what is heard with no reply read: "where no frame is read, 4 to 6 are still checked" (Change 7)
+unfoldable pub hearingVerdict : Float → Heard → Verdict
+hearingVerdict last h = cond (not (timeOk last (h .time))) BadTime (cond (not (heardOk h)) BadValue Accepted)
+
+-- 15, of n frames, where 1 to 4 gave v: "It refuses more than 16 frames with 15, straight after 3"
+unfoldable pub framesStanding : Verdict → ℕ → Verdict
+framesStanding v n = cond (ltb 0 (numberOf v) && leb (numberOf v) 3) v (cond (ltb maxReceived n) TooManyFrames v)
+
 -- 11, 8, 9 and 12, of n bytes more as one message of this class and label, where the messages m wait: "a class above 3 with 11, before 8, and a
 -- 257th message with 12, after 9"; "a queuing of no bytes makes no message". "Whether the queue or the message count is full is judged after the
 -- withdrawal"; 9 counts withdrawn bytes as taken
@@ -78,6 +86,10 @@ queueVerdict p t a class label n = firstOf (standing p t a false) (roomVerdict (
 -- a reply with a payload of n bytes: 1 2 3 4 5 6 7
 unfoldable pub receiveVerdict : Profile → Station → List ℕ → Heard → Reply → ℕ → Verdict
 receiveVerdict p t a h r n = firstOf (standing p t a (eqb (kindOf r) 0)) (replyVerdict (t .sender .link .«last_time») h r n)
+
+-- a reception of n decoded frames, whatever they are: 1 2 3 15 4 5 6
+unfoldable pub framesVerdict : Profile → Station → List ℕ → Heard → ℕ → Verdict
+framesVerdict p t a h n = firstOf (framesStanding (standing p t a false) n) (hearingVerdict (t .sender .link .«last_time») h)
 
 -- a burst into n bytes of output: 1 2 3 4 10
 unfoldable pub burstVerdict : Profile → Station → List ℕ → ℕ → Verdict

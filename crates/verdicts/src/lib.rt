@@ -12,6 +12,7 @@ use messages::messages_ok;
 use messages::superseded;
 use queuing::Station;
 use record::Counts;
+use refusals::MAX_RECEIVED;
 use refusals::Reply;
 use refusals::Verdict;
 use refusals::heard_ok;
@@ -26,7 +27,7 @@ ghost use mathlib.Core.Bool.{true};
 ghost use Prim.Native.Nat.{_+_, _≤_};
 ghost use lib.Dec.{leb};
 ghost use Rattle.messages.specs.SoundCode.{SoundMessages};
-ghost use Rattle.verdicts.specs.Verdicts.{passed, firstOf, takenBy, standing as standingOf, replyVerdict, roomVerdict, outputVerdict};
+ghost use Rattle.verdicts.specs.Verdicts.{passed, firstOf, takenBy, standing as standingOf, replyVerdict, hearingVerdict, framesStanding, roomVerdict, outputVerdict};
 ghost use Rattle.limits.specs.Limits.{maxTaken};
 
 // Bytes taken, those withdrawn among them, are within their limit.
@@ -104,6 +105,37 @@ pub fn receive_verdict(v: Verdict, last: f64, h: Heard, r: Reply, n: usize) -> V
     }
     if (kind(r) == 2) & (n < 13) {
         return Verdict::ShortPayload;
+    }
+    Verdict::Accepted
+}
+
+// 15, of a reception of n frames, where 1 to 4 gave v.
+fn frames_standing(v: Verdict, n: usize) -> Verdict
+    ensures { λ r. ⌜ r ≡ framesStanding v n ⌝ }
+{
+    let k = number(v);
+    if (0 < k) & (k <= 3) {
+        return v;
+    }
+    if MAX_RECEIVED < n {
+        return Verdict::TooManyFrames;
+    }
+    v
+}
+
+// 15, 5 and 6, of a reception of n frames after a call at `last`, where 1 to 4 gave v.
+pub fn frames_verdict(v: Verdict, last: f64, h: Heard, n: usize) -> Verdict
+    ensures { λ r. ⌜ r ≡ firstOf (framesStanding v n) (hearingVerdict last h) ⌝ }
+{
+    let u = frames_standing(v, n);
+    if number(u) != 0 {
+        return u;
+    }
+    if !time_ok(last, h.time) {
+        return Verdict::BadTime;
+    }
+    if !heard_ok(h) {
+        return Verdict::BadValue;
     }
     Verdict::Accepted
 }

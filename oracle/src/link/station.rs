@@ -290,6 +290,11 @@ impl Station {
         self.sender_rx(&incoming(rank, snr_db), None, &[Some(frame)], now);
     }
 
+    /// All decoded frames of one reception, through the original's `sender_rx`: its loop.
+    pub fn hear_frames(&mut self, rank: usize, snr_db: f32, frames: &[Option<Frame>], now: f64) {
+        self.sender_rx(&incoming(rank, snr_db), None, frames, now);
+    }
+
     /// The original's `on_ack` of the outstanding burst.
     pub fn judge(&mut self, bitmap: u64, snr_db: f32, now: f64) {
         self.on_ack(self.burst_id, bitmap, false, snr_db, now);

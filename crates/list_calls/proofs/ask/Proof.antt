@@ -56,8 +56,8 @@ returns-4 c =
     (cond-no _ _ _ _ (ne-eqb _ _ (c .before .before .before .before .before .before .if3 .left))
     (cond-yes _ _ _ _ (eq-eqb _ _ (c .before .before .before .before .if4 .taken)) (c .before .before .connect .ensures))))
 
-queue-requires : tie.Need-queue-requires
-queue-requires c κs = search needs
+frames-requires : tie.Need-frames-requires
+frames-requires c κs = search needs
 
 same-length-5 : tie.Need-same-length-5
 same-length-5 c = search needs
@@ -65,11 +65,27 @@ same-length-5 c = search needs
 returns-5 : tie.Need-returns-5
 unfolding askedOf
 returns-5 c =
-    cond-no _ _ _ _ (ne-eqb _ _ (c .before .before .before .before .before .before .before .before .before .before .if1 .left))
-    (cond-no _ _ _ _ (ne-eqb _ _ (c .before .before .before .before .before .before .before .before .if2 .left))
-    (cond-no _ _ _ _ (ne-eqb _ _ (c .before .before .before .before .before .before .if3 .left))
-    (cond-no _ _ _ _ (ne-eqb _ _ (c .before .before .before .before .if4 .left))
-    (c .before .before .queue .ensures))))
+    cond-no _ _ _ _ (ne-eqb _ _ (c .before .before .before .before .before .before .before .before .before .before .before .before .if1 .left))
+    (cond-no _ _ _ _ (ne-eqb _ _ (c .before .before .before .before .before .before .before .before .before .before .if2 .left))
+    (cond-no _ _ _ _ (ne-eqb _ _ (c .before .before .before .before .before .before .before .before .if3 .left))
+    (cond-no _ _ _ _ (ne-eqb _ _ (c .before .before .before .before .before .before .if4 .left))
+    (cond-yes _ _ _ _ (eq-eqb _ _ (c .before .before .before .before .if5 .taken)) (c .before .before .frames .ensures)))))
+
+queue-requires : tie.Need-queue-requires
+queue-requires c κs = search needs
+
+same-length-6 : tie.Need-same-length-6
+same-length-6 c = search needs
+
+returns-6 : tie.Need-returns-6
+unfolding askedOf
+returns-6 c =
+    cond-no _ _ _ _ (ne-eqb _ _ (c .before .before .before .before .before .before .before .before .before .before .before .before .if1 .left))
+    (cond-no _ _ _ _ (ne-eqb _ _ (c .before .before .before .before .before .before .before .before .before .before .if2 .left))
+    (cond-no _ _ _ _ (ne-eqb _ _ (c .before .before .before .before .before .before .before .before .if3 .left))
+    (cond-no _ _ _ _ (ne-eqb _ _ (c .before .before .before .before .before .before .if4 .left))
+    (cond-no _ _ _ _ (ne-eqb _ _ (c .before .before .before .before .if5 .left))
+    (c .before .before .queue .ensures)))))
 
 pub ask-spec : {M : Type 1} → statement M
 ask-spec =
@@ -87,6 +103,9 @@ ask-spec =
     connect-requires
     same-length-4
     returns-4
-    queue-requires
+    frames-requires
     same-length-5
-    returns-5)
+    returns-5
+    queue-requires
+    same-length-6
+    returns-6)

@@ -37,15 +37,22 @@ slice-aggregate-or-5 c = search needs
 or-requires-5 : tie.Need-or-requires-5
 or-requires-5 c κs = search needs
 
+slice-aggregate-or-6 : tie.Need-slice-aggregate-or-6
+slice-aggregate-or-6 c = search needs
+
+or-requires-6 : tie.Need-or-requires-6
+or-requires-6 c κs = search needs
+
 returns : tie.Need-returns
 unfolding asking
 returns c =
-    let p5 = c .before .before in
+    let p6 = c .before .before in
+    let p5 = p6 .before .before in
     let p4 = p5 .before .before in
     let p3 = p4 .before .before in
     let p2 = p3 .before .before in
     let p1 = p2 .before .before in
-    rw (c .or5 .ensures, p5 .or4 .ensures, p4 .or3 .ensures, p3 .or2 .ensures, p2 .or .ensures, p1 .no-name .ensures)
+    rw (c .or6 .ensures, p6 .or5 .ensures, p5 .or4 .ensures, p4 .or3 .ensures, p3 .or2 .ensures, p2 .or .ensures, p1 .no-name .ensures)
 
 pub asking-spec : {M : Type 1} → statement M
 asking-spec =
@@ -62,4 +69,6 @@ asking-spec =
     or-requires-4
     slice-aggregate-or-5
     or-requires-5
+    slice-aggregate-or-6
+    or-requires-6
     returns)
