@@ -56,9 +56,9 @@ module _ (l : List ℕ) (first : ℕ) where
   Named at b w = (i : ℕ) → bitAt b i ≡ true → Had (at i) w
 
   -- each frame has its place in the burst as slot number, and carries the bytes of l
-  abbrev pub Sent : (ℕ → List ℕ) → List Slotted → Type 0
-  Sent at [] = Unit {0}
-  Sent at (x ∷ xs) = (x .frame ≡ at (x .slot)) × Carries l (x .frame) × Sent at xs
+  abbrev pub FromBurst : (ℕ → List ℕ) → List Slotted → Type 0
+  FromBurst at [] = Unit {0}
+  FromBurst at (x ∷ xs) = (x .frame ≡ at (x .slot)) × Carries l (x .frame) × FromBurst at xs
 
   pub record Took (at : ℕ → List ℕ) (y : Taking × List ℕ) : Type 0 where
     pub length : length (y .1) ≡ boxBytes
@@ -103,7 +103,7 @@ module _ (l : List ℕ) (first : ℕ) where
         two-more : (n : ℕ) → 2 ^ (n + 1) ≡ 2 ^ n + 2 ^ n
         two-more n = ap (λ (m : ℕ). 2 ^ m) (let q : n + 1 ≡ suc n = omega arith in q) ∙ two-pow-succ n
 
-    pub took-all : (xs : List Slotted) (y : Taking × List ℕ) → Sent at xs → Took at y → Took at (takeAll first xs y)
+    pub took-all : (xs : List Slotted) (y : Taking × List ℕ) → FromBurst at xs → Took at y → Took at (takeAll first xs y)
     unfolding takeAll
     took-all [] y s k = k
     took-all (x ∷ xs) y s k = took-all xs (takeOne first x y) (s .2) (took-one x y (s .0) (s .1) k)

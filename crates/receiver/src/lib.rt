@@ -1,7 +1,7 @@
 // The receiving end: keeps what a burst's frames bring, hands the stream on in order, and answers by a long ack.
+use byte_copy::load32;
 use frame::crc::crc32_by;
 use frame::crc::table;
-use byte_copy::load32;
 use window::copy_out;
 use window::keep_from;
 use window::move_on;
