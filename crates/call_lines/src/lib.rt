@@ -41,7 +41,7 @@ pub struct ShortLine {
 }
 
 // A number too wide for its field is the largest.
-fn u8_of(n: u64) -> u8
+pub fn u8_of(n: u64) -> u8
     ensures { λ r. ⌜ r ≡ fieldByte n ⌝ }
 {
     if n < 256 { n as u8 } else { 255 }
