@@ -10,13 +10,14 @@ use words::hex;
 use words::whole;
 ghost use mathlib.Core.Path.{_≡_};
 ghost use mathlib.Core.List.{_++_};
-ghost use Prim.Native.Nat.{_≤_};
+ghost use Prim.Native.Nat.{_≤_, min};
 ghost use lib.ListN.{length};
 ghost use Rattle.laws.specs.Bytes.{overwrite};
 ghost use Rattle.text.specs.Buffer.{appended};
 ghost use Rattle.text.specs.Words as T;
 ghost use Rattle.words.specs.Lines.{charsOf, nextWord, readAs};
 ghost use Rattle.words.specs.Words.{decimalOf, hexInto};
+ghost use Rattle.receiver.specs.Frames.{boxBytes};
 ghost use Rattle.box_lines.specs.BoxLines.{heardLine, receptionLine, placesFrom, placesLine, receivedLine, boxLine, keptCount};
 
 // Places that a box has.
@@ -81,9 +82,9 @@ pub struct PlacesRead {
 fn places_from(line: &[u8], r: Read, frames: u64, places: &mut [u8]) -> PlacesRead
     requires { ⌜ frames ≤ 256 ⌝ }
     ensures { λ q. ⌜ q ≡ record {
-          n = length (placesFrom (length (now (places .entry))) frames (now (line .entry)) r .0);
-          ok = placesFrom (length (now (places .entry))) frames (now (line .entry)) r .1;
-        } ⌝ }
+      n = length (placesFrom (length (now (places .entry))) frames (now (line .entry)) r .0);
+      ok = placesFrom (length (now (places .entry))) frames (now (line .entry)) r .1;
+    } ⌝ }
     ensures { λ _. ⌜ now (places .exit) ≡ overwrite (now (places .entry)) 0 (placesFrom (length (now (places .entry))) frames (now (line .entry)) r .0) ⌝ }
 {
     let mut q = r;
@@ -152,18 +153,27 @@ pub fn state(t: &mut [u8], n: usize, first: u32, kept: usize) -> usize
     puts(t, n, b"\n")
 }
 
+// The box's places of a window that has so many.
+fn places_of(n: usize) -> usize
+    ensures { λ r. ⌜ r ≡ min n boxBytes ⌝ }
+{
+    if n < PLACES { n } else { PLACES }
+}
+
 // How many bytes a window keeps.
 pub fn kept_count(w: &[u16]) -> usize
     ensures { λ r. ⌜ r ≡ keptCount (now (w .entry)) ⌝ }
 {
-    let end = if w.len() < PLACES { w.len() } else { PLACES };
+    let end = places_of(w.len());
     let mut n: usize = 0;
     let mut i: usize = 0;
     while i < end {
-        if 256 <= w[i] {
+        if w[i] < 256 {
+            i += 1;
+        } else {
             n += 1;
+            i += 1;
         }
-        i += 1;
     }
     n
 }
