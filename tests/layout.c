@@ -35,6 +35,8 @@ typedef struct vanitycrow_burst Burst;
 typedef struct vanitycrow_place Place;
 typedef struct vanitycrow_logged Logged;
 typedef struct vanitycrow_listing Listing;
+typedef struct vanitycrow_receiver Receiver;
+typedef struct vanitycrow_received Received;
 
 /* The type of a field or of its elements; size_t is uint64_t here. */
 #define KIND(x) \
@@ -128,6 +130,10 @@ static void reply_and_answer_lines(void) {
     F(Logged, refusal); F(Logged, len);
     S(Listing);
     F(Listing, refusal); F(Listing, n); F(Listing, level); F(Listing, q);
+    S(Receiver);
+    F(Receiver, first_missing);
+    S(Received);
+    F(Received, refusal); F(Received, payload); F(Received, handed); F(Received, wrong); F(Received, beyond);
 }
 
 int main(void) {
