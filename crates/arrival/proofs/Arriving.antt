@@ -16,7 +16,8 @@ use Rattle.laws.proofs.Tests.{all-at}
 use Rattle.laws.proofs.Picks.{by, test}
 use Rattle.limits.specs.Limits.{maxNumber}
 use Rattle.window.specs.Window as W
-use Rattle.window.specs.Window.{has, lead, moved}
+use Rattle.window.specs.Window.{lead, moved}
+use Rattle.window.specs.WindowCode.{has}
 use Rattle.window.proofs.Fits.{Fits, drop-lead, has-moved, length-moved}
 use Rattle.receiver.specs.Frames.{Slotted, lenOf, offOf, payloadOf, boxBytes}
 use Rattle.receiver.specs.declared.Taking.{Taking}

@@ -12,7 +12,8 @@ use Rattle.laws.proofs.Lists.{map-append}
 use Rattle.laws.proofs.Picks.{by, test, either, and-second}
 use Rattle.ledger.specs.Tally.{Tally, Event, byteOf, feed, Flown}
 use Rattle.ledger.specs.Claim.{ackedAt, settledBy}
-use Rattle.window.specs.Window.{has, lead, handed, moved}
+use Rattle.window.specs.Window.{lead, handed, moved}
+use Rattle.window.specs.WindowCode.{has}
 use Rattle.window.proofs.Fits.{Fits, fits-more, fits-lead, fits-handed, fits-moved, has-moved, length-moved}
 use Rattle.arrival.proofs.Growing.{bytes}
 

@@ -36,7 +36,7 @@ use Rattle.demand.specs.Page.{byOffset, Taken, answer as burstAnswer, Sends, Fu
 use Rattle.demand.proofs.Payloads.{sent-bytes}
 use Rattle.demand.proofs.Theorem.{demand3}
 use Rattle.window.specs.Window as W
-use Rattle.window.specs.Window.{has}
+use Rattle.window.specs.WindowCode.{has}
 use Rattle.window.proofs.Fits.{has-moved, has-or, kept-within, fits-zeros, fits-part, fits-at}
 use Rattle.receiver.specs.Frames.{Slotted, lenOf, offOf, boxBytes, offsets}
 use Rattle.receiver.specs.Receiving.{ackBytes, receptionOf, receiveRefusal, noAnswer}

@@ -23,7 +23,7 @@ use Rattle.receiver.specs.Taking.{noneTaken, takeOne, takeAll, slotted}
 use Rattle.receiver.specs.Receiving.{emptyFrom, receiverSound, receiveRefusal, accepted, receptionOf, framesTaken, freshReceiver}
 use Rattle.receiver.proofs.Calls.{sound-places, sound-first, sound-empty, sound-rest, length-taken}
 
--- nothing is isKept from place n on
+-- nothing is kept from place n on
 abbrev Empty : ℕ → List ℕ → Type 0
 Empty n w = (i : ℕ) → n ≤ i → isKept (getD w i 0) ≡ false
 

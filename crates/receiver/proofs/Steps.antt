@@ -15,7 +15,8 @@ use Rattle.laws.proofs.Picks.{by, test, cond-yes, cond-no, and-yes, and-left, a
 use Rattle.window.specs.Window.{keepFrom}
 use Rattle.receiver.specs.declared.Taking.{Taking}
 use Rattle.receiver.specs.Frames.{Slotted, offOf, payloadOf, frameOk, slotOk, reachOk}
-use Rattle.receiver.specs.Taking.{noneTaken, leftOut, tooFar, tookSlot, takeOne, takeAll, slotted, InBounds}
+use Rattle.receiver.specs.Taking.{noneTaken, leftOut, tooFar, tookSlot, takeOne, takeAll, slotted}
+use Rattle.receiver.specs.TakingCode.{InBounds}
 
 module _ (first : ℕ) (x : Slotted) (t : Taking) (w : List ℕ) where
   pub out-slot : slotOk (t .least) (x .slot) ≡ false → (leftOut t, w) ≡ takeOne first x (t, w)

@@ -13,7 +13,8 @@ use lib.Seq.{take-nil, drop-drop, getD-drop}
 use borrow.Author.Tests.{leb-true}
 use Rattle.laws.proofs.Picks.{by, and-first, and-second}
 use Rattle.ledger.specs.Reply.{bitAt}
-use Rattle.window.specs.Window.{keepFrom, has}
+use Rattle.window.specs.Window.{keepFrom}
+use Rattle.window.specs.WindowCode.{has}
 use Rattle.window.proofs.Fits.{Fits, fits-keep, has-stays, has-new, length-keep}
 use Rattle.receiver.specs.Frames.{Slotted, lenOf, offOf, payloadOf, frameOk, slotOk, reachOk, boxBytes}
 use Rattle.receiver.specs.declared.Taking.{Taking}
@@ -47,7 +48,7 @@ module _ (l : List ℕ) (first : ℕ) where
       (ap (drop (first - o)) (c .same) ∙ drop-take (first - o) n (drop o l) ∙ ap₂ take (sym len) (drop-drop (first - o) o l ∙ ap (λ (k : ℕ). drop k l) at ∙ sym (drop-drop (o - first) first l)))
       g
 
-  -- all bytes of a frame have been handed on or are isKept
+  -- all bytes of a frame have been handed on or are kept
   abbrev pub Had : List ℕ → List ℕ → Type 0
   Had f w = (o : ℕ) → offOf f ≤ o → o < offOf f + lenOf f → has first w o ≡ true
 
@@ -108,7 +109,7 @@ module _ (l : List ℕ) (first : ℕ) where
     took-all [] y s k = k
     took-all (x ∷ xs) y s k = took-all xs (takeOne first x y) (s .2) (took-one x y (s .0) (s .1) k)
 
-    -- nothing that was isKept is lost
+    -- nothing that was kept is lost
     stays-one : (x : Slotted) (y : Taking × List ℕ) (o : ℕ) → has first (y .1) o ≡ true → has first (takeOne first x y .1) o ≡ true
     unfolding takeOne
     stays-one x y o e =

@@ -17,11 +17,11 @@ use Rattle.receiver.specs.declared.Receiver.{Receiver}
 use Rattle.receiver.specs.declared.Received.{Received}
 use Rattle.receiver.specs.declared.Listened.{Listened}
 
--- nothing is isKept from place `from` on
+-- nothing is kept from place `from` on
 unfoldable pub emptyFrom : List ℕ → ℕ → Bool
 emptyFrom a from = every (λ i. not (isKept (getD a i 0))) (upto from boxBytes)
 
--- "sound where the first missing byte is at most 16,777,216 and isn't isKept, and all isKept bytes lie within the 32,768 and below offset 16,777,216": what is lent past
+-- "sound where the first missing byte is at most 16,777,216 and isn't kept, and all kept bytes lie within the 32,768 and below offset 16,777,216": what is lent past
 -- the 32,768 places is no part of it
 unfoldable pub receiverSound : Receiver → List ℕ → Bool
 receiverSound r a =

@@ -1,18 +1,11 @@
 -- What a receiver makes of a burst's frames. Definitions only.
-use Prim.Native.Nat.{ℕ, suc, _+_, _^_, _≤_, _<_}
-use mathlib.Core.Bool.{Bool, cond, _&&_}
+use Prim.Native.Nat.{ℕ, _+_, _^_}
+use mathlib.Core.Bool.{cond, _&&_}
 use mathlib.Core.List.{List, [], _∷_}
 use lib.ListN.{take, drop}
 use Rattle.window.specs.Window.{keepFrom}
 use Rattle.receiver.specs.declared.Taking.{Taking}
 use Rattle.receiver.specs.Frames.{Slotted, offOf, payloadOf, frameOk, slotOk, reachOk}
-
--- the slot numbers taken lie below `least`, and the counts are those of at most n frames
-pub record InBounds (t : Taking) (n : ℕ) : Type 0 where
-  pub few : t .least ≤ 64
-  pub small : t .bitmap < 2 ^ (t .least)
-  pub wrong : t .wrong ≤ n
-  pub beyond : t .beyond ≤ n
 
 abbrev pub noneTaken : Taking
 noneTaken = record { least = 0; bitmap = 0; wrong = 0; beyond = 0 }

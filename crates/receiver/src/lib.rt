@@ -10,7 +10,8 @@ ghost use Prim.Native.Nat.{_+_, _^_, _≤_, _<_, min};
 ghost use lib.ListN.{length};
 ghost use Rattle.frame.specs.Table.{tableOf};
 ghost use Rattle.receiver.specs.Frames.{boxBytes, offsets, offOf, sumOk, headOk, frameOk};
-ghost use Rattle.receiver.specs.Taking.{noneTaken, leftOut, tooFar, tookSlot, takeOne, takeAll, slotted, InBounds};
+ghost use Rattle.receiver.specs.Taking.{noneTaken, leftOut, tooFar, tookSlot, takeOne, takeAll, slotted};
+ghost use Rattle.receiver.specs.TakingCode.{InBounds};
 ghost use Rattle.receiver.specs.Receiving.{emptyFrom, receiverSound, receiveRefusal, ackBytes, noAnswer, accepted, receptionOf, freshReceiver};
 
 // The places of the window, and the offsets that a frame's 24 bits can name.
@@ -209,7 +210,7 @@ fn take_all(
     k
 }
 
-// Nothing is isKept from place `from` on.
+// Nothing is kept from place `from` on.
 fn empty_from(w: &[u16], from: usize) -> bool
     requires { ⌜ boxBytes ≤ length (now w) ⌝ }
     ensures { λ r. ⌜ r ≡ emptyFrom (now (w .entry)) from ⌝ }

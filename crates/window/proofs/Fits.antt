@@ -9,9 +9,10 @@ use lib.ListN.{length, take, drop, getD, replicate, length-drop, length-append, 
 use lib.Seq.{drop-nil, getD-drop}
 use borrow.Author.Tests.{le-leb, ltb-true, ltb-false}
 use Rattle.laws.proofs.Picks.{by, test, or-left, or-right}
-use Rattle.window.specs.Window.{isKept, keptByte, keepAt, keepFrom, lead, handed, moved, has}
+use Rattle.window.specs.Window.{isKept, keptByte, keepAt, keepFrom, lead, handed, moved}
+use Rattle.window.specs.WindowCode.{has}
 
--- each place that is isKept holds the byte of l there
+-- each place that is kept holds the byte of l there
 abbrev pub Fits : List ℕ → List ℕ → Type 0
 Fits [] l = Unit {0}
 Fits (v ∷ w) [] = (isKept v ≡ false) × Fits w []
@@ -33,7 +34,7 @@ fits-zeros zero l = tt
 fits-zeros (suc n) [] = (refl, fits-zeros n [])
 fits-zeros (suc n) (y ∷ l) = (λ e. absurd (false≢true e), fits-zeros n l)
 
--- bytes of the stream are isKept
+-- bytes of the stream are kept
 first-byte : (v b y : ℕ) → b < 256 → b ≡ y → (isKept v ≡ true → keptByte v ≡ y) → isKept (cond (isKept v) v (256 + b)) ≡ true → keptByte (cond (isKept v) v (256 + b)) ≡ y
 first-byte v b y h e f = by (λ (x : ℕ). isKept x ≡ true → keptByte x ≡ y) (isKept v) (λ k _. f k) (λ k _. omega (arith, h, e))
 
@@ -77,7 +78,7 @@ fits-append (v ∷ w) (y ∷ l) n f = (f .0, fits-append w l n (f .1))
 pub fits-moved : (w l : List ℕ) → Fits w l → Fits (moved w) (drop (lead w) l)
 fits-moved w l f = fits-append (drop (lead w) w) (drop (lead w) l) (lead w) (fits-drop (lead w) w l f)
 
--- ---- what is isKept stays isKept
+-- ---- what is kept stays kept
 
 pub keep-kept : (d : ℕ) (bs w : List ℕ) (i : ℕ) → isKept (getD w i 0) ≡ true → isKept (getD (keepAt d bs w) i 0) ≡ true
 unfolding keepAt
@@ -88,7 +89,7 @@ keep-kept zero (b ∷ bs) (v ∷ w) (suc i) e = keep-kept zero bs w i e
 keep-kept (suc d) bs (v ∷ w) zero e = e
 keep-kept (suc d) bs (v ∷ w) (suc i) e = keep-kept d bs w i e
 
--- and what is to be isKept is
+-- and what is to be kept is
 pub keep-new : (d : ℕ) (bs w : List ℕ) (i : ℕ) → d ≤ i → i < d + length bs → i < length w → isKept (getD (keepAt d bs w) i 0) ≡ true
 unfolding keepAt
 keep-new d bs [] i l h n = absurd (omega (arith, n))
@@ -120,7 +121,7 @@ unfolding lead
 drop-lead [] = omega arith
 drop-lead (v ∷ w) = by (λ (n : ℕ). n ≤ suc (length w)) (isKept v) (λ k. omega (arith, drop-lead w)) (λ k. omega arith)
 
--- isKept places are within the window
+-- kept places are within the window
 pub kept-within : (w : List ℕ) (i : ℕ) → isKept (getD w i 0) ≡ true → i < length w
 kept-within [] i e = absurd (false≢true e)
 kept-within (v ∷ w) zero e = omega arith

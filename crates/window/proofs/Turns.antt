@@ -69,7 +69,7 @@ module _ (first off : ℕ) (bs w : List ℕ) where
       let z : 0 ≡ first - off = omega (arith, h) in
       e ∙ ap (λ (k : ℕ). keepAt (off - first) (drop k bs) w) z
 
--- ---- copy_out: the places passed are all isKept
+-- ---- copy_out: the places passed are all kept
 
 pub lead-more : (w : List ℕ) (n : ℕ) → n < length w → isKept (getD w n 0) ≡ true → lead (drop n w) ≡ lead (drop (n + 1) w) + 1
 unfolding lead

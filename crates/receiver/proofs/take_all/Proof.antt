@@ -1,7 +1,8 @@
 -- `take_all` meets its contract: what the frames left come to is what all come to.
 use Prim.Native.Nat.{min, ℕ, _+_, _-_, _≤_, _<_}
 use Rattle.receiver.proofs.Steps.{rest, turn, turn-end, bounds-told, bounds-begun, bounds-weak}
-use Rattle.receiver.specs.Taking.{noneTaken, takeAll, slotted, InBounds}
+use Rattle.receiver.specs.Taking.{noneTaken, takeAll, slotted}
+use Rattle.receiver.specs.TakingCode.{InBounds}
 use Rattle.receiver.specs.declared.Taking.{Taking}
 use mathlib.Core.Path.{subst, _≡_, refl, sym, ap, _∙_}
 use denote.Ref.{now}

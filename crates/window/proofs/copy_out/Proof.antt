@@ -1,4 +1,4 @@
--- `copy_out` meets its contract: the places passed are all isKept, and their bytes are in the output.
+-- `copy_out` meets its contract: the places passed are all kept, and their bytes are in the output.
 use borrow.Author.Tests.{lt-leb, le-leb}
 use Rattle.window.proofs.Turns.{lead-more, lead-stop, lead-end, copy-more, copied}
 use Rattle.window.specs.Window.{lead, keptByte}
