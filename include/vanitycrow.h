@@ -1,4 +1,5 @@
-/* The sender of an HF station: six calls over one record and one work area, a lookup, the link log, the levels within reach, and profiles as files.
+/* The sender of an HF station: six calls over one record and one work area, a lookup, the link log, the levels within reach, and profiles as files; and
+ * the receiving end, a box that listens, with a record and a window of its own.
  *
  * Link with libstation.a (`rt staticlib station`). A sender is a struct vanitycrow_station and a work area of VANITYCROW_AREA_BYTES
  * bytes, all zero at first; vanitycrow_fresh makes the record. Each call changes both, and nothing else may. One profile serves a sender
@@ -18,9 +19,9 @@ extern "C" {
 #endif
 
 /* The version of this interface (CHANGELOG.md). */
-#define VANITYCROW_VERSION "0.12.0"
+#define VANITYCROW_VERSION "0.14.0"
 #define VANITYCROW_VERSION_MAJOR 0
-#define VANITYCROW_VERSION_MINOR 12
+#define VANITYCROW_VERSION_MINOR 14
 #define VANITYCROW_VERSION_PATCH 0
 
 #define VANITYCROW_AREA_BYTES 49152
@@ -34,25 +35,29 @@ extern "C" {
 #define VANITYCROW_ADIF_BYTES 256 /* least output of a link log */
 #define VANITYCROW_CARD_BYTES 751 /* a profile as a file of version 1 (docs/CARD.md) */
 #define VANITYCROW_LAST_SECOND 4102444799u /* since 1970: the end of 2099 */
+#define VANITYCROW_PLACES 32768 /* places of a box's window, and least output of its call */
+#define VANITYCROW_ACK_BYTES 13 /* payload of the long ack that a box answers with */
 
 /* What a call answers. */
 enum {
     VANITYCROW_ACCEPTED = 0,
     VANITYCROW_PROFILE_OUT_OF_RANGE = 1, /* a number of the profile is out of range or not a number */
     VANITYCROW_SHORT_OVER_LONG = 2,      /* the short frame is larger than the long */
-    VANITYCROW_UNSOUND = 3,              /* the work area is too short, or the record is not sound */
+    VANITYCROW_UNSOUND = 3,              /* the work area is too short, or the record is not sound; of a box, its window or its record */
     VANITYCROW_OUT_OF_TURN = 4,          /* a call other than connect before connect, or connect again */
     VANITYCROW_BAD_TIME = 5,             /* not within 0 to 10^9, or earlier than the last accepted one */
-    VANITYCROW_BAD_VALUE = 6,            /* a value of a reply is out of range or not a number */
+    VANITYCROW_BAD_VALUE = 6,            /* a value of a reply is out of range or not a number; a box is given a burst's number above 3 */
     VANITYCROW_SHORT_PAYLOAD = 7,        /* a long ack's payload is under 13 bytes */
     VANITYCROW_QUEUE_FULL = 8,           /* more than VANITYCROW_MAX_WAITING bytes would wait */
     VANITYCROW_ALL_TAKEN = 9,            /* more than 2^32 - 1 bytes would be taken in all */
-    VANITYCROW_SHORT_OUTPUT = 10,        /* the output is shorter than VANITYCROW_MAX_SLOTS long frames */
+    VANITYCROW_SHORT_OUTPUT = 10,        /* the output is shorter than VANITYCROW_MAX_SLOTS long frames; a box's, than VANITYCROW_PLACES bytes */
     VANITYCROW_BAD_CLASS = 11,           /* a message's class is above VANITYCROW_MAX_CLASS */
     VANITYCROW_TOO_MANY_MESSAGES = 12,   /* more than VANITYCROW_MAX_MESSAGES messages would wait */
     VANITYCROW_BAD_VERSION = 13,         /* a profile's file has a version byte of 0 or above 15 */
     VANITYCROW_BAD_CARD = 14,            /* it is empty, or a count doesn't agree with version or length; written: the output is under VANITYCROW_CARD_BYTES */
     VANITYCROW_TOO_MANY_FRAMES = 15,     /* a reception has more than VANITYCROW_MAX_RECEIVED frames */
+    VANITYCROW_BAD_FRAME = 16,           /* no call's answer: frames that a box leaves out are counted under it (vanitycrow_receive) */
+    VANITYCROW_FRAME_BEYOND = 17,        /* the same of frames that reach past what a box can keep */
     VANITYCROW_STRETCH_RETIRED = 18,     /* a profile's file of version 2 or later has harq_stretch, which is retired */
     VANITYCROW_BAD_RANGE = 19,           /* the lowest report is above the highest */
     VANITYCROW_BAD_CALL_SIGN = 20,       /* not 1 to 12 capitals, digits and slashes */
@@ -317,6 +322,16 @@ struct vanitycrow_card_answer { uint8_t refusal; bool stretched; };
  * are 0, and n is 0 where the call is refused. */
 struct vanitycrow_listing { uint8_t refusal; size_t n; uint8_t level[VANITYCROW_LEVELS]; uint8_t q[VANITYCROW_LEVELS]; };
 
+/* ---- the receiving end */
+
+/* A box: its first missing byte, which is the count of bytes that it has handed on. Its window is lent with each call: VANITYCROW_PLACES places,
+ * 65,536 bytes, all zero at first. Place i is for the byte at offset first_missing + i: below 256 there is none, else it is the place less 256. */
+struct vanitycrow_receiver { uint32_t first_missing; };
+
+/* payload is that of the long ack to answer with, whose flags are 0; handed is how many bytes of the stream stand at the start of the output; wrong and
+ * beyond are how many frames were left out under 16 and under 17. All but refusal is 0 where the call is refused. */
+struct vanitycrow_received { uint8_t refusal; uint8_t payload[VANITYCROW_ACK_BYTES]; uint32_t handed; size_t wrong; size_t beyond; };
+
 /* ---- calls: p the profile, t the record, a the work area of a_len bytes */
 
 /* Makes *t the record of a new sender, whatever it was. */
@@ -375,6 +390,23 @@ uint8_t vanitycrow_write_profile(const struct vanitycrow_profile *p, uint8_t *ou
  * byte. A file of version 1 that has harq_stretch on is read with it off, and the answer says so. Refusals 13 14 18 1 2, in this order; 1 also where a place
  * that is on or off is neither. */
 struct vanitycrow_card_answer vanitycrow_read_profile(const uint8_t *file, size_t n, struct vanitycrow_profile *p);
+
+/* Makes *r the record of a new box, whatever it was; its window is to be all zero. */
+void vanitycrow_fresh_receiver(struct vanitycrow_receiver *r);
+
+/* A burst's number and its decoded frames, which stand in bytes one after the other: as many as the shorter of the lists sizes and slots has, frame i of
+ * sizes[i] bytes, or of as many as are left, with slot number slots[i]. db is the dB byte to answer. What frames bring within the 32,768 bytes from the
+ * first missing one on, as it was before the call, is kept; a byte kept first stays. Then the bytes that are there without a gap are handed on: they
+ * stand at the start of out, and what lies past them keeps its bytes, as does the window past its VANITYCROW_PLACES. Refusals 3 6 10, in this order.
+ *
+ * A frame is left out under 16: of under 18 or over 512 bytes; with a slot number above 63 or not above that of the last frame taken; with a wrong check
+ * sum, a kind other than 3, or a length byte of 0, of 255 or reaching into the check sum; and then under 17: where it reaches past the 32,768 bytes or
+ * past offset 16,777,216. Its bit is not set, and the other frames are still taken. A frame whose bytes have all been handed on is taken.
+ *
+ * A link carries up to 16,777,216 bytes: docs/DIFFERENCES.md says why, and what a maker of boxes does about it. */
+struct vanitycrow_received vanitycrow_receive(struct vanitycrow_receiver *r, uint16_t *window, size_t places, uint8_t number, uint8_t db,
+                                              const uint8_t *bytes, size_t n, const uint16_t *sizes, size_t sizes_n, const uint8_t *slots,
+                                              size_t slots_n, uint8_t *out, size_t out_n);
 
 #ifdef __cplusplus
 }

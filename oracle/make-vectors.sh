@@ -42,10 +42,18 @@ vectors classes 40 2 5 12 14 15 21 32 33 41 51
 vectors classes 70 9 18 42 53
 vectors labels 40 4 7 15 39 59
 vectors labels 70 5 13 30 36 41 50 54
+vectors box 50 1
+vectors box 70 2
+vectors box 90 3
+vectors box 110 4
+vectors box 130 5
+vectors box 150 6
+vectors frames 40 0 1 2 3 4 5 6 7
+vectors frames 90 0 1 2 3
 
 examples=$here/../examples
-for list in "$vectors"/*.calls "$vectors"/changes/levels-*.calls "$vectors"/changes/classes-*.calls "$vectors"/changes/labels-*.calls \
-    "$vectors"/changes/airtime-*.calls "$examples/levels.calls" "$examples/classes.calls" "$examples/bulletin.calls" \
+for list in "$vectors"/*.calls "$vectors"/changes/levels-*.calls "$vectors"/changes/classes-*.calls "$vectors"/changes/labels-*.calls "$vectors"/changes/box-*.calls "$vectors"/changes/frames-[0-9]*.calls \
+    "$vectors"/changes/airtime-*.calls "$examples/levels.calls" "$examples/classes.calls" "$examples/bulletin.calls" "$examples/frames.calls" \
     "$vectors/changes/frames-of-263-and-264.calls"; do
     "$here/run" transcript "$list" >"${list%.calls}.transcript"
 done

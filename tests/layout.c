@@ -37,6 +37,8 @@ typedef struct vanitycrow_place Place;
 typedef struct vanitycrow_logged Logged;
 typedef struct vanitycrow_listing Listing;
 typedef struct vanitycrow_card_answer CardAnswer;
+typedef struct vanitycrow_receiver Receiver;
+typedef struct vanitycrow_received Received;
 
 /* The type of a field or of its elements; size_t is uint64_t here. */
 #define KIND(x) \
@@ -134,6 +136,10 @@ static void reply_and_answer_lines(void) {
     F(Listing, refusal); F(Listing, n); F(Listing, level); F(Listing, q);
     S(CardAnswer);
     F(CardAnswer, refusal); F(CardAnswer, stretched);
+    S(Receiver);
+    F(Receiver, first_missing);
+    S(Received);
+    F(Received, refusal); F(Received, payload); F(Received, handed); F(Received, wrong); F(Received, beyond);
 }
 
 int main(void) {
@@ -145,5 +151,6 @@ int main(void) {
     printf("MAX_MESSAGES %d\n", VANITYCROW_MAX_MESSAGES);
     printf("ADIF_BYTES %d\n", VANITYCROW_ADIF_BYTES);
     printf("LAST_SECOND %u\n", VANITYCROW_LAST_SECOND);
+    printf("PLACES %d\n", VANITYCROW_PLACES);
     return 0;
 }

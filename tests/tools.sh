@@ -152,13 +152,17 @@ printf 'pub single-class : Unit\nsingle-class = tt\n' >"$small/crates/demand/pro
 printf 'pub in-binary32 : Unit\nin-binary32 = tt\n\npub in-binary64 : Unit\nin-binary64 = tt\n\npub in-conversions : Unit\nin-conversions = tt\n' \
     >"$small/crates/rounding/proofs/Theorem.antt"
 mkdir -p "$small/crates/verdicts/proofs" "$small/crates/calendar/proofs" "$small/crates/adif/proofs" "$small/crates/reachable/proofs" "$small/crates/far_station/proofs" \
-    "$small/crates/card/proofs"
+    "$small/crates/card/proofs" "$small/crates/arrival/proofs" "$small/crates/receiver/proofs"
 printf 'pub cannot-force : Unit\ncannot-force = tt\n' >"$small/crates/far_station/proofs/Theorem.antt"
 printf 'pub round-trip : Unit\nround-trip = tt\n' >"$small/crates/card/proofs/Round.antt"
 printf 'pub later-versions : Unit\nlater-versions = tt\n' >"$small/crates/card/proofs/Later.antt"
+printf 'pub read-off : Unit\nread-off = tt\n\npub told-alone : Unit\ntold-alone = tt\n' >"$small/crates/card/proofs/Stretch.antt"
+printf 'pub end-to-end : Unit\nend-to-end = tt\n' >"$small/crates/arrival/proofs/Theorem.antt"
+printf 'pub keeps-sound : Unit\nkeeps-sound = tt\n' >"$small/crates/receiver/proofs/Keeps.antt"
+printf 'pub sent-taken : Unit\nsent-taken = tt\n' >"$small/crates/receiver/proofs/Sent.antt"
 printf 'pub lists : Unit\nlists = tt\n' >"$small/crates/reachable/proofs/Laws.antt"
 printf 'pub by-claim : Unit\nby-claim = tt\n\npub under-claim : Unit\nunder-claim = tt\n\npub agree : Unit\nagree = tt\n' >"$small/crates/reachable/proofs/Answers.antt"
-for law in queue reply burst lookup; do
+for law in queue reply frames burst lookup; do
     printf 'pub %s-first : Unit\n%s-first = tt\n\n' $law $law
 done >"$small/crates/verdicts/proofs/Order.antt"
 printf 'pub date-back : Unit\ndate-back = tt\n\npub second-back : Unit\nsecond-back = tt\n' >"$small/crates/calendar/proofs/Laws.antt"

@@ -44,7 +44,7 @@ pub struct Reached {
     pub lists: u64,
     counts: BTreeMap<&'static str, u64>,
     most: BTreeMap<&'static str, u64>,
-    refused: [u64; 13],
+    refused: [u64; 16],
     levels: [u64; 17],
 }
 
@@ -66,7 +66,7 @@ impl Reached {
         for (what, n) in &self.most {
             let _ = writeln!(s, "  most {what}: {n}");
         }
-        let _ = writeln!(s, "  refused by 1 to 12: {:?}", &self.refused[1..]);
+        let _ = writeln!(s, "  refused by 1 to 15: {:?}", &self.refused[1..]);
         let _ = writeln!(s, "  bursts by level: {:?}", self.levels);
         s
     }

@@ -14,9 +14,9 @@ use crate::rng::Rng;
 
 /// What a list is about. Lists of `lines` may end in an error. `levels`, `classes`, `labels` and `frames` are mixed with no other. In all but `classes`
 /// and `labels` every message is of class 3, by default; in all but `labels` none has a label.
-pub const KINDS: [&str; 14] = [
+pub const KINDS: [&str; 15] = [
     "usual", "ladder", "harq", "merge", "many", "extreme", "hostile", "limits", "profiles", "lines", "levels",
-    "classes", "labels", "frames",
+    "classes", "labels", "frames", "box",
 ];
 
 /// How the far station answers.
@@ -1113,6 +1113,80 @@ fn messages_list(r: &mut Rng, calls: usize, labelled: bool) {
     d.call(Call::State);
 }
 
+/// A sender and a box over a channel that loses, with frames from elsewhere.
+fn box_list(r: &mut Rng, calls: usize) {
+    let profile = match r.below(6) {
+        0 => profiles::extreme(r),
+        1 => profiles::merge(r),
+        2 => profiles::swapped(r),
+        _ => profiles::usual(r),
+    };
+    let mut d = Driver::new(r, profile, Far::Honest);
+    d.largest_queue = 6000;
+    d.connect();
+    while d.calls() + 3 < calls {
+        let frames = d.last.as_ref().map_or(0, |b| b.frames.len() as u64);
+        match d.r.below(24) {
+            0..=3 => d.queue(),
+            4..=9 => d.burst(),
+            10..=13 if frames > 0 => {
+                let loss = d.r.pick(&[2, 4, 1000]);
+                let mut places: Vec<u64> = (0..frames).filter(|_| !d.r.once_in(loss)).collect();
+                if d.r.once_in(6) {
+                    places.extend((0..d.r.below(9)).map(|_| d.r.below(frames)));
+                }
+                let db = d.r.pick(&[0, 34, 255, 256, u64::MAX]);
+                d.call(Call::Arrive { db, places });
+            }
+            14..=17 => {
+                let t = d.later();
+                let (wave, here) = (d.r.below(6), d.snr);
+                let (want_turn, want_disc, stored) = (d.r.once_in(9), d.r.once_in(30), d.r.flag());
+                if d.h.answered() {
+                    d.call(Call::Reply {
+                        t,
+                        wave,
+                        here,
+                        want_turn,
+                        want_disc,
+                        stored,
+                    });
+                }
+            }
+            18 | 19 => {
+                let first = d.h.listener.first;
+                let slots = crate::listening::frames(d.r, first);
+                for (slot, frame) in slots.into_iter().take(d.h.room()) {
+                    let slot = if slot == 255 { d.r.pick(&[255, 256, u64::MAX]) } else { slot as u64 };
+                    d.call(Call::Heard(slot, frame));
+                }
+                let number = if d.r.once_in(8) { d.r.pick(&[4, 255, 256, u64::MAX]) } else { d.r.below(4) };
+                let db = d.r.below(300);
+                d.call(Call::Receive { number, db });
+            }
+            20 => {
+                let n = d.r.pick(&[0, 32_767, 32_768, 32_769, 65_536]);
+                d.call(Call::Window(n));
+                if n < 32_768 {
+                    d.call(Call::Receive { number: 0, db: 0 });
+                    d.call(Call::Window(32_768));
+                }
+            }
+            21 if d.r.once_in(3) => {
+                d.call(Call::Out(32_767));
+                d.call(Call::Arrive { db: 1, places: Vec::new() });
+                d.call(Call::Out(OUT_MOST));
+            }
+            22 => {
+                d.call(Call::Box);
+            }
+            _ => d.step(),
+        }
+    }
+    d.call(Call::Box);
+    d.call(Call::State);
+}
+
 /// A profile for the levels within reach; some are refused.
 fn levels_profile(r: &mut Rng) -> Profile {
     let places = profiles::number_places();
@@ -1357,6 +1431,10 @@ pub fn list(seed: u64, index: u64, calls: usize, kind: &str) -> Vec<Item> {
         "lines" => return lines(r, calls),
         "levels" => {
             levels_list(r, calls);
+            return made();
+        }
+        "box" => {
+            box_list(r, calls);
             return made();
         }
         "classes" | "labels" => {

@@ -6,6 +6,7 @@ use crate::link::frame::{AckInfo, Frame, Kind, Tiny, caps, flags};
 use crate::link::report::ChanClass;
 use crate::link::station::{Awaiting, Station, TINY, wave_of_rank, wave_rank};
 use crate::list::{AREA_MOST, Call, Decoded, OUT_MOST};
+use crate::listening::{Heard, Listener, REACH, Slotted};
 use crate::messages::{CLASS_MOST, MESSAGES_MOST, Messages};
 use crate::profile::{FRAME_BYTES, Profile};
 
@@ -15,6 +16,8 @@ pub const TAKEN_MOST: u64 = 0xFFFF_FFFF;
 /// Decoded frames of one reception.
 pub const RECEIVED_MOST: usize = 16;
 pub const LAST_SECOND: f64 = 1e9;
+/// Frames that may be heard before a reception.
+pub const HEARD_MOST: usize = 128;
 
 #[derive(Clone, Debug)]
 pub struct SentFrame {
@@ -48,6 +51,10 @@ pub enum Answer {
     Refused(u8),
     Burst(Burst),
     Piece(Option<Vec<u8>>),
+    /// What the second box answers.
+    Heard(Heard),
+    /// The line breaks the rules, as it stands after the others.
+    Error,
     /// Levels, ascending, each with its lowest report.
     Levels(Vec<(usize, u8)>),
 }
@@ -74,6 +81,15 @@ pub struct Harness {
     pub airtime_ms: u64,
     area: u64,
     out: u64,
+    pub listener: Listener,
+    /// Places lent to the box.
+    window: u64,
+    /// Frames for the next reception.
+    heard: Vec<Slotted>,
+    /// The last burst's number and its frames.
+    last: Option<(u8, Vec<Vec<u8>>)>,
+    /// The box's last answer.
+    answer: Option<Vec<u8>>,
 }
 
 impl Harness {
@@ -92,6 +108,11 @@ impl Harness {
             airtime_ms: 0,
             area: AREA_BYTES.min(AREA_MOST),
             out: OUT_MOST,
+            listener: Listener::default(),
+            window: REACH,
+            heard: Vec::new(),
+            last: None,
+            answer: None,
         }
     }
 
@@ -111,6 +132,15 @@ impl Harness {
     pub fn refuses(&self, call: &Call) -> Option<u8> {
         if matches!(call, Call::State | Call::Messages | Call::Area(_) | Call::Out(_)) {
             return None;
+        }
+        match *call {
+            Call::Heard(..) | Call::Window(_) | Call::Box => return None,
+            Call::Receive { number, .. } => return self.listener.refuses(number.min(255) as u8, self.window, self.out),
+            Call::Arrive { .. } => {
+                let number = self.last.as_ref().map_or(0, |b| b.0);
+                return self.listener.refuses(number, self.window, self.out);
+            }
+            _ => {}
         }
         if self.refusal.is_some() {
             return self.refusal;
@@ -222,12 +252,56 @@ impl Harness {
                     return Some(10);
                 }
             }
+            Call::Heard(..) | Call::Receive { .. } | Call::Arrive { .. } | Call::Reply { .. } | Call::Window(_) | Call::Box => {}
             Call::Piece(_) | Call::Levels { .. } | Call::State | Call::Messages | Call::Area(_) | Call::Out(_) => {}
         }
         None
     }
 
+    /// Whether the line breaks the rules where it stands.
+    fn breaks(&self, call: &Call) -> bool {
+        match call {
+            Call::Heard(..) => self.heard.len() == HEARD_MOST,
+            Call::Arrive { places, .. } => {
+                let frames = self.last.as_ref().map_or(0, |b| b.1.len() as u64);
+                places.iter().any(|&p| p >= frames)
+            }
+            Call::Reply { .. } => self.answer.is_none(),
+            _ => false,
+        }
+    }
+
+    /// The box's answer, which stands for the next `reply`.
+    fn received(&mut self, number: u8, db: u64, frames: &[Slotted]) -> Answer {
+        let heard = self.listener.receive(number, (db % 256) as u8, frames);
+        self.answer = Some(heard.payload.clone());
+        Answer::Heard(heard)
+    }
+
     pub fn call(&mut self, call: &Call) -> Answer {
+        if self.breaks(call) {
+            return Answer::Error;
+        }
+        if let Call::Reply {
+            t,
+            wave,
+            here,
+            want_turn,
+            want_disc,
+            stored,
+        } = *call
+        {
+            let payload = self.answer.clone().expect("there is an answer");
+            return self.call(&Call::Long {
+                t,
+                wave,
+                here,
+                want_turn,
+                want_disc,
+                stored,
+                payload,
+            });
+        }
         if let Some(number) = self.refuses(call) {
             return Answer::Refused(number);
         }
@@ -342,7 +416,24 @@ impl Harness {
                 s.hear_tiny(wave as usize, here, Tiny::Turn { snr_db: db }, t);
                 self.last_time = Some(t);
             }
-            Call::Burst => return Answer::Burst(self.burst()),
+            Call::Burst => {
+                let burst = self.burst();
+                self.last = Some((burst.number(), burst.frames.iter().map(|f| f.bytes.clone()).collect()));
+                return Answer::Burst(burst);
+            }
+            Call::Heard(slot, ref frame) => self.heard.push((slot.min(255) as u8, frame.clone())),
+            Call::Receive { number, db } => {
+                let frames = std::mem::take(&mut self.heard);
+                return self.received(number as u8, db, &frames);
+            }
+            Call::Arrive { db, ref places } => {
+                let (number, all) = self.last.clone().unwrap_or_default();
+                let frames: Vec<Slotted> = places.iter().map(|&p| (p as u8, all[p as usize].clone())).collect();
+                return self.received(number, db, &frames);
+            }
+            Call::Reply { .. } => unreachable!("a reply is a long ack"),
+            Call::Window(n) => self.window = n,
+            Call::Box => {}
             Call::Piece(offset) => {
                 let piece = u32::try_from(offset).ok().and_then(|o| s.inflight.get(&o).cloned());
                 return Answer::Piece(piece);
@@ -361,6 +452,16 @@ impl Harness {
             Call::Out(n) => self.out = n,
         }
         Answer::Ok
+    }
+
+    /// Whether the box has answered.
+    pub fn answered(&self) -> bool {
+        self.answer.is_some()
+    }
+
+    /// Frames that may still be heard before the next reception.
+    pub fn room(&self) -> usize {
+        HEARD_MOST - self.heard.len()
     }
 
     /// Whether the order of the waiting bytes is the original's own: all bytes taken so far are of one class, and none were withdrawn.

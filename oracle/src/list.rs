@@ -10,6 +10,7 @@ pub const LONGEST_LINE: usize = 65_536;
 pub const FRAMES_MOST: u64 = 64;
 pub const AREA_MOST: u64 = 65_536;
 pub const OUT_MOST: u64 = 32_768;
+pub const WINDOW_MOST: u64 = 65_536;
 
 /// What a queuing says of its message.
 #[derive(Clone, Copy, Debug)]
@@ -96,6 +97,28 @@ pub enum Call {
         low: u64,
         high: u64,
     },
+    /// A frame for the next reception: its slot number, its bytes.
+    Heard(u64, Vec<u8>),
+    Receive {
+        number: u64,
+        db: u64,
+    },
+    /// Frames of the last burst, by their places.
+    Arrive {
+        db: u64,
+        places: Vec<u64>,
+    },
+    /// The box's last answer.
+    Reply {
+        t: f64,
+        wave: u64,
+        here: f32,
+        want_turn: bool,
+        want_disc: bool,
+        stored: bool,
+    },
+    Window(u64),
+    Box,
     State,
     Messages,
     Area(u64),
@@ -219,6 +242,14 @@ impl<'a> Words<'a> {
     fn hex(&mut self) -> Option<Vec<u8>> {
         read_hex(self.word()?)
     }
+    /// All words that are left.
+    fn all(&mut self) -> Option<Vec<u64>> {
+        let mut all = Vec::new();
+        while let Some(word) = self.word() {
+            all.push(read_whole(word)?);
+        }
+        Some(all)
+    }
     /// Up to two words more.
     fn said(&mut self) -> Option<Said> {
         let Some(class) = self.word() else {
@@ -301,6 +332,25 @@ fn read_call(words: &[&[u8]]) -> Option<Call> {
             low: w.n()?,
             high: w.n()?,
         },
+        b"heard" => Call::Heard(w.n()?, w.hex()?),
+        b"receive" => Call::Receive {
+            number: w.n()?,
+            db: w.n()?,
+        },
+        b"arrive" => Call::Arrive {
+            db: w.n()?,
+            places: w.all()?,
+        },
+        b"reply" => Call::Reply {
+            t: w.f64()?,
+            wave: w.n()?,
+            here: w.f32()?,
+            want_turn: w.flag()?,
+            want_disc: w.flag()?,
+            stored: w.flag()?,
+        },
+        b"window" => Call::Window(w.n().filter(|&n| n <= WINDOW_MOST)?),
+        b"box" => Call::Box,
         b"state" => Call::State,
         b"messages" => Call::Messages,
         b"area" => Call::Area(w.n().filter(|&n| n <= AREA_MOST)?),
@@ -335,6 +385,11 @@ impl<'a> Reader<'a> {
     /// Whether the reading has ended inside a profile.
     pub fn in_profile(&self) -> bool {
         self.in_profile
+    }
+
+    /// The line of the last item.
+    pub fn line(&self) -> usize {
+        self.line
     }
 
     /// The words of the next line that isn't passed over; None at the end.
@@ -517,6 +572,30 @@ impl fmt::Display for Call {
                 low,
                 high,
             } => write!(f, "levels {} {} {low} {high}", *echo as u8, *doppler as u8),
+            Call::Heard(slot, frame) => write!(f, "heard {slot} {}", hex(frame)),
+            Call::Receive { number, db } => write!(f, "receive {number} {db}"),
+            Call::Arrive { db, places } => {
+                write!(f, "arrive {db}")?;
+                places.iter().try_for_each(|p| write!(f, " {p}"))
+            }
+            Call::Reply {
+                t,
+                wave,
+                here,
+                want_turn,
+                want_disc,
+                stored,
+            } => write!(
+                f,
+                "reply {} {wave} {} {} {} {}",
+                F64(*t),
+                F32(*here),
+                *want_turn as u8,
+                *want_disc as u8,
+                *stored as u8
+            ),
+            Call::Window(n) => write!(f, "window {n}"),
+            Call::Box => write!(f, "box"),
             Call::State => write!(f, "state"),
             Call::Messages => write!(f, "messages"),
             Call::Area(n) => write!(f, "area {n}"),

@@ -17,6 +17,7 @@ mod harness;
 mod levels;
 mod link;
 mod list;
+mod listening;
 mod messages;
 mod phy;
 mod phy_mfsk;
@@ -42,6 +43,7 @@ const USAGE: &str = "usage:
   oracle bench                               nanoseconds of the original's on_ack in Goodput: the median, the quartiles
   oracle speed                               times of the original and of the port side by side (only with the feature port)
   oracle records SEED COUNT                  COUNT sound records that no list reaches, a call on each, through both (the feature port)
+  oracle receive SEED COUNT                  receptions through the port's box and a second one, from COUNT sound records (the feature port)
   oracle compare PROGRAM SECONDS SEED [KIND] PROGRAM, which reads a list and writes its transcript, against the original";
 
 fn read_list(name: &str) -> Result<Vec<u8>, String> {
@@ -94,6 +96,8 @@ fn run(args: &[&str]) -> Result<(), String> {
         ["speed"] => speed::speed(),
         #[cfg(feature = "port")]
         ["records", seed, count] => speed::records::records(number(seed)?, number(count)?),
+        #[cfg(feature = "port")]
+        ["receive", seed, count] => speed::receptions::receptions(number(seed)?, number(count)?),
         ["audit"] => audit::audit(1, 4000, 80, None),
         ["audit", seed, lists, calls] => audit::audit(number(seed)?, number(lists)?, count(calls)?, None),
         ["audit", seed, lists, calls, kind] => {

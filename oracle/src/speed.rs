@@ -6,6 +6,7 @@
 mod meter;
 mod pair;
 mod port;
+pub mod receptions;
 pub mod records;
 mod scenarios;
 mod stack;

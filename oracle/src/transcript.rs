@@ -38,6 +38,12 @@ fn name(call: &Call) -> &'static str {
         Call::Burst => "burst",
         Call::Piece(_) => "piece",
         Call::Levels { .. } => "levels",
+        Call::Heard(..) => "heard",
+        Call::Receive { .. } => "receive",
+        Call::Arrive { .. } => "arrive",
+        Call::Reply { .. } => "reply",
+        Call::Window(_) => "window",
+        Call::Box => "box",
         Call::State => "state",
         Call::Messages => "messages",
         Call::Area(_) => "area",
@@ -148,6 +154,10 @@ pub fn answer(out: &mut String, h: &mut Harness, call: &Call) -> Answer {
         messages(out, h);
         return Answer::Ok;
     }
+    if let Call::Box = call {
+        let _ = writeln!(out, "box {} {}", h.listener.first, h.listener.kept.len());
+        return Answer::Ok;
+    }
     let answer = h.call(call);
     let name = name(call);
     let _ = match &answer {
@@ -157,6 +167,15 @@ pub fn answer(out: &mut String, h: &mut Harness, call: &Call) -> Answer {
             let words: String = found.iter().map(|(level, q)| format!(" {level}:{q}")).collect();
             writeln!(out, "levels ok{words}")
         }
+        Answer::Error => Ok(()),
+        Answer::Heard(a) => writeln!(
+            out,
+            "{name} ok {} {} {} {}",
+            hex(&a.payload),
+            a.wrong,
+            a.beyond,
+            hex(&a.handed)
+        ),
         Answer::Piece(None) => writeln!(out, "piece none"),
         Answer::Piece(Some(bytes)) => writeln!(out, "piece {}", hex(bytes)),
         Answer::Burst(b) => {
@@ -225,7 +244,10 @@ pub fn transcript(text: &[u8]) -> String {
             }
             Ok(Item::Call(call)) => {
                 let h = sender.as_mut().expect("a call follows a profile");
-                answer(&mut out, h, &call);
+                if let Answer::Error = answer(&mut out, h, &call) {
+                    let _ = writeln!(out, "error {}", reader.line());
+                    return out;
+                }
             }
             Ok(Item::Raw(_)) => unreachable!("the reader gives no raw items"),
         }

@@ -7,4 +7,5 @@ fn main() {
     println!("MAX_MESSAGES {}", vanitycrow::MAX_MESSAGES);
     println!("ADIF_BYTES {}", vanitycrow::ADIF_BYTES);
     println!("LAST_SECOND {}", vanitycrow::LAST_SECOND);
+    println!("PLACES {}", vanitycrow::PLACES);
 }

@@ -7,7 +7,7 @@ pub mod raw;
 
 pub use raw::{
     Ack, Air, AtPeer, ChanClass, Codes, ConnAck, Counts, Frames, Gear, Heard, HoldTimes, Holds, LastBurst, Lengths, Link, Listing, LongAck, Marks,
-    MaybeDb, MaybeLevel, Message, Messages, Outgoing, Profile, Reception, Reports, Sender, Tries, Turn,
+    MaybeDb, MaybeLevel, Message, Messages, Outgoing, Profile, Received, Receiver, Reception, Reports, Sender, Tries, Turn,
 };
 
 /// The version of this interface, that of include/vanitycrow.h.
@@ -24,6 +24,9 @@ pub const ADIF_BYTES: usize = 256;
 pub const CARD_BYTES: usize = 751;
 /// The end of 2099, in seconds since 1970: a link log knows no later time.
 pub const LAST_SECOND: u64 = 4_102_444_799;
+
+/// Places of a box's window, and least output of its call.
+pub const PLACES: usize = 32768;
 
 /// Why a call was refused, by the numbers of documents 01 and 02.
 #[derive(Clone, Copy, Debug, PartialEq, Eq)]
@@ -269,5 +272,55 @@ impl Station {
         // SAFETY: as above; nothing is written.
         let p = unsafe { raw::vanitycrow_find(&self.profile, &self.record, self.area.as_ptr(), AREA_BYTES, offset) };
         told(p.refusal).map(|()| p.here.then(|| &self.area[p.start..p.start + p.len]))
+    }
+}
+
+/// The receiving end: a box that listens, with its window.
+pub struct Listener {
+    record: Receiver,
+    window: [u16; PLACES],
+}
+
+impl Default for Listener {
+    fn default() -> Self {
+        Self::new()
+    }
+}
+
+impl Listener {
+    pub fn new() -> Self {
+        let mut record = Receiver { first_missing: 0 };
+        // SAFETY: the pointer is that of a live borrow.
+        unsafe { raw::vanitycrow_fresh_receiver(&mut record) };
+        Self { record, window: [0; PLACES] }
+    }
+
+    /// The first missing byte, which is the count of bytes handed on.
+    pub fn first_missing(&self) -> u32 {
+        self.record.first_missing
+    }
+
+    /// A burst's number and its decoded frames, which stand in `bytes` one after the other, of the lengths `sizes` and with the slot numbers
+    /// `slots`. The stream goes on into `out`, of `PLACES` bytes or more; the answer has the payload of the long ack to send.
+    pub fn receive(&mut self, number: u8, db: u8, bytes: &[u8], sizes: &[u16], slots: &[u8], out: &mut [u8]) -> Result<Received, Refusal> {
+        // SAFETY: pointers and lengths are those of live borrows that don't overlap.
+        let a = unsafe {
+            raw::vanitycrow_receive(
+                &mut self.record,
+                self.window.as_mut_ptr(),
+                PLACES,
+                number,
+                db,
+                bytes.as_ptr(),
+                bytes.len(),
+                sizes.as_ptr(),
+                sizes.len(),
+                slots.as_ptr(),
+                slots.len(),
+                out.as_mut_ptr(),
+                out.len(),
+            )
+        };
+        told(a.refusal).map(|()| a)
     }
 }

@@ -149,6 +149,8 @@ plain! {
     struct Logged { refusal: u8, len: usize, }
     struct Listing { refusal: u8, n: usize, level: [u8; 17], q: [u8; 17], }
     struct CardAnswer { refusal: u8, stretched: bool, }
+    struct Receiver { first_missing: u32, }
+    struct Received { refusal: u8, payload: [u8; 13], handed: u32, wrong: usize, beyond: usize, }
 }
 
 extern "C" {
@@ -183,4 +185,20 @@ extern "C" {
     pub fn vanitycrow_levels(p: *const Profile, class: ChanClass, low: u8, high: u8) -> Listing;
     pub fn vanitycrow_write_profile(p: *const Profile, out: *mut u8, n: usize) -> u8;
     pub fn vanitycrow_read_profile(file: *const u8, n: usize, p: *mut Profile) -> CardAnswer;
+    pub fn vanitycrow_fresh_receiver(r: *mut Receiver);
+    pub fn vanitycrow_receive(
+        r: *mut Receiver,
+        window: *mut u16,
+        places: usize,
+        number: u8,
+        db: u8,
+        bytes: *const u8,
+        n: usize,
+        sizes: *const u16,
+        sizes_n: usize,
+        slots: *const u8,
+        slots_n: usize,
+        out: *mut u8,
+        out_n: usize,
+    ) -> Received;
 }

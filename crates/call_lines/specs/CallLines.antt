@@ -2,7 +2,7 @@
 -- Definitions only.
 use mathlib.Core.Bool.{Bool, cond, not, _&&_, _||_}
 use mathlib.Core.List.{List, _++_}
-use Prim.Native.Nat.{ℕ, zero, suc, _+_, _%_}
+use Prim.Native.Nat.{ℕ, zero, suc, _+_, _%_, min}
 use lib.Dec.{leb, ltb, eqb}
 use lib.Ieee.{binary64, ofBits}
 use lib.ListN.{length, take, drop, set, replicate}
@@ -161,7 +161,7 @@ frameWords chars i g =
     let free : List ℕ = drop (g .0 .used) (g .1) in
     let payload : Read = readAs (hexCount (length free)) chars flags in
     let into : List ℕ = hexInto free (charsOf chars (nextWord chars flags)) in
-    let n : ℕ = length (take (payload .value) into) in (
+    let n : ℕ = min (payload .value) (length free) in (
       record {
         read = payload;
         reception = placed (g .0 .reception) i (fieldByte (kind .value)) (flags .value % 256) (n % 4294967296);

@@ -1,7 +1,7 @@
 // A call's line, read: the words after its name become the call's arguments (docs/CALLS.md, Calls).
+use byte_copy::least;
 use config::MaybeDb;
 use float_bits::of_bits64;
-use byte_copy::least;
 use profile_table::single_of;
 use reception::Reception;
 use refusals::MAX_RECEIVED;
@@ -21,7 +21,7 @@ use words::single;
 use words::whole;
 ghost use mathlib.Core.Path.{_≡_};
 ghost use mathlib.Core.Bool.{cond};
-ghost use Prim.Native.Nat.{_%_, _≤_};
+ghost use Prim.Native.Nat.{min, _%_, _≤_};
 ghost use lib.ListN.{length};
 ghost use Rattle.words.specs.Words.{hexInto};
 ghost use Rattle.words.specs.Lines.{charsOf, nextWord};
@@ -44,7 +44,7 @@ pub struct ShortLine {
 }
 
 // A number too wide for its field is the largest.
-fn u8_of(n: u64) -> u8
+pub fn u8_of(n: u64) -> u8
     ensures { λ r. ⌜ r ≡ fieldByte n ⌝ }
 {
     if n < 256 { n as u8 } else { 255 }
@@ -273,6 +273,12 @@ pub struct FrameWords {
     pub used: usize,
 }
 
+fn fewer(n: usize, room: usize) -> usize
+    ensures { λ r. ⌜ r ≡ min n room ⌝ }
+{
+    if n < room { n } else { room }
+}
+
 // KIND FLAGS PAYLOAD of the frame at place i. The payload is put behind the bytes that are used.
 fn frame_words(line: &[u8], i: usize, g: FrameWords, bytes: &mut [u8]) -> FrameWords
     requires { ⌜ g .used ≤ length (now bytes) ⌝ }
@@ -280,10 +286,11 @@ fn frame_words(line: &[u8], i: usize, g: FrameWords, bytes: &mut [u8]) -> FrameW
     ensures { λ q. ⌜ q .used ≤ length (now (bytes .exit)) ⌝ }
 {
     let at = g.used;
+    let room = bytes.len() - at;
     let kind = whole(line, g.read);
     let flags = whole(line, kind);
     let payload = hex(line, flags, &mut bytes[at..]);
-    let n = least(payload.value as usize, &bytes[at..]);
+    let n = fewer(payload.value as usize, room);
     let reception = placed(
         g.reception,
         i,

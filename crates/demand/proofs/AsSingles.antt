@@ -15,7 +15,7 @@ use lib.ListN.{length, take, drop, getD}
 use borrow.Author.Tests.{le-leb, le-ltb}
 use Rattle.laws.specs.Bytes.{Bytes}
 use Rattle.laws.proofs.Little.{bytes-take, bytes-drop}
-use Rattle.laws.proofs.Picks.{test, by, either, and-yes, and-first, and-second}
+use Rattle.laws.proofs.Picks.{test, by, by₂, either, and-yes, and-first, and-second}
 use Rattle.ieee.specs.Range.{w64, inside}
 use Rattle.ieee.proofs.Tests.{yes}
 use Rattle.ieee.proofs.Value.{le-refl, le-no-nan}
@@ -39,8 +39,11 @@ use Rattle.record.specs.declared.Sender.{Sender}
 use Rattle.record.proofs.View.{Arrays}
 use Rattle.soundness.proofs.fields.Sound.{test-sound, sound-test, sound-counted}
 use Rattle.laws.proofs.Bytes.{length-part}
-use Rattle.settle.specs.AckIn.{ackIn}
-use Rattle.replies.specs.Replies.{longAcked}
+use Rattle.settle.specs.AckIn.{keeps, ackIn}
+use Rattle.replies.specs.Replies.{ackNoted, withPath, longDb, countedAck, longAcked}
+use Rattle.harq.specs.Held.{hMax}
+use Rattle.gear.specs.Setters.{withClass}
+use Rattle.record.specs.Setters.{withGear, withLink}
 use Rattle.replies.specs.declared.Heard.{Heard}
 use Rattle.replies.specs.declared.LongAck as A
 use Rattle.receive.specs.Accepted.{longRead}
@@ -190,11 +193,19 @@ module _ (p : Profile) (rg : Ranged p) (ir : inRange p ≡ true) (io : inOrder p
       let d = sound-counted p s a (w .sound) in
       length-part a (s .counts .flying) (s .counts .waiting) (omega (arith, d .stream, d .area))
 
+  ack-counted : (r : R.Reply) (stored : Bool) (snr now : Float) (s : Sender) (a : List ℕ)
+      → let x = ackIn p r stored snr now s a .0 .counts in (x .«next_offset» ≡ s .counts .«next_offset») × (x .waiting ≡ length (view s a .waiting))
+  unfolding ackIn store storeCounts view
+  ack-counted r stored snr now s a = let x = ack-counts (hMax (p .codes)) r (keeps p (s .gear) stored) (view s a) in (x .0, ap length (x .1))
+
   counted : (r : A.LongAck) (i : AckInfo) (s : Sender) (a : List ℕ) → Well p s a → Counts s (longAcked p h r i s a)
-  unfolding longAcked ackIn store storeCounts view
+  unfolding longAcked view
   counted r i s a w =
-      either (Counts s) (s .link .awaiting) _ _
-      (let x = ack-counts _ (longAck (i .burst) (i .bitmap)) _ (view _ a) in (x .0, ap length (x .1) ∙ waiting-length s a w)) (refl, refl)
+      let k = ackNoted (s .link) (h .time) (r .«want_turn») (r .«want_disc») (i .burst) in
+      let q = withLink (withGear s (withClass (s .gear) (i .report .class))) (withPath k (i .report .slot) (i .report .«doppler_hz»)) in
+      let x = ack-counted (longAck (i .burst) (i .bitmap)) (r .stored) (longDb p i) (h .time) q a in
+      either (Counts s) (s .link .awaiting) (countedAck p h (ackIn p (longAck (i .burst) (i .bitmap)) (r .stored) (longDb p i) (h .time) q a)) (withLink s k, a)
+      (x .0, x .1 ∙ waiting-length s a w) (refl, refl)
 
   same-time : (last : Float) → timeOk last (h .time) ≡ true → timeOk (h .time) (h .time) ≡ true
   unfolding timeOk
@@ -239,9 +250,9 @@ module _ (p : Profile) (rg : Ranged p) (ir : inRange p ≡ true) (io : inOrder p
   unfolding framesHeard
   all-run [] c b k = refl
   all-run (f ∷ fs) c b k =
-      test (isRead f)
-      (λ e. rw e (all-run fs (after f c) (b .1) (after-takes f c e (b .0) k) ∙ ap (run (next p) (singlesOf h fs)) (sym (next-is f c k e))))
-      (λ e. rw e (all-run fs c (b .1) k))
+      by₂ (λ (d : Sender × List ℕ) (is : List Call). whole (c .0) (framesHeard p h fs d) ≡ run (next p) is c) (isRead f)
+      (λ e. all-run fs (after f c) (b .1) (after-takes f c e (b .0) k) ∙ ap (run (next p) (singlesOf h fs)) (sym (next-is f c k e)))
+      (λ e. all-run fs c (b .1) k)
 
   pub told-is : (f : Decoded) (c : State) → Takes c → isRead f ≡ true → told p (single h f) c ≡ reply (longAck (infoOf (f .payload) .burst) (infoOf (f .payload) .bitmap))
   told-is f c k e =

@@ -17,7 +17,7 @@ use Rattle.ledger.proofs.Queue.{goes-flies}
 use Rattle.ledger.specs.ClaimCode.{Carry}
 use Rattle.ledger.specs.CoverCode.{Ascend}
 use Rattle.pieces.specs.Burst.{framesSent}
-use Rattle.demand.specs.Page.{byOffset, Taken, NoneReserved, framesOfTaken}
+use Rattle.demand.specs.Page.{byOffset, Taken, NoneReserved, WithRoom, framesOfTaken}
 
 pub take-drop-more : (n o : ℕ) (bs ys : List ℕ) → n ≤ length (take n (drop o bs)) → take n (drop o (bs ++ ys)) ≡ take n (drop o bs)
 take-drop-more zero o bs ys h = refl
@@ -62,3 +62,8 @@ pub none-reserved : (m n : ℕ) (bs : List ℕ) (ps : List Piece) (fs : List Fra
     → m ≤ longestPayload → Ascend m 0 n ps → Carry bs ps fs → NoneReserved fs
 none-reserved m n bs ps [] h a c = tt
 none-reserved m n bs ps (f ∷ fs) h a c = (omega (arith, h, c .1, find-most m 0 n (f .off) ps a), none-reserved m n bs ps fs h a (c .3))
+
+pub with-room : (m n size : ℕ) (bs : List ℕ) (ps : List Piece) (fs : List Frame)
+    → m + 10 ≤ size → Ascend m 0 n ps → Carry bs ps fs → WithRoom size fs
+with-room m n size bs ps [] h a c = tt
+with-room m n size bs ps (f ∷ fs) h a c = (omega (arith, h, c .1, find-most m 0 n (f .off) ps a), with-room m n size bs ps fs h a (c .3))

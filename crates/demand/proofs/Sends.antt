@@ -3,29 +3,37 @@
 use mathlib.Core.Path.{_≡_, refl, sym, ap, ap₂, _∙_, subst}
 use mathlib.Core.Logic.{_⊎_}
 use mathlib.Core.List.{List, map, _++_}
-use mathlib.Core.Bool.{true}
-use Prim.Native.Nat.{ℕ, _+_, _≤_}
+use mathlib.Core.Bool.{Bool, true, false}
+use Prim.Native.Nat.{ℕ, _+_, _*_, _≤_}
+use native.Mathlib.Nat.{le-trans, mul-le-mul-left, mul-le-mul-right}
 use native.Mathlib.Omega.{arith}
+use borrow.Author.Tests.{leb-true}
 use lib.Ieee.{le}
 use lib.ListN.{length, take, length-map}
 use Rattle.laws.specs.Bytes.{overwrite}
+use Rattle.laws.proofs.Picks.{by}
 use Rattle.limits.specs.Limits.{maxSlots}
+use Rattle.level.specs.Ladder.{longFrame}
+use Rattle.frame.specs.Frame.{maxPayload}
+use Rattle.frame.proofs.Laws.{room}
 use Rattle.config.specs.declared.Profile.{Profile}
 use Rattle.config.specs.Durations.{frameBytes, dataAt}
 use Rattle.config.specs.Ranged.{Ranged}
 use Rattle.config.specs.Ranges.{inOrder}
 use Rattle.ledger.specs.Ledger as L
-use Rattle.ledger.specs.Ledger.{Sent}
+use Rattle.ledger.specs.Ledger.{Sent, Plan}
 use Rattle.ledger.specs.LedgerCode.{frames}
 use Rattle.ledger.specs.ClaimCode.{Carry, LedgerClaim}
-use Rattle.ledger.specs.Plan.{burstBitsSent}
+use Rattle.ledger.specs.CoverCode.{Ascend}
+use Rattle.ledger.specs.Plan.{planOf, burstBitsSent}
 use Rattle.ledger.specs.Tally as T
 use Rattle.ledger.specs.Tally.{byteOf, feed, framesTold, inFlight, went}
+use Rattle.ledger.proofs.Burst.{burst-ascend}
 use Rattle.ledger.proofs.Progress.{burst-some}
 use Rattle.record.specs.Profiles.{sizesOf}
 use Rattle.outgoing.specs.declared.Outgoing.{Outgoing}
 use Rattle.outgoing.specs.Outgoing.{padded, framesOut, headed, outgoing, output, after, burstOf}
-use Rattle.outgoing.specs.Choosing.{choice, cue}
+use Rattle.outgoing.specs.Choosing.{chosen, choice, cue}
 use Rattle.invariant.proofs.Ledgers.{Kept}
 use Rattle.invariant.proofs.Well.{well-kept}
 use Rattle.ledger.specs.Station as St
@@ -34,14 +42,16 @@ use Rattle.record.specs.View.{view}
 use Rattle.outgoing.proofs.Choices.{choice-ranged}
 use Rattle.soundness.proofs.fields.Sound.{sound-level}
 use Rattle.invariant.proofs.Bursts.{burst-kept, choice-fits, choice-keeps-air}
+use Rattle.data_burst.proofs.burst.Sends.{frame-least}
 use Rattle.verdicts.specs.Verdicts.{passed, burstVerdict}
+use Rattle.verdicts.proofs.Passed.{burst-passed}
 use Rattle.sender.specs.declared.Bursted.{Bursted}
 use Rattle.sender.specs.Calls.{burstCall}
 use Rattle.demand.specs.Lists.{Call, bursts, shown, framesAnswered, next, told}
 use Rattle.demand.specs.Page.{byOffset, Taken, framesOfTaken, sumOf, onAir, allowance, anyIncrement, messages, bytes, c, s, t, answer, leaves, Sends}
 use Rattle.demand.proofs.Answers.{burst-is, burst-told, burst-verdict}
 use Rattle.demand.proofs.Steps.{sizes, Ok, does-burst, taken}
-use Rattle.demand.proofs.Payloads.{sent-taken, sent-bytes, within, none-reserved}
+use Rattle.demand.proofs.Payloads.{sent-taken, sent-bytes, within, none-reserved, with-room}
 use Rattle.demand.proofs.OnTime.{on-time, sum-bits}
 
 module _ (p : Profile) (rg : Ranged p) (io : inOrder p ≡ true) (six : length (p .codes .ends) ≤ 6) (n : ℕ) (is : List Call)
@@ -108,6 +118,37 @@ module _ (p : Profile) (rg : Ranged p) (io : inOrder p ≡ true) (six : length (
   unfolding outgoing headed framesOut
   count-is = ap (λ (x : Outgoing). x .frames .n) answered
 
+  -- ---- no frame is cut off
+
+  abbrev size : ℕ
+  size = frameBytes p (c p n is .0 .sender .gear .level)
+
+  -- the ledger's plan of the burst
+  abbrev plan : Plan
+  plan = planOf (sizesOf p) (choice p (c p n is .0 .sender)) (view (c p n is .0 .sender) (c p n is .1))
+
+  payload-is : (b : Bool) → longFrame (c p n is .0 .sender .gear .level) ≡ b → plan .payload ≡ maxPayload size
+  unfolding chosen frameBytes
+  payload-is true e = rw e refl
+  payload-is false e = rw e refl
+
+  ascends : Ascend (maxPayload size) 0 (s′ .next) (s′ .pieces)
+  ascends =
+      subst (λ (m : ℕ). Ascend m 0 (s′ .next) (s′ .pieces)) (payload-is (longFrame (c p n is .0 .sender .gear .level)) refl)
+      (burst-ascend (sizesOf p) (sizes p rg io six) (view (c p n is .0 .sender) (c p n is .1)) plan (w .well .sound .ledger)
+      (choice-fits p rg (c p n is .0 .sender) (c p n is .1) (w .well) six))
+
+  size-most : size ≤ p .«long_bytes»
+  unfolding frameBytes inOrder
+  size-most =
+      by (λ (k : ℕ). k ≤ p .«long_bytes») (longFrame (c p n is .0 .sender .gear .level)) (λ e. omega arith) (λ e. leb-true (p .«short_bytes») (p .«long_bytes») io)
+
+  all-fit : length (framesAnswered (answer p n is out .frames)) * size ≤ length out
+  all-fit =
+      let l : length (frames (s′ .pieces) (s′ .sent)) ≡ length (s′ .sent) = length-map (s′ .sent) _ in
+      let k : length (framesAnswered (answer p n is out .frames)) ≤ maxSlots = omega (arith, ap length frames-are, l, few) in
+      le-trans (mul-le-mul-right size k) (le-trans (mul-le-mul-left maxSlots size-most) (burst-passed p (c p n is .0) (c p n is .1) (length out) go .3))
+
   some-frame : 1 ≤ inFlight (t p n is .flown) + length (T.waits (t p n is)) → 1 ≤ answer p n is out .frames .n
   unfolding viewStation
   some-frame h =
@@ -143,6 +184,8 @@ module _ (p : Profile) (rg : Ranged p) (io : inOrder p ≡ true) (six : length (
         frames = subst (λ (b : List ℕ). Taken b (framesAnswered (answer p n is out .frames))) same-bytes (within _ _ _ (framesAnswered (answer p n is out .frames)) carried);
         lengths = none-reserved _ _ _ _ (framesAnswered (answer p n is out .frames)) (sizes p rg io six .most) (kept .sound .ascend) carried;
         output = written;
+        room = with-room (maxPayload size) _ size _ _ (framesAnswered (answer p n is out .frames)) (room size _ (frame-least p rg _) (omega arith)) ascends carried;
+        fits = all-fit;
         some = some-frame;
         air = in-time;
       }

@@ -6,7 +6,7 @@ use mathlib.Core.Path.{_≡_}
 use mathlib.Core.Logic.{_⊎_}
 use mathlib.Core.List.{List, [], _∷_, _++_, map}
 use mathlib.Core.Bool.{Bool, true, false, not, _&&_, _||_}
-use Prim.Native.Nat.{ℕ, _+_, _≤_}
+use Prim.Native.Nat.{ℕ, _+_, _*_, _≤_}
 use lib.Dec.{ltb, eqb}
 use lib.Ieee.{Float, le}
 use lib.ListN.{length, take, drop}
@@ -93,6 +93,11 @@ abbrev pub NoneReserved : List Frame → Type 0
 NoneReserved [] = Unit {0}
 NoneReserved (f ∷ fs) = (f .len ≤ longestPayload) × NoneReserved fs
 
+-- beside its bytes a frame has room for head and check sum, 10 bytes
+abbrev pub WithRoom : ℕ → List Frame → Type 0
+WithRoom size [] = Unit {0}
+WithRoom size (f ∷ fs) = (f .len + 10 ≤ size) × WithRoom size fs
+
 -- frames of `size` bytes, back to back, each with the bytes taken at its full offset, as many as its length says
 abbrev pub framesOfTaken : ℕ → List ℕ → List Frame → List ℕ
 framesOfTaken size bytes [] = []
@@ -148,6 +153,9 @@ module _ (p : Profile) (n : ℕ) (is : List Call) where
       pub lengths : NoneReserved (framesAnswered (answer .frames))
       pub output : burstCall p (c .0) (c .1) out .1 .1
           ≡ overwrite out 0 (framesOfTaken (frameBytes p (c .0 .sender .gear .level)) bytes (framesAnswered (answer .frames)))
+      -- none of them is cut off: each is as long as the level's frames are, and the output has room for all
+      pub room : WithRoom (frameBytes p (c .0 .sender .gear .level)) (framesAnswered (answer .frames))
+      pub fits : length (framesAnswered (answer .frames)) * frameBytes p (c .0 .sender .gear .level) ≤ length out
       -- where any byte flies or waits it has a frame
       pub some : 1 ≤ inFlight (t .flown) + length (waits t) → 1 ≤ answer .frames .n
       -- two frames or more, or parity: its seconds on air are within its allowance

@@ -34,8 +34,8 @@ pub kept : {q : Shown} {out t₁ : List ℕ} {m : Shown × List ℕ} → (q, t�
 kept {q} {out} e = ap (λ (m : Shown × List ℕ). keeping out m) e
 
 -- what reading a file of so many bytes gave
-abbrev lineOf : Bool → ℕ → ℕ × (Profile × Bool) → LoadLine
-lineOf ok len m = record { ok = ok; len = len; refusal = m .0; stretched = m .1 .1 }
+abbrev lineOf : Bool → ℕ → ℕ × Profile × Bool → LoadLine
+lineOf ok len m = record { ok = ok; len = len; refusal = m .0; stretched = m .2 }
 
-pub loaded : {len n : ℕ} {found m : ℕ × (Profile × Bool)} (ok : Bool) → len ≡ n → found ≡ m → lineOf ok len found ≡ lineOf ok n m
-loaded ok e f = ap₂ (λ (k : ℕ) (m : ℕ × (Profile × Bool)). lineOf ok k m) e f
+pub loaded : {len n : ℕ} {found m : ℕ × Profile × Bool} (ok : Bool) → len ≡ n → found ≡ m → lineOf ok len found ≡ lineOf ok n m
+loaded ok e f = ap₂ (λ (k : ℕ) (m : ℕ × Profile × Bool). lineOf ok k m) e f

@@ -108,5 +108,5 @@ unfoldable pub loadOf : Profile → List ℕ → List ℕ → LoadLine
 loadOf p bytes chars =
     let file : Read = readAs (hexCount (length bytes)) chars (loading chars) in
     let b : List ℕ = take (file .value) (fileIn bytes chars) in
-    let found : ℕ × (Profile × Bool) = readOf b p in
-    record { ok = isDone chars file; len = length b; refusal = found .0; stretched = found .1 .1 }
+    let found : ℕ × Profile × Bool = readOf b p in
+    record { ok = isDone chars file; len = length b; refusal = found .0; stretched = found .2 }

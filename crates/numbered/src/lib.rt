@@ -101,14 +101,7 @@ pub fn turn(p: Profile, t: Station, a: &mut [u8], h: Heard, r: Turn) -> Left
 }
 
 // All decoded frames of one reception, the payloads back to back.
-pub fn frames(
-    p: Profile,
-    t: Station,
-    a: &mut [u8],
-    h: Heard,
-    r: Reception,
-    payloads: &[u8],
-) -> Left
+pub fn frames(p: Profile, t: Station, a: &mut [u8], h: Heard, r: Reception, payloads: &[u8]) -> Left
     ensures { λ q. ⌜ (q, now (a .exit)) ≡ answerNumber (framesOf p t (now (a .entry)) h r (now (payloads .entry))) ⌝ }
 {
     let q = frames_rx(p, t, a, h, r, payloads);

@@ -1,7 +1,10 @@
 // The calls of a list with their answers (docs/CALLS.md, Calls).
 use crate::OUT_BYTES;
+use crate::listening::listen;
+use crate::listening::sent;
 use byte_copy::least;
 use call_lines::names::AREA;
+use call_lines::names::BURST;
 use call_lines::names::Named;
 use call_lines::names::OUT;
 use config::Profile;
@@ -18,12 +21,13 @@ use words::whole;
 
 // The run so far, but for the record: the input, what is lent of the work area and of the output, and what is used of the text's buffer;
 // `stage` counts the profile's lines read, `file` the bytes of the file that stands for them, 0 where none does, and `ok` is false after a
-// line that breaks the rules.
+// line that breaks the rules; `anew`: a fresh box starts with the next line.
 pub struct Run {
     pub input: Input,
     pub stage: usize,
     pub file: usize,
     pub ok: bool,
+    pub anew: bool,
     pub area: usize,
     pub out: usize,
     pub text: usize,
@@ -75,8 +79,8 @@ fn lend_out(mut run: Run, n: usize, t: &mut [u8]) -> Run {
     run
 }
 
-// A line that lends, or none that there is.
-pub(crate) fn lend(n: Named, line: &[u8], run: Run, t: &mut [u8]) -> Run {
+// A line that lends, one of the box, or none that there is.
+pub(crate) fn lend(n: Named, line: &[u8], run: Run, t: &mut [u8], m: &mut [u16]) -> Run {
     let a = length(line, n.read, 65536);
     if (n.call == AREA) & a.ok {
         return lend_area(run, a.value as usize, t);
@@ -85,7 +89,8 @@ pub(crate) fn lend(n: Named, line: &[u8], run: Run, t: &mut [u8]) -> Run {
     if (n.call == OUT) & o.ok {
         return lend_out(run, o.value as usize, t);
     }
-    failed(run)
+    let h = listen(line, run.out, m, t, run.text);
+    left(run, h.ok, h.text)
 }
 
 // The profile, by its lines or by its file.
@@ -117,21 +122,27 @@ pub(crate) fn showed(
     left(run, q.ok, q.text)
 }
 
-// What a line that asks the sender leaves.
-pub(crate) fn asked(
+// A frame's size at a level.
+fn size_at(level: usize, short: u32, long: u32) -> usize {
+    if level <= 4 {
+        return short as usize;
+    }
+    long as usize
+}
+
+// What the sender is asked, with what is lent of work area and output.
+fn said_in(
     n: Named,
     line: &[u8],
     run: Run,
+    p: Profile,
     s: Station,
     area: &mut [u8],
+    out: &mut [u8],
     t: &mut [u8],
-    v: &[u64; 146],
-    file: &[u8],
 ) -> Said {
-    let mut out = [0u8; OUT_BYTES];
     let lent = least(run.area, area);
-    let most = least(run.out, &out);
-    let p = profile_now(run, v, file);
+    let most = least(run.out, out);
     say(
         n,
         line,
@@ -142,4 +153,27 @@ pub(crate) fn asked(
         t,
         run.text,
     )
+}
+
+// What a line that asks the sender leaves. A burst that is not refused has another number than the one before: its frames stand for `arrive`.
+pub(crate) fn asked(
+    n: Named,
+    line: &[u8],
+    run: Run,
+    s: Station,
+    area: &mut [u8],
+    t: &mut [u8],
+    v: &[u64; 146],
+    file: &[u8],
+    m: &mut [u16],
+) -> Said {
+    let mut out = [0u8; OUT_BYTES];
+    let p = profile_now(run, v, file);
+    let q = said_in(n, line, run, p, s, area, &mut out, t);
+    let number = q.next.sender.link.burst_id;
+    if (n.call == BURST) & (number != s.sender.link.burst_id) {
+        let size = size_at(s.sender.gear.level, p.short_bytes, p.long_bytes);
+        sent(m, number, q.next.sender.last_burst.n, size, &out);
+    }
+    q
 }

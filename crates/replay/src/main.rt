@@ -2,12 +2,15 @@
 mod buffer;
 mod calls;
 mod input;
+mod listening;
 
 use buffer::flush;
 use buffer::room;
 use byte_copy::copy_in;
 use byte_copy::least;
 use call_lines::names::AREA;
+use call_lines::names::FRAMES;
+use call_lines::names::LONG;
 use call_lines::names::NO_CALL;
 use call_lines::names::Named;
 use call_lines::names::OUT;
@@ -23,6 +26,8 @@ use calls::showed;
 use calls::with_text;
 use input::next_line;
 use limits::AREA_BYTES;
+use listening::MEMORY;
+use listening::reply_line;
 use profile_table::LINES;
 use profile_table::listed::profile_line;
 use profile_table::profile_of;
@@ -76,6 +81,7 @@ fn start(run: Run, area: &mut [u8]) -> Run {
     let mut after = run;
     after.stage = LINES;
     after.file = 0;
+    after.anew = true;
     after.area = AREA_BYTES;
     after.out = OUT_BYTES;
     after
@@ -193,12 +199,13 @@ fn other_line(
     t: &mut [u8],
     v: &mut [u64; 146],
     file: &mut [u8],
+    m: &mut [u16],
 ) -> Other {
     if is_load(line, run) {
         return load(line, run, c, w, area, t, v, file);
     }
     if is_call(line, run) {
-        let run = lend(n, line, run, t);
+        let run = lend(n, line, run, t, m);
         return Other { run, anew: false };
     }
     let run = no_call(line, run, c, w, area, t, v);
@@ -215,7 +222,7 @@ const OTHER: u8 = 2;
 
 fn line_kind(n: Named, line: &[u8], run: Run) -> u8 {
     let called = is_call(line, run) & (n.call != NO_CALL);
-    if called & (n.call <= PIECE) {
+    if called & ((n.call <= PIECE) | (n.call == FRAMES)) {
         return ASKS;
     }
     if called & (n.call != AREA) & (n.call != OUT) {
@@ -242,8 +249,9 @@ fn asking(
     t: &mut [u8],
     v: &[u64; 146],
     file: &[u8],
+    m: &mut [u16],
 ) -> Step {
-    let q = asked(n, line, run, s, area, t, v, file);
+    let q = asked(n, line, run, s, area, t, v, file, m);
     let run = left(run, q.ok, q.text);
     let s = q.next;
     Step { run, s }
@@ -259,6 +267,7 @@ fn asking_none(
     t: &mut [u8],
     v: &mut [u64; 146],
     file: &mut [u8],
+    m: &mut [u16],
 ) -> Step {
     let b = other_line(
         n,
@@ -270,10 +279,43 @@ fn asking_none(
         t,
         v,
         file,
+        m,
     );
     let run = b.run;
     let s = sender_of(b.anew, s);
     Step { run, s }
+}
+
+// A line, and the digits of an answer.
+const LONG_LINE: usize = 65600;
+
+// A fresh box, where one is to start.
+fn boxed(run: Run, m: &mut [u16]) -> Run {
+    if !run.anew {
+        return run;
+    }
+    listening::fresh(m);
+    let mut after = run;
+    after.anew = false;
+    after
+}
+
+// A line `reply` with the box's answer behind its words, in `l`: how many characters it has; none where the line is another, or where there is no
+// answer.
+fn replied(line: &[u8], run: Run, m: &[u16], l: &mut [u8]) -> usize {
+    let r = word(line, b"reply");
+    if r.ok & is_call(line, run) {
+        return reply_line(line, m, l);
+    }
+    0
+}
+
+// Such a line asks as a long ack's does.
+fn long_named(line: &[u8]) -> Named {
+    Named {
+        call: LONG,
+        read: word(line, b"reply"),
+    }
 }
 
 // One line.
@@ -285,17 +327,24 @@ fn step(
     t: &mut [u8],
     v: &mut [u64; 146],
     file: &mut [u8],
+    m: &mut [u16],
 ) -> Step {
+    let run = boxed(run, m);
+    let mut l = [0u8; LONG_LINE];
+    let k = least(replied(line, run, m, &mut l), &l);
+    if 0 < k {
+        return asking(long_named(line), &l[..k], run, s, area, t, v, file, m);
+    }
     let n = call_of(line);
     let kind = line_kind(n, line, run);
     if kind == ASKS {
-        return asking(n, line, run, s, area, t, v, file);
+        return asking(n, line, run, s, area, t, v, file, m);
     }
     if kind == SHOWS {
         let run = showed(n, line, run, s, area, t, v, file);
         return Step { run, s };
     }
-    asking_none(n, line, run, s, area, t, v, file)
+    asking_none(n, line, run, s, area, t, v, file, m)
 }
 
 fn next(n: u64) -> u64 {
@@ -328,6 +377,7 @@ fn none_yet() -> Step {
             stage: NO_PROFILE,
             file: 0,
             ok: true,
+            anew: true,
             area: 0,
             out: 0,
             text: 0,
@@ -361,14 +411,21 @@ fn stopped(run: Run) -> bool {
     (i.kind == END) | !run.ok
 }
 
-fn replay(chunk: &mut [u8], line: &mut [u8], area: &mut [u8], t: &mut [u8], file: &mut [u8]) {
+fn replay(
+    chunk: &mut [u8],
+    line: &mut [u8],
+    area: &mut [u8],
+    t: &mut [u8],
+    file: &mut [u8],
+    m: &mut [u16],
+) {
     let mut v = [0u64; 146];
     let mut q = none_yet();
     let mut n: u64 = 0;
     while n < 18446744073709551615 {
         let run = read(q.run, chunk, line, t);
         let len = least(run.input.len, line);
-        q = step(&line[..len], run, q.s, area, t, &mut v, file);
+        q = step(&line[..len], run, q.s, area, t, &mut v, file, m);
         if stopped(q.run) {
             finish(q, n, t);
             return;
@@ -383,5 +440,13 @@ fn main() {
     let mut area = io::large_buffer();
     let mut file = io::large_buffer();
     let mut text = [0u8; 131072];
-    replay(&mut chunk, &mut line, &mut area, &mut text, &mut file);
+    let mut m = [0u16; MEMORY];
+    replay(
+        &mut chunk,
+        &mut line,
+        &mut area,
+        &mut text,
+        &mut file,
+        &mut m,
+    );
 }

@@ -1,6 +1,6 @@
 // The thin layer: a station program holds one record, and each call of the sender changes it. The calls are exported, for C to link: a
 // slice goes as a pointer and a length. No call requires anything; the profile is read where it lies. The link log, the levels within
-// reach and a profile on a card need no record.
+// reach and a profile on a card need no record; the receiving end, a box that listens, has one of its own.
 use adif::Logged;
 use card::CardAnswer;
 use card::Found;
@@ -11,8 +11,10 @@ use numbered::LeftBurst;
 use numbered::Message;
 use numbered::Place;
 use queuing::Station;
-use reception::Reception;
 use reachable::Listing;
+use receiver::Received;
+use receiver::Receiver;
+use reception::Reception;
 use replies::Ack;
 use replies::ConnAck;
 use replies::Heard;
@@ -28,6 +30,7 @@ ghost use Rattle.numbered.specs.Numbered.{answerNumber, burstNumber, findNumber
 ghost use Rattle.adif.specs.Adif.{logOf};
 ghost use Rattle.reachable.specs.Reachable.{listingUnder};
 ghost use Rattle.card.specs.Card.{writeOf, readOf};
+ghost use Rattle.receiver.specs.Receiving.{freshReceiver, receptionOf};
 ghost use Rattle.station.specs.Exported.{left, leftBurst};
 ghost use Rattle.station.specs.ExportedCode.{kept};
 
@@ -257,4 +260,35 @@ pub extern "C" fn vanitycrow_read_profile(file: &[u8], p: &mut Profile) -> CardA
     let q = card::read(file, *p);
     keep_profile(p, q.refusal, q.profile);
     card_answer(q)
+}
+
+// The record of a new box; its window is all zeros.
+#[no_mangle]
+pub extern "C" fn vanitycrow_fresh_receiver(r: &mut Receiver)
+    ensures { λ _. ⌜ now (r .exit) ≡ freshReceiver ⌝ }
+{
+    let f = receiver::fresh();
+    *r = f;
+}
+
+// A burst's number and its decoded frames, which stand in `bytes` one after the other, of the lengths `sizes` and with the slot numbers `slots`;
+// `db` is the dB byte to answer. The stream goes on into the output, and the answer is a long ack's payload.
+#[no_mangle]
+pub extern "C" fn vanitycrow_receive(
+    r: &mut Receiver,
+    window: &mut [u16],
+    number: u8,
+    db: u8,
+    bytes: &[u8],
+    sizes: &[u16],
+    slots: &[u8],
+    out: &mut [u8],
+) -> Received
+    ensures { λ q. ⌜ (record { answer = q; next = now (r .exit) }, (now (window .exit), now (out .exit)))
+        ≡ receptionOf (now (r .entry)) (now (window .entry)) number (now (bytes .entry)) (now (sizes .entry)) (now (slots .entry)) db (now (out .entry)) ⌝ }
+{
+    let q = receiver::receiver_rx(*r, window, number, bytes, sizes, slots, db, out);
+    let next = q.next;
+    *r = next;
+    q.answer
 }

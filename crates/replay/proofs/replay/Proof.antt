@@ -8,12 +8,12 @@ use Rattle.replay.proofs.replay.Statement.{statement}
 use Rattle.replay.proofs.replay.Tie as tie
 
 abbrev Inv-loop : tie.InvT-loop
-Inv-loop chunk₀ line₀ area₀ t₀ file₀ v₀ q₀ n₀ chunk line area t file v q n =
+Inv-loop chunk₀ line₀ area₀ t₀ file₀ m₀ v₀ q₀ n₀ chunk line area t file m v q n =
     (n ≤ 18446744073709551615) × ((length chunk ≡ length chunk₀) ×
-    ((length line ≡ length line₀) × ((length area ≡ length area₀) × ((length t ≡ length t₀) × (length file ≡ length file₀)))))
+    ((length line ≡ length line₀) × ((length area ≡ length area₀) × ((length t ≡ length t₀) × ((length file ≡ length file₀) × (length m ≡ length m₀))))))
 
 abbrev μ-loop : tie.MeasureT-loop
-μ-loop chunk₀ line₀ area₀ t₀ file₀ v₀ q₀ n₀ chunk line area t file v q n = 18446744073709551615 - n
+μ-loop chunk₀ line₀ area₀ t₀ file₀ m₀ v₀ q₀ n₀ chunk line area t file m v q n = 18446744073709551615 - n
 
 none-yet-requires : tie.Need-none-yet-requires Inv-loop μ-loop
 none-yet-requires c κs = search needs
@@ -44,37 +44,45 @@ finish-requires c κs = search needs
 
 same-length : tie.Need-same-length Inv-loop μ-loop
 same-length c =
-    let p = c .before .before .before .before .before .before .before .before .before .before .before .before in
-    let q = p .before .before .before .before .before .before .before .before .before .before .before .before in
+    let p = c .before .before .before .before .before .before .before .before .before .before .before .before .before .before in
+    let q = p .before .before .before .before .before .before .before .before .before .before .before .before .before in
     let i = q .before .before .before .before .before .loop .inv in
     q .read .kept .1 .0 ∙ i .1 .0
 
 same-length-2 : tie.Need-same-length-2 Inv-loop μ-loop
 same-length-2 c =
-    let p = c .before .before .before .before .before .before .before .before .before .before .before .before in
-    let q = p .before .before .before .before .before .before .before .before .before .before .before .before in
+    let p = c .before .before .before .before .before .before .before .before .before .before .before .before .before .before in
+    let q = p .before .before .before .before .before .before .before .before .before .before .before .before .before in
     let i = q .before .before .before .before .before .loop .inv in
     q .read .kept .1 .1 .0 ∙ i .1 .1 .0
 
 same-length-3 : tie.Need-same-length-3 Inv-loop μ-loop
 same-length-3 c =
-    let p = c .before .before .before .before .before .before .before .before .before .before .before .before in
-    let q = p .before .before .before .before .before .before .before .before .before .before .before .before in
+    let p = c .before .before .before .before .before .before .before .before .before .before .before .before .before .before in
+    let q = p .before .before .before .before .before .before .before .before .before .before .before .before .before in
     let i = q .before .before .before .before .before .loop .inv in
     p .step .kept .1 .1 .1 .0 ∙ i .1 .1 .1 .0
 
 same-length-4 : tie.Need-same-length-4 Inv-loop μ-loop
 same-length-4 c =
-    let p = c .before .before .before .before .before .before .before .before .before .before .before .before in
-    let q = p .before .before .before .before .before .before .before .before .before .before .before .before in
+    let p = c .before .before .before .before .before .before .before .before .before .before .before .before .before .before in
+    let q = p .before .before .before .before .before .before .before .before .before .before .before .before .before in
     let i = q .before .before .before .before .before .loop .inv in
     c .before .before .finish .kept .1 .1 .0 ∙ p .step .kept .1 .1 .1 .1 .0 ∙ i .1 .1 .1 .1 .0
 
 same-length-5 : tie.Need-same-length-5 Inv-loop μ-loop
 same-length-5 c =
-    let p = c .before .before .before .before .before .before .before .before .before .before .before .before in
-    let q = p .before .before .before .before .before .before .before .before .before .before .before .before in
-    p .step .kept .1 .1 .1 .1 .1 .1 .0 ∙ q .before .before .before .before .before .loop .inv .1 .1 .1 .1 .1
+    let p = c .before .before .before .before .before .before .before .before .before .before .before .before .before .before in
+    let q = p .before .before .before .before .before .before .before .before .before .before .before .before .before in
+    let i = q .before .before .before .before .before .loop .inv in
+    p .step .kept .1 .1 .1 .1 .1 .1 .0 ∙ i .1 .1 .1 .1 .1 .0
+
+same-length-6 : tie.Need-same-length-6 Inv-loop μ-loop
+same-length-6 c =
+    let p = c .before .before .before .before .before .before .before .before .before .before .before .before .before .before in
+    let q = p .before .before .before .before .before .before .before .before .before .before .before .before .before in
+    let i = q .before .before .before .before .before .loop .inv in
+    p .step .kept .1 .1 .1 .1 .1 .1 .1 .0 ∙ i .1 .1 .1 .1 .1 .1
 
 returns : tie.Need-returns Inv-loop μ-loop
 returns c = search needs
@@ -82,21 +90,21 @@ returns c = search needs
 add-n : tie.Need-add-n Inv-loop μ-loop
 add-n c = omega (
   arith,
-  c .before .before .before .before .before .before .before .before .before .before .before .before
-      .before .before .before .before .before .before .before .before .before .before .before .before .loop-test .taken,
+  c .before .before .before .before .before .before .before .before .before .before .before .before .before .before
+      .before .before .before .before .before .before .before .before .before .before .before .before .before .loop-test .taken,
 )
 
 loop-less : tie.Need-loop-less Inv-loop μ-loop
 loop-less c = omega (
   arith,
-  c .before .before .before .before .before .before .before .before .before .before .before .before
-      .before .before .before .before .before .before .before .before .before .before .before .before .loop-test .taken,
+  c .before .before .before .before .before .before .before .before .before .before .before .before .before .before
+      .before .before .before .before .before .before .before .before .before .before .before .before .before .loop-test .taken,
 )
 
 loop-again : tie.Need-loop-again Inv-loop μ-loop
 loop-again c =
-    let p = c .before .before .before .before .before .before .before .before in
-    let q = p .before .before .before .before .before .before .before .before .before .before .before .before in
+    let p = c .before .before .before .before .before .before .before .before .before .before in
+    let q = p .before .before .before .before .before .before .before .before .before .before .before .before .before in
     let i = q .before .before .before .before .before .loop .inv in (
       omega (arith, q .before .before .before .before .loop-test .taken),
       (
@@ -105,14 +113,14 @@ loop-again c =
           q .read .kept .1 .1 .0 ∙ i .1 .1 .0,
           (
             p .step .kept .1 .1 .1 .0 ∙ i .1 .1 .1 .0,
-            (p .step .kept .1 .1 .1 .1 .0 ∙ i .1 .1 .1 .1 .0, p .step .kept .1 .1 .1 .1 .1 .1 .0 ∙ i .1 .1 .1 .1 .1),
+            (
+              p .step .kept .1 .1 .1 .1 .0 ∙ i .1 .1 .1 .1 .0,
+              (p .step .kept .1 .1 .1 .1 .1 .1 .0 ∙ i .1 .1 .1 .1 .1 .0, p .step .kept .1 .1 .1 .1 .1 .1 .1 .0 ∙ i .1 .1 .1 .1 .1 .1),
+            ),
           ),
         ),
       ),
     )
-
-same-length-6 : tie.Need-same-length-6 Inv-loop μ-loop
-same-length-6 c = search needs
 
 same-length-7 : tie.Need-same-length-7 Inv-loop μ-loop
 same-length-7 c = search needs
@@ -125,6 +133,12 @@ same-length-9 c = search needs
 
 same-length-10 : tie.Need-same-length-10 Inv-loop μ-loop
 same-length-10 c = search needs
+
+same-length-11 : tie.Need-same-length-11 Inv-loop μ-loop
+same-length-11 c = search needs
+
+same-length-12 : tie.Need-same-length-12 Inv-loop μ-loop
+same-length-12 c = search needs
 
 returns-2 : tie.Need-returns-2 Inv-loop μ-loop
 returns-2 c = search needs
@@ -149,13 +163,15 @@ replay-spec =
     same-length-3
     same-length-4
     same-length-5
+    same-length-6
     returns
     add-n
     loop-less
     loop-again
-    same-length-6
     same-length-7
     same-length-8
     same-length-9
     same-length-10
+    same-length-11
+    same-length-12
     returns-2)
