@@ -32,12 +32,12 @@ use Rattle.look_lines.specs.declared.Shown.{Shown}
 use Rattle.look_lines.specs.declared.LoadLine.{LoadLine}
 
 -- whether the line was right, and what is used of the buffer
-abbrev pub shown : Bool → ℕ → Shown
-shown ok n = record { ok = ok; text = n }
+abbrev pub lineLeft : Bool → ℕ → Shown
+lineLeft ok n = record { ok = ok; text = n }
 
 -- with the buffer after it
 abbrev pub wrote : Bool → ℕ × List ℕ → Shown × List ℕ
-wrote ok t = (shown ok (t .0), t .1)
+wrote ok t = (lineLeft ok (t .0), t .1)
 
 -- the answer to a line that is right
 abbrev pub answering : Bool → ℕ × List ℕ → List ℕ → Shown × List ℕ
@@ -70,7 +70,7 @@ unfoldable pub cardShown : Profile → List ℕ → List ℕ → Read → ℕ ×
 cardShown p out chars r t =
     let made : ℕ × List ℕ = writeOf p out in
     let u : ℕ × List ℕ = appended t (cardText (made .0) (made .1)) in
-    cond (isDone chars r) (shown true (u .0), (made .1, u .1)) (shown false (t .0), (out, t .1))
+    cond (isDone chars r) (lineLeft true (u .0), (made .1, u .1)) (lineLeft false (t .0), (out, t .1))
 
 -- `log ok TEXT`, or its refusal; the record stands in the output
 unfoldable pub logText : Logged → List ℕ → List ℕ
@@ -82,18 +82,18 @@ logShown out chars r t =
     let q : LinkLine = logLineRead (length hexRoom) chars r in
     let made : Logged × List ℕ = logOf (bytesIn (q .call) chars r) (q .start) (q .end) (q .acked % 4294967296) out in
     let u : ℕ × List ℕ = appended t (logText (made .0) (made .1)) in
-    cond (q .ok) (shown true (u .0), (made .1, u .1)) (shown false (t .0), (out, t .1))
+    cond (q .ok) (lineLeft true (u .0), (made .1, u .1)) (lineLeft false (t .0), (out, t .1))
 
 -- the output stays as it is
-abbrev pub keeping : List ℕ → Shown × List ℕ → Shown × (List ℕ × List ℕ)
-keeping out q = (q .0, (out, q .1))
+abbrev pub outputKept : List ℕ → Shown × List ℕ → Shown × (List ℕ × List ℕ)
+outputKept out q = (q .0, (out, q .1))
 
 -- by the call's number (Names.antt of `call_lines`)
 unfoldable pub lookShown : Profile → Station → List ℕ → List ℕ → List ℕ → Named → ℕ × List ℕ → Shown × (List ℕ × List ℕ)
 lookShown p s a out chars n t =
-    cond (eqb (n .call) 9) (keeping out (stateShown (p .lengths .«max_burst_s») s a chars (n .read) t))
-    (cond (eqb (n .call) 13) (keeping out (messagesShown (s .messages) chars (n .read) t))
-    (cond (eqb (n .call) 12) (keeping out (levelsShown p chars (n .read) t))
+    cond (eqb (n .call) 9) (outputKept out (stateShown (p .lengths .«max_burst_s») s a chars (n .read) t))
+    (cond (eqb (n .call) 13) (outputKept out (messagesShown (s .messages) chars (n .read) t))
+    (cond (eqb (n .call) 12) (outputKept out (levelsShown p chars (n .read) t))
     (cond (eqb (n .call) 14) (cardShown p out chars (n .read) t) (logShown out chars (n .read) t))))
 
 -- `load HEX`: the file is put into the bytes lent

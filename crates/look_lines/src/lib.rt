@@ -23,7 +23,7 @@ use words::word;
 ghost use mathlib.Core.Path.{_≡_};
 ghost use mathlib.Core.Bool.{false};
 ghost use Rattle.text.specs.Buffer.{appended};
-ghost use Rattle.look_lines.specs.Looks.{shown, stateShown, messagesShown, levelsText, levelsShown, cardText, cardShown, logText, logShown, lookShown, fileIn, loadOf};
+ghost use Rattle.look_lines.specs.Looks.{lineLeft, stateShown, messagesShown, levelsText, levelsShown, cardText, cardShown, logText, logShown, lookShown, fileIn, loadOf};
 
 // Bytes that a line can have as HEX: its 65,536 characters have no more pairs.
 const BYTES: usize = 32768;
@@ -35,7 +35,7 @@ pub struct Shown {
 }
 
 fn wrong(n: usize) -> Shown
-    ensures { λ r. ⌜ r ≡ shown false n ⌝ }
+    ensures { λ r. ⌜ r ≡ lineLeft false n ⌝ }
 {
     Shown { ok: false, text: n }
 }
