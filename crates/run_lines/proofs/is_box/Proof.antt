@@ -1,0 +1,23 @@
+-- `is_box`: by its parts. Assumes nothing.
+use borrow.Author.Needs.{needs}
+use Rattle.run_lines.specs.RunLines.{isBox}
+use Rattle.run_lines.proofs.is_box.Statement.{statement}
+use Rattle.run_lines.proofs.is_box.Tie as tie
+
+call-of-requires : tie.Need-call-of-requires
+call-of-requires c κs = search needs
+
+is-call-requires : tie.Need-is-call-requires
+is-call-requires c κs = search needs
+
+is-load-requires : tie.Need-is-load-requires
+is-load-requires c κs = search needs
+
+returns : tie.Need-returns
+unfolding isBox
+returns c =
+    let d = c .before .before .before in
+    rw (← d .call-of .ensures, ← c .before .before .is-call .ensures, ← c .before .is-load .ensures)
+
+pub is-box-spec : {M : Type 1} → statement M
+is-box-spec = tie.close (tie.spec call-of-requires is-call-requires is-load-requires returns)
