@@ -35,15 +35,15 @@ pub struct Left {
 
 // The same of a reply, without the messages, which stay.
 pub struct LeftSender {
-    pub refusal: u8,
     pub sender: Sender,
+    pub refusal: u8,
 }
 
 // The same of a queuing, which leaves the rest of the record alone: the messages, and how many bytes wait.
 pub struct LeftQueue {
-    pub refusal: u8,
     pub messages: Messages,
     pub waiting: u32,
+    pub refusal: u8,
 }
 
 // A refusal's number, 0 where the burst is made, and the burst.
@@ -97,14 +97,7 @@ pub fn queued(t: Station, q: LeftQueue) -> Left
 }
 
 // A reply, and a long ack's payload.
-pub fn reply(
-    p: Profile,
-    t: Station,
-    a: &mut [u8],
-    h: Heard,
-    r: Reply,
-    payload: &[u8],
-) -> LeftSender
+pub fn reply(p: Profile, t: Station, a: &mut [u8], h: Heard, r: Reply, payload: &[u8]) -> LeftSender
     ensures { λ q. ⌜ (afterReply t q, now (a .exit)) ≡ answerNumber (receiveOf p t (now (a .entry)) h r (now (payload .entry))) ⌝ }
 {
     let q = sender_rx(p, t, a, h, r, payload);
@@ -188,6 +181,22 @@ pub fn data_burst(p: Profile, t: Station, a: &mut [u8], out: &mut [u8]) -> LeftB
     let next = q.next;
     let burst = Burst { refusal, outgoing };
     LeftBurst { burst, next }
+}
+
+// What a burst leaves, as of the other calls.
+pub fn after_burst(q: LeftBurst) -> Left
+    ensures { λ r. ⌜ (r .refusal ≡ q .burst .refusal) × (r .next ≡ q .next) ⌝ }
+{
+    let refusal = q.burst.refusal;
+    let next = q.next;
+    Left { refusal, next }
+}
+
+// The burst.
+pub fn made(q: LeftBurst) -> Burst
+    ensures { λ r. ⌜ r ≡ q .burst ⌝ }
+{
+    q.burst
 }
 
 pub fn find(p: Profile, t: Station, a: &[u8], off: u32) -> Place

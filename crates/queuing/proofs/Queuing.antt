@@ -8,10 +8,10 @@ use native.Mathlib.Omega.{arith}
 use lib.ListN.{length, take, drop, length-append, length-drop, take-append-drop}
 use lib.Seq.{take-length, length-take-le}
 use lib.Dec.{eqb}
-use borrow.Author.Tests.{eq-eqb, ne-eqb, eqb-true}
+use borrow.Author.Tests.{eq-eqb, eqb-true}
 use Rattle.laws.specs.Bytes.{overwrite, part, Bytes}
 use Rattle.laws.proofs.Bytes.{over-part, over-keep, over-cat, over-over, over-comm, length-over, length-part, part-inside}
-use Rattle.laws.proofs.Picks.{by as by-test, cond-yes, cond-no, or-right}
+use Rattle.laws.proofs.Picks.{by as by-test, or-right}
 use Rattle.limits.specs.Limits.{maxClass, maxWaiting, maxMessages}
 use Rattle.ledger.specs.Ledger.{bytesOf, requeue}
 use Rattle.ledger.specs.Queue.{Message, Queue, messageBytes, goes, enqueue, superseded, withdrawnBy}
@@ -47,9 +47,9 @@ use Rattle.queuing.specs.StationCode.{
   queuedTo,
   stayBytes,
   stayWaiting,
+  stayedIn,
   placeOf,
   putIn,
-  stayPut,
   queuedWaiting,
   storeWaiting,
 }
@@ -164,6 +164,11 @@ module _ (m : Messages) (f w : ℕ) (a : List ℕ) (l n : ℕ) (fit : Space m f 
       let by : w + n ≤ maxWaiting = omega (arith, ap total z, fit .bytes) in
       record { messages = fit .messages; row = omega (arith, ap length z, fit .row some); bytes = by; area = omega (arith, fit .area) }
 
+  pub stayed-room : Sized m → let x = stayedIn l m f w a in Room (x .0 .messages) f (x .0 .waiting) (x .1) n
+  stayed-room z =
+      by-test (λ (x : Waiting × List ℕ). Room (x .0 .messages) f (x .0 .waiting) (x .1) n) (eqb l 0) (λ e. plain-room (eqb-true l 0 e))
+      (λ e. stay-room z (overwrite a f (stayBytes l m (drop f a))) (length-over a f (stayBytes l m (drop f a))))
+
 module _ (t : Station) (a : List ℕ) (ar : Arrays (t .sender)) (by : Bytes a) (z : Sized (t .messages)) (c l b : ℕ) (bs : List ℕ) (fit : Fit t a l (length (b ∷ bs))) where
   abbrev s : Sender
   s = t .sender
@@ -224,7 +229,9 @@ module _ (t : Station) (a : List ℕ) (ar : Arrays (t .sender)) (by : Bytes a) (
       (sym (ap (λ (k : ℕ). t .messages .withdrawn + k) g ∙ add-zero (t .messages .withdrawn)))
 
   -- WHAT A WITHDRAWAL AND `put_in` LEAVE
-  pub queued-labelled : storeWaiting t (stayPut c l (b ∷ bs) (t .messages) (s .counts .flying) a) ≡ queuedIn c l (b ∷ bs) t a
+  pub queued-labelled : let x = stayWaiting l (t .messages) in
+      let f = s .counts .flying in
+      storeWaiting t (putIn c l (b ∷ bs) (x .messages) f (x .waiting) (overwrite a f (stayBytes l (t .messages) (drop f a)))) ≡ queuedIn c l (b ∷ bs) t a
   unfolding view
   queued-labelled =
       let m = t .messages in
@@ -264,7 +271,7 @@ module _ (t : Station) (a : List ℕ) (ar : Arrays (t .sender)) (by : Bytes a) (
       let e = entryOf n c l in
       subst (λ (r : Station × List ℕ). SoundMessages (r .0 .messages) (r .0 .sender .counts .waiting) × Sized (r .0 .messages)) queued-labelled (
         insert-sound x _ e y (withdraw-sound (t .messages) w l z (fit .space .messages))
-        (stay-room (t .messages) (s .counts .flying) w a l n (fit .space) (omega arith) z a refl .row) (omega arith) h (begunIn x) (placeOf c x .row),
+            (stay-room (t .messages) (s .counts .flying) w a l n (fit .space) (omega arith) z a refl .row) (omega arith) h (begunIn x) (placeOf c x .row),
         sized-stored x y (begunIn x) (insertRow (placeOf c x .row) e (entriesIn x)),
       )
 
@@ -275,7 +282,9 @@ module _ (t : Station) (a : List ℕ) (ar : Arrays (t .sender)) (by : Bytes a) (
   unfolding queuedWaiting queuedIn
   queued-waiting [] f = refl
   queued-waiting (b ∷ bs) f =
-      by-test (λ (q : Waiting × List ℕ). storeWaiting t q ≡ queuedIn c l (b ∷ bs) t a) (eqb l 0) (λ e. queued-plain t a ar by z c l b bs f (eqb-true l 0 e))
+      by-test
+      (λ (x : Waiting × List ℕ). storeWaiting t (putIn c l (b ∷ bs) (x .0 .messages) (t .sender .counts .flying) (x .0 .waiting) (x .1)) ≡ queuedIn c l (b ∷ bs) t a)
+      (eqb l 0) (λ e. queued-plain t a ar by z c l b bs f (eqb-true l 0 e))
       (λ e. queued-labelled t a ar by z c l b bs f)
 
   -- A QUEUING KEEPS THE CLAUSES ABOUT MESSAGES
@@ -293,12 +302,7 @@ module _ (c l : ℕ) (m : Messages) (f w : ℕ) (a : List ℕ) where
   queued-none [] e = refl
   queued-none (b ∷ bs) e = absurd (omega (arith, e))
 
-  pub queued-put : (bs : List ℕ) → 1 ≤ length bs → l ≡ 0 → putIn c l bs m f w a ≡ queuedWaiting c l bs m f w a
+  pub queued-steps : (bs : List ℕ) → 1 ≤ length bs → let x = stayedIn l m f w a in putIn c l bs (x .0 .messages) f (x .0 .waiting) (x .1) ≡ queuedWaiting c l bs m f w a
   unfolding queuedWaiting
-  queued-put [] h e = absurd (omega arith)
-  queued-put (b ∷ bs) h e = cond-yes _ _ _ _ (eq-eqb l 0 e) refl
-
-  pub queued-again : (bs : List ℕ) → 1 ≤ length bs → (l ≡ 0 → ⊥) → stayPut c l bs m f a ≡ queuedWaiting c l bs m f w a
-  unfolding queuedWaiting
-  queued-again [] h e = absurd (omega arith)
-  queued-again (b ∷ bs) h e = cond-no _ _ _ _ (ne-eqb l 0 e) refl
+  queued-steps [] h = absurd (omega arith)
+  queued-steps (b ∷ bs) h = refl

@@ -56,6 +56,11 @@ stayBytes l m w = goes (stayQueue l (queueIn m w))
 abbrev pub stayWaiting : ℕ → Messages → Waiting
 stayWaiting l m = record { messages = withdrawn l m; waiting = M.total (stayIn l (begunIn m) (entriesIn m)) }
 
+-- where w bytes wait and f stand before them; without a label none is withdrawn
+abbrev pub stayedIn : ℕ → Messages → ℕ → ℕ → List ℕ → Waiting × List ℕ
+stayedIn l m f w a =
+    cond (eqb l 0) (record { messages = m; waiting = w }, a) (stayWaiting l m, overwrite a f (stayBytes l m (drop f a)))
+
 -- ---- a message put in, where the messages m and w bytes wait, and f bytes stand before them
 
 -- its place
@@ -83,14 +88,9 @@ pub record Room (m : Messages) (f w : ℕ) (a : List ℕ) (n : ℕ) : Type 0 whe
 abbrev pub putIn : ℕ → ℕ → List ℕ → Messages → ℕ → ℕ → List ℕ → Waiting × List ℕ
 putIn c l bs m f w a = (putWaiting c l (length bs) m w, putArea c bs m f w a)
 
-abbrev pub stayPut : ℕ → ℕ → List ℕ → Messages → ℕ → List ℕ → Waiting × List ℕ
-stayPut c l bs m f a =
-    let x = stayWaiting l m in
-    putIn c l bs (x .messages) f (x .waiting) (overwrite a f (stayBytes l m (drop f a)))
-
 unfoldable pub queuedWaiting : ℕ → ℕ → List ℕ → Messages → ℕ → ℕ → List ℕ → Waiting × List ℕ
 queuedWaiting c l [] m f w a = (record { messages = m; waiting = w }, a)
-queuedWaiting c l (b ∷ bs) m f w a = cond (eqb l 0) (putIn c l (b ∷ bs) m f w a) (stayPut c l (b ∷ bs) m f a)
+queuedWaiting c l (b ∷ bs) m f w a = let x = stayedIn l m f w a in putIn c l (b ∷ bs) (x .0 .messages) f (x .0 .waiting) (x .1)
 
 -- the record and the work area, where these messages wait
 abbrev pub storeWaiting : Station → Waiting × List ℕ → Station × List ℕ

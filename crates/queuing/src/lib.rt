@@ -15,7 +15,7 @@ ghost use Rattle.limits.specs.Limits.{maxMessages, maxTaken};
 ghost use Rattle.messages.specs.Messages.{entriesIn, total, begunIn};
 ghost use Rattle.messages.specs.MessagesCode.{stayIn};
 ghost use Rattle.queuing.specs.Station.{freshStation};
-ghost use Rattle.queuing.specs.StationCode.{Space, Room, stayBytes, stayWaiting, putWaiting, putArea, queuedWaiting};
+ghost use Rattle.queuing.specs.StationCode.{Space, Room, stayBytes, stayedIn, putWaiting, putArea, queuedWaiting};
 
 #[repr(C)]
 pub struct Station {
@@ -63,14 +63,19 @@ fn close_gaps(m: Messages, a: &mut [u8], first: usize, label: u16) -> usize
     to - first
 }
 
-// What waits once the messages that a label withdraws are gone, where `flying` bytes stand before them.
-fn withdrawn(m: Messages, flying: u32, a: &mut [u8], label: u16) -> Waiting
+// What waits once the messages that a label withdraws are gone, where `flying` bytes stand before them. No label withdraws none.
+fn withdrawn(m: Messages, flying: u32, waiting: u32, a: &mut [u8], label: u16) -> Waiting
     requires { ⌜ m .n ≤ maxMessages ⌝ }
     requires { ⌜ flying + total (entriesIn m) ≤ length (now a) ⌝ }
     requires { ⌜ m .withdrawn + total (entriesIn m) ≤ maxTaken ⌝ }
-    ensures { λ r. ⌜ r ≡ stayWaiting label m ⌝ }
-    ensures { λ _. ⌜ now (a .exit) ≡ overwrite (now (a .entry)) flying (stayBytes label m (drop flying (now (a .entry)))) ⌝ }
+    ensures { λ r. ⌜ (r, now (a .exit)) ≡ stayedIn label m flying waiting (now (a .entry)) ⌝ }
 {
+    if label == 0 {
+        return Waiting {
+            messages: m,
+            waiting,
+        };
+    }
     let first = flying as usize;
     let n = close_gaps(m, a, first, label);
     let messages = withdraw(m, label);
@@ -127,9 +132,6 @@ pub fn enqueue(
             waiting,
         };
     }
-    if label == 0 {
-        return put_in(m, flying, waiting, a, class, label, bytes);
-    }
-    let w = withdrawn(m, flying, a, label);
+    let w = withdrawn(m, flying, waiting, a, label);
     put_in(w.messages, flying, w.waiting, a, class, label, bytes)
 }

@@ -34,15 +34,15 @@ pub struct Answer {
 
 // The same of a reply, without the messages, which stay.
 pub struct Replied {
-    pub verdict: Verdict,
     pub sender: Sender,
+    pub verdict: Verdict,
 }
 
 // The same of a queuing, which leaves the rest of the record alone: the messages, and how many bytes wait.
 pub struct Queued {
-    pub verdict: Verdict,
     pub messages: Messages,
     pub waiting: u32,
+    pub verdict: Verdict,
 }
 
 pub struct Bursted {
@@ -94,7 +94,14 @@ pub fn queue(p: Profile, t: Station, a: &mut [u8], class: u8, label: u16, bytes:
 }
 
 // A reply, and a long ack's payload. The messages stay.
-pub fn sender_rx(p: Profile, t: Station, a: &mut [u8], h: Heard, r: Reply, payload: &[u8]) -> Replied
+pub fn sender_rx(
+    p: Profile,
+    t: Station,
+    a: &mut [u8],
+    h: Heard,
+    r: Reply,
+    payload: &[u8],
+) -> Replied
     ensures { λ q. ⌜ (repliedBy t q, now (a .exit)) ≡ receiveOf p t (now (a .entry)) h r (now (payload .entry)) ⌝ }
 {
     let n = payload.len();
