@@ -7,8 +7,6 @@ use card::Found;
 use config::Profile;
 use messages::Messages;
 use numbered::Burst;
-use numbered::Left;
-use numbered::LeftBurst;
 use numbered::Message;
 use numbered::Place;
 use queuing::Station;
@@ -46,19 +44,19 @@ fn keep(t: &mut Station, refusal: u8, next: Station)
 }
 
 // The same of a reply: the messages stay.
-fn keep_sender(t: &mut Station, refusal: u8, next: Sender)
-    ensures { λ _. ⌜ now (t .exit) ≡ kept (now (t .entry)) refusal (withSender (now (t .entry)) next) ⌝ }
+fn keep_sender(t: &mut Station, answer: u8, next: Sender)
+    ensures { λ _. ⌜ now (t .exit) ≡ kept (now (t .entry)) answer (withSender (now (t .entry)) next) ⌝ }
 {
-    if refusal == 0 {
+    if answer == 0 {
         t.sender = next;
     }
 }
 
 // The same of a queuing: the rest of the record stays.
-fn keep_queue(t: &mut Station, refusal: u8, messages: Messages, waiting: u32)
-    ensures { λ _. ⌜ now (t .exit) ≡ kept (now (t .entry)) refusal (withMessages (now (t .entry)) messages waiting) ⌝ }
+fn keep_queue(t: &mut Station, taken: u8, messages: Messages, waiting: u32)
+    ensures { λ _. ⌜ now (t .exit) ≡ kept (now (t .entry)) taken (withMessages (now (t .entry)) messages waiting) ⌝ }
 {
-    if refusal == 0 {
+    if taken == 0 {
         t.messages = messages;
         t.sender.counts.waiting = waiting;
     }
@@ -81,21 +79,6 @@ fn card_answer(q: Found) -> CardAnswer
         refusal: q.refusal,
         stretched: q.stretched,
     }
-}
-
-// What a burst leaves, as of the other calls; and the burst.
-fn after_burst(q: LeftBurst) -> Left
-    ensures { λ r. ⌜ (r .refusal ≡ q .burst .refusal) × (r .next ≡ q .next) ⌝ }
-{
-    let refusal = q.burst.refusal;
-    let next = q.next;
-    Left { refusal, next }
-}
-
-fn made(q: LeftBurst) -> Burst
-    ensures { λ r. ⌜ r ≡ q .burst ⌝ }
-{
-    q.burst
 }
 
 // The record of a new station.
@@ -223,9 +206,9 @@ pub extern "C" fn vanitycrow_data_burst(
         ≡ burstNumber (burstCall (now (p .entry)) (now (t .entry)) (now (a .entry)) (now (out .entry))) ⌝ }
 {
     let q = numbered::data_burst(*p, *t, a, out);
-    let l = after_burst(q);
+    let l = numbered::after_burst(q);
     keep(t, l.refusal, l.next);
-    made(q)
+    numbered::made(q)
 }
 
 // Where the bytes of the piece at `off` lie in the work area.
