@@ -63,7 +63,8 @@ pub fn queue(p: Profile, t: Station, a: &mut [u8], m: Message, bytes: &[u8]) -> 
     Left { refusal, next }
 }
 
-fn reply(p: Profile, t: Station, a: &mut [u8], h: Heard, r: Reply, payload: &[u8]) -> Left
+// A reply of whatever kind; of its payload a long ack alone is read.
+pub fn reply(p: Profile, t: Station, a: &mut [u8], h: Heard, r: Reply, payload: &[u8]) -> Left
     ensures { λ q. ⌜ (q, now (a .exit)) ≡ answerNumber (receiveOf p t (now (a .entry)) h r (now (payload .entry))) ⌝ }
 {
     let q = sender_rx(p, t, a, h, r, payload);
