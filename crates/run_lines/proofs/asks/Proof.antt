@@ -6,16 +6,16 @@ use Rattle.run_lines.proofs.asks.Statement.{statement}
 use Rattle.run_lines.proofs.asks.Tie as tie
 
 least-requires : tie.Need-least-requires
-least-requires c κs = search needs
+least-requires c κs = tt
 
 keep-requires : tie.Need-keep-requires
-keep-requires c κs = search needs
+keep-requires c κs = tt
 
 todo-of-requires : tie.Need-todo-of-requires
-todo-of-requires c κs = search needs
+todo-of-requires c κs = tt
 
 to-ask-requires : tie.Need-to-ask-requires
-to-ask-requires c κs = search needs
+to-ask-requires c κs = tt
 
 same-length : tie.Need-same-length
 same-length c = search needs

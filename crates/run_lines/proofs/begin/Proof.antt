@@ -5,7 +5,7 @@ use Rattle.run_lines.proofs.begin.Statement.{statement}
 use Rattle.run_lines.proofs.begin.Tie as tie
 
 ended-requires : tie.Need-ended-requires
-ended-requires c κs = search needs
+ended-requires c κs = tt
 
 same-length : tie.Need-same-length
 same-length c = search needs

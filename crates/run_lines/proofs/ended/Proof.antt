@@ -8,7 +8,7 @@ use Rattle.run_lines.proofs.ended.Statement.{statement}
 use Rattle.run_lines.proofs.ended.Tie as tie
 
 end-requires : tie.Need-end-requires
-end-requires c κs = search needs
+end-requires c κs = tt
 
 same-length : tie.Need-same-length
 same-length c = search needs

@@ -1,17 +1,16 @@
 -- `is_box`: by its parts. Assumes nothing.
-use borrow.Author.Needs.{needs}
 use Rattle.run_lines.specs.RunLines.{isBox}
 use Rattle.run_lines.proofs.is_box.Statement.{statement}
 use Rattle.run_lines.proofs.is_box.Tie as tie
 
 call-of-requires : tie.Need-call-of-requires
-call-of-requires c κs = search needs
+call-of-requires c κs = tt
 
 is-call-requires : tie.Need-is-call-requires
-is-call-requires c κs = search needs
+is-call-requires c κs = tt
 
 is-load-requires : tie.Need-is-load-requires
-is-load-requires c κs = search needs
+is-load-requires c κs = tt
 
 returns : tie.Need-returns
 unfolding isBox

@@ -7,13 +7,13 @@ use Rattle.run_lines.proofs.lend.Statement.{statement}
 use Rattle.run_lines.proofs.lend.Tie as tie
 
 most-lent-requires : tie.Need-most-lent-requires
-most-lent-requires c κs = search needs
+most-lent-requires c κs = tt
 
 length-requires : tie.Need-length-requires
-length-requires c κs = search needs
+length-requires c κs = tt
 
 failed-requires : tie.Need-failed-requires
-failed-requires c κs = search needs
+failed-requires c κs = tt
 
 returns : tie.Need-returns
 unfolding lends
@@ -24,13 +24,13 @@ returns c =
     rw (← e .most-lent .ensures, ← w .ensures, not-true (w .result .ok) (c .before .if1 .taken), c .failed .ensures)
 
 lent-text-requires : tie.Need-lent-text-requires
-lent-text-requires c κs = search needs
+lent-text-requires c κs = tt
 
 with-text-requires : tie.Need-with-text-requires
-with-text-requires c κs = search needs
+with-text-requires c κs = tt
 
 lent-requires : tie.Need-lent-requires
-lent-requires c κs = search needs
+lent-requires c κs = tt
 
 same-length : tie.Need-same-length
 same-length c = search needs

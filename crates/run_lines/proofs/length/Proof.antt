@@ -1,14 +1,13 @@
 -- `length`: the word, and the end of the line. Assumes nothing.
-use borrow.Author.Needs.{needs}
 use Rattle.run_lines.specs.RunLines.{lengthOf}
 use Rattle.run_lines.proofs.length.Statement.{statement}
 use Rattle.run_lines.proofs.length.Tie as tie
 
 whole-requires : tie.Need-whole-requires
-whole-requires c κs = search needs
+whole-requires c κs = tt
 
 done-requires : tie.Need-done-requires
-done-requires c κs = search needs
+done-requires c κs = tt
 
 returns : tie.Need-returns
 unfolding lengthOf

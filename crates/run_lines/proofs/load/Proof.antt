@@ -10,10 +10,10 @@ slice-aggregate-load-words : tie.Need-slice-aggregate-load-words
 slice-aggregate-load-words c = search needs
 
 load-words-requires : tie.Need-load-words-requires
-load-words-requires c κs = search needs
+load-words-requires c κs = tt
 
 failed-requires : tie.Need-failed-requires
-failed-requires c κs = search needs
+failed-requires c κs = tt
 
 returns : tie.Need-returns
 unfolding loads
@@ -26,10 +26,10 @@ slice-aggregate-answer : tie.Need-slice-aggregate-answer
 slice-aggregate-answer c = search needs
 
 answer-requires : tie.Need-answer-requires
-answer-requires c κs = search needs
+answer-requires c κs = tt
 
 with-text-requires : tie.Need-with-text-requires
-with-text-requires c κs = search needs
+with-text-requires c κs = tt
 
 same-length : tie.Need-same-length
 same-length c = search needs
@@ -53,7 +53,7 @@ slice-aggregate-least : tie.Need-slice-aggregate-least
 slice-aggregate-least c = search needs
 
 least-requires : tie.Need-least-requires
-least-requires c κs = search needs
+least-requires c κs = tt
 
 array-share-prefix-bytes : tie.Need-array-share-prefix-bytes
 array-share-prefix-bytes c = search needs
@@ -62,7 +62,7 @@ slice-aggregate-take-file : tie.Need-slice-aggregate-take-file
 slice-aggregate-take-file c = search needs
 
 take-file-requires : tie.Need-take-file-requires
-take-file-requires c κs = search needs
+take-file-requires c κs = tt
 
 same-length-2 : tie.Need-same-length-2
 same-length-2 c = search needs

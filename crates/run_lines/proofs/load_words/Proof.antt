@@ -4,10 +4,10 @@ use Rattle.run_lines.proofs.load_words.Statement.{statement}
 use Rattle.run_lines.proofs.load_words.Tie as tie
 
 profile-of-requires : tie.Need-profile-of-requires
-profile-of-requires c κs = search needs
+profile-of-requires c κs = tt
 
 load-requires : tie.Need-load-requires
-load-requires c κs = search needs
+load-requires c κs = tt
 
 same-length : tie.Need-same-length
 same-length c = search needs

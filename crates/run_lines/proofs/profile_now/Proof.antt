@@ -11,7 +11,7 @@ use Rattle.run_lines.proofs.profile_now.Statement.{statement}
 use Rattle.run_lines.proofs.profile_now.Tie as tie
 
 profile-of-requires : tie.Need-profile-of-requires
-profile-of-requires c κs = search needs
+profile-of-requires c κs = tt
 
 returns : tie.Need-returns
 unfolding profileNow
@@ -20,13 +20,13 @@ returns c =
     (c .before .before .profile-of .ensures)
 
 least-requires : tie.Need-least-requires
-least-requires c κs = search needs
+least-requires c κs = tt
 
 slice-aggregate-read : tie.Need-slice-aggregate-read
 slice-aggregate-read c = search needs
 
 read-requires : tie.Need-read-requires
-read-requires c κs = search needs
+read-requires c κs = tt
 
 returns-2 : tie.Need-returns-2
 unfolding profileNow

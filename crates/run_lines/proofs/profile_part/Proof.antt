@@ -9,10 +9,10 @@ use Rattle.run_lines.proofs.profile_part.Statement.{statement}
 use Rattle.run_lines.proofs.profile_part.Tie as tie
 
 passed-over-requires : tie.Need-passed-over-requires
-passed-over-requires c κs = search needs
+passed-over-requires c κs = tt
 
 with-todo-requires : tie.Need-with-todo-requires
-with-todo-requires c κs = search needs
+with-todo-requires c κs = tt
 
 returns : tie.Need-returns
 unfolding profilePart
@@ -21,7 +21,7 @@ returns c =
     (pair (c .with-todo .ensures) refl)
 
 profile-step-requires : tie.Need-profile-step-requires
-profile-step-requires c κs = search needs
+profile-step-requires c κs = tt
 
 same-length : tie.Need-same-length
 same-length c = search needs
@@ -40,13 +40,13 @@ slice-aggregate-word : tie.Need-slice-aggregate-word
 slice-aggregate-word c = search needs
 
 word-requires : tie.Need-word-requires
-word-requires c κs = search needs
+word-requires c κs = tt
 
 done-requires : tie.Need-done-requires
-done-requires c κs = search needs
+done-requires c κs = tt
 
 begin-requires : tie.Need-begin-requires
-begin-requires c κs = search needs
+begin-requires c κs = tt
 
 same-length-2 : tie.Need-same-length-2
 same-length-2 c = search needs
@@ -67,7 +67,7 @@ returns-3 c =
     (ap (areaKept _ _) (c .before .before .begin .ensures)))))
 
 failed-requires : tie.Need-failed-requires
-failed-requires c κs = search needs
+failed-requires c κs = tt
 
 returns-4 : tie.Need-returns-4
 unfolding profilePart

@@ -9,10 +9,10 @@ use Rattle.run_lines.proofs.profile_step.Statement.{statement}
 use Rattle.run_lines.proofs.profile_step.Tie as tie
 
 profile-line-requires : tie.Need-profile-line-requires
-profile-line-requires c κs = search needs
+profile-line-requires c κs = tt
 
 failed-requires : tie.Need-failed-requires
-failed-requires c κs = search needs
+failed-requires c κs = tt
 
 returns : tie.Need-returns
 unfolding nextLine
@@ -24,7 +24,7 @@ sub-if2 : tie.Need-sub-if2
 sub-if2 c = search needs
 
 start-requires : tie.Need-start-requires
-start-requires c κs = search needs
+start-requires c κs = tt
 
 same-length : tie.Need-same-length
 same-length c = search needs

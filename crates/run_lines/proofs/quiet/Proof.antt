@@ -13,10 +13,10 @@ unfolding quietLine
 returns c = cond-yes _ _ _ _ (ap not (ne-eqb _ _ (c .if1 .taken))) refl
 
 is-load-requires : tie.Need-is-load-requires
-is-load-requires c κs = search needs
+is-load-requires c κs = tt
 
 load-requires : tie.Need-load-requires
-load-requires c κs = search needs
+load-requires c κs = tt
 
 same-length : tie.Need-same-length
 same-length c = search needs
@@ -39,13 +39,13 @@ returns-2 c =
     (ap (afterLoad _ _) (d .load .ensures)))
 
 is-call-requires : tie.Need-is-call-requires
-is-call-requires c κs = search needs
+is-call-requires c κs = tt
 
 call-of-requires : tie.Need-call-of-requires
-call-of-requires c κs = search needs
+call-of-requires c κs = tt
 
 called-requires : tie.Need-called-requires
-called-requires c κs = search needs
+called-requires c κs = tt
 
 same-length-4 : tie.Need-same-length-4
 same-length-4 c = search needs
@@ -72,7 +72,7 @@ returns-3 c =
     (rw (← e .call-of .ensures) (ap (afterCall _ _ _) (d .called .ensures)))))
 
 profile-part-requires : tie.Need-profile-part-requires
-profile-part-requires c κs = search needs
+profile-part-requires c κs = tt
 
 same-length-7 : tie.Need-same-length-7
 same-length-7 c = search needs

@@ -1,5 +1,4 @@
 -- `size_after`: by the call. Assumes nothing.
-use borrow.Author.Needs.{needs}
 use mathlib.Core.Path.{refl}
 use borrow.Author.Tests.{eq-eqb, ne-eqb}
 use Rattle.laws.proofs.Picks.{cond-no, cond-yes}
@@ -8,7 +7,7 @@ use Rattle.run_lines.proofs.size_after.Statement.{statement}
 use Rattle.run_lines.proofs.size_after.Tie as tie
 
 size-now-requires : tie.Need-size-now-requires
-size-now-requires c κs = search needs
+size-now-requires c κs = tt
 
 returns : tie.Need-returns
 unfolding sizeAfter

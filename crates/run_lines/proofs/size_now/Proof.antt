@@ -1,14 +1,13 @@
 -- `size_now`: under the profile. Assumes nothing.
-use borrow.Author.Needs.{needs}
 use Rattle.run_lines.specs.RunLines.{sizeNow}
 use Rattle.run_lines.proofs.size_now.Statement.{statement}
 use Rattle.run_lines.proofs.size_now.Tie as tie
 
 profile-now-requires : tie.Need-profile-now-requires
-profile-now-requires c κs = search needs
+profile-now-requires c κs = tt
 
 size-at-requires : tie.Need-size-at-requires
-size-at-requires c κs = search needs
+size-at-requires c κs = tt
 
 returns : tie.Need-returns
 unfolding sizeNow

@@ -5,13 +5,13 @@ use Rattle.run_lines.proofs.take_file.Statement.{statement}
 use Rattle.run_lines.proofs.take_file.Tie as tie
 
 keep-requires : tie.Need-keep-requires
-keep-requires c κs = search needs
+keep-requires c κs = tt
 
 begin-requires : tie.Need-begin-requires
-begin-requires c κs = search needs
+begin-requires c κs = tt
 
 loaded-requires : tie.Need-loaded-requires
-loaded-requires c κs = search needs
+loaded-requires c κs = tt
 
 same-length : tie.Need-same-length
 same-length c = search needs
