@@ -5,15 +5,15 @@ use mathlib.Core.List.{List, _++_}
 use Prim.Native.Nat.{ℕ, _+_, _-_, _≤_, _<_}
 use native.Mathlib.Omega.{arith}
 use lib.Dec.{leb, ltb}
-use lib.ListN.{length, take}
-use borrow.Author.Tests.{ltb-true, ltb-false, le-leb, lt-leb, leb-true, leb-false}
+use lib.ListN.{take}
+use borrow.Author.Tests.{ltb-true, ltb-false, le-leb, lt-leb, leb-true, leb-false, not-true, not-false}
 use Rattle.laws.proofs.Picks.{test}
 use Rattle.text.specs.Buffer.{appended}
 use Rattle.box_lines.specs.BoxLines.{receivedLine}
 use Rattle.receiver.specs.declared.Listened.{Listened}
 use Rattle.box_calls.specs.declared.Box.{Box}
 use Rattle.box_calls.specs.declared.BoxLeft.{BoxLeft}
-use Rattle.box_calls.specs.BoxCalls.{boxLeft, after}
+use Rattle.box_calls.specs.BoxCalls.{boxLeft, after, keeping}
 
 -- ---- tests
 
@@ -31,26 +31,13 @@ pub not-wide : (a : Bool) (n most : ℕ) → (not a || ltb most n) ≡ false →
 not-wide true n most e = le-leb n most (ltb-false most n e)
 not-wide false n most e = sym e
 
--- a frame heard: there is room for its bytes l, len of them, where the call says so
-module _ (ok : Bool) (i most used len room : ℕ) (l : List ℕ) (r : Bool) (e : r ≡ leb (used + len) room) (n : len ≡ length l) where
-  says : r ≡ leb (used + length l) room
-  says = e ∙ ap (λ (k : ℕ). leb (used + k) room) n
+-- there is room for the n-th frame and its bytes where the call says so
+module _ (i most used len all : ℕ) (r : Bool) (e : r ≡ leb (used + len) all) where
+  pub no-room : not (ltb i most && r) ≡ true → (ltb i most && leb (used + len) all) ≡ false
+  no-room h = rw (← e) (not-true (ltb i most && r) h)
 
-  negated : (a b : Bool) → (not a || not b) ≡ true → (a && b) ≡ false
-  negated true true h = sym h
-  negated true false h = refl
-  negated false b h = refl
-
-  affirmed : (a b : Bool) → (not a || not b) ≡ false → (a && b) ≡ true
-  affirmed true true h = refl
-  affirmed true false h = sym h
-  affirmed false b h = sym h
-
-  pub no-frame : (not ok || not (ltb i most && r)) ≡ true → (ok && (ltb i most && leb (used + length l) room)) ≡ false
-  no-frame h = rw (← says) (negated ok (ltb i most && r) h)
-
-  pub a-frame : (not ok || not (ltb i most && r)) ≡ false → (ok && (ltb i most && leb (used + length l) room)) ≡ true
-  a-frame h = rw (← says) (affirmed ok (ltb i most && r) h)
+  pub room : not (ltb i most && r) ≡ false → (ltb i most && leb (used + len) all) ≡ true
+  room h = rw (← e) (not-false (ltb i most && r) h)
 
 -- ---- what a line said
 
@@ -98,11 +85,8 @@ keepsWindow w m = (m .0, (w, m .1))
 pub window-kept : {q : BoxLeft} {w h₁ t₁ : List ℕ} {m : BoxLeft × Pair} → (q, (h₁, t₁)) ≡ m → keepsWindow w (q, (h₁, t₁)) ≡ keepsWindow w m
 window-kept {q} {w} e = ap (keepsWindow w) e
 
-abbrev keepsBoth : List ℕ → List ℕ → BoxLeft × List ℕ → BoxLeft × (List ℕ × Pair)
-keepsBoth w h m = (m .0, (w, (h, m .1)))
-
-pub both-kept : {q : BoxLeft} {w h t₁ : List ℕ} {m : BoxLeft × List ℕ} → (q, t₁) ≡ m → keepsBoth w h (q, t₁) ≡ keepsBoth w h m
-both-kept {q} {w} {h} e = ap (keepsBoth w h) e
+pub kept : {q : BoxLeft} {w t₁ : List ℕ} {m : BoxLeft × List ℕ} → (q, t₁) ≡ m → keeping w (q, t₁) ≡ keeping w m
+kept {q} {w} e = ap (keeping w) e
 
 abbrev keepsHeard : List ℕ → BoxLeft × Pair → BoxLeft × (List ℕ × Pair)
 keepsHeard h m = (m .0, (m .1 .0, (h, m .1 .1)))

@@ -7,7 +7,7 @@ use native.Mathlib.Nat.{mul-le-mul}
 use native.Mathlib.Omega.{arith}
 use native.Mathlib.Numerals.{add-one}
 use lib.Dec.{leb, ltb}
-use lib.ListN.{length, take, drop, getD, replicate, length-take, length-replicate, drop-of-length-le}
+use lib.ListN.{length, take, drop, getD, length-take, drop-of-length-le}
 use lib.Seq.{length-take-le, take-all, take-take, take-add, drop-cons, drop-append-seam}
 use borrow.Author.Tests.{leb-true, leb-false}
 use Rattle.laws.specs.Bytes.{overwrite, part}
@@ -40,6 +40,9 @@ take-min n m l =
     ap (λ (j : ℕ). take j l) q ∙ sym (take-all m (take n l) (omega (arith, length-take n l))))
     (λ t. let p : m < n = leb-false n m t in let q : min n m ≡ m = omega arith in
     ap (λ (j : ℕ). take j l) q ∙ sym (take-take m n l (omega arith)))
+
+pub taken-few : {l : List ℕ} (n : ℕ) (m : List ℕ) → l ≡ take n m → length l ≤ n
+taken-few n m e = omega (arith, ap (λ (x : List ℕ). length x) e, length-take n m)
 
 -- the bytes from place `start` on, `size` of them as far as there are any: those from place `from` to place `to`
 pub record Cut (l : List ℕ) (start size from to : ℕ) : Type 0 where
@@ -89,10 +92,6 @@ pub frames-end : (size : ℕ) (sent places bytes : List ℕ) (used i : ℕ) → 
 unfolding framesAt
 frames-end size sent places bytes used i h =
     ap (λ (m : List ℕ). overwrite bytes used (framesAt size sent m)) (drop-of-length-le places h) ∙ over-nil bytes used
-
--- there is room for n
-pub room-for : (n : ℕ) → n ≤ length (replicate {A = ℕ} n 0)
-room-for n = omega (arith, length-replicate {A = ℕ} n 0)
 
 -- where a frame starts
 pub start-small : (place size : ℕ) → place < 256 → size ≤ 512 → place * size ≤ 131072

@@ -1,6 +1,6 @@
--- The box of a call list (docs/CALLS.md, The box): what each of its lines answers, and what it leaves. Definitions only. `chars` are a line's
--- characters, `r` how far it was read; `w` is the box's window, `h` the bytes of the frames heard, `sent` the last burst's frames, `t` the
--- transcript's buffer and what is used of it.
+-- The box of a call list (docs/CALLS.md, The box): what each of its lines answers, and what it leaves. Definitions only.
+-- `chars` are a line's characters, `r` how far it was read; `w` is the box's window, `h` the bytes of the frames heard, `sent` the last
+-- burst's frames, `t` the transcript's buffer and what is used of it.
 use mathlib.Core.Bool.{Bool, true, false, cond, _&&_}
 use mathlib.Core.List.{List, [], _∷_, _++_}
 use Prim.Native.Nat.{ℕ, _+_, _*_, min}
@@ -24,7 +24,8 @@ use Rattle.box_lines.specs.declared.PlacesLine.{PlacesLine}
 use Rattle.box_calls.specs.declared.Box.{Box}
 use Rattle.box_calls.specs.declared.BoxLeft.{BoxLeft}
 
--- frames that may be heard before a reception, and the bytes of one that are kept: "A frame longer than 512 bytes is left out by its length"
+-- frames that may be heard before a reception, and the bytes of one that are kept: "A frame longer than 512 bytes is left out by its
+-- length"
 abbrev pub mostHeard : ℕ
 mostHeard = 128
 
@@ -59,6 +60,10 @@ freshBox =
 abbrev pub boxLeft : Bool → ℕ → Box → BoxLeft
 boxLeft ok n b = record { ok = ok; text = n; next = b }
 
+-- a line that is wrong leaves all as it was
+abbrev pub orWrong : Bool → Box → List ℕ → ℕ × List ℕ → BoxLeft × (List ℕ × List ℕ) → BoxLeft × (List ℕ × List ℕ)
+orWrong ok b m t x = cond ok x (boxLeft false (t .0) b, (m, t .1))
+
 -- ---- `heard SLOT HEX`
 
 -- one frame more for the next reception, and the bytes after it
@@ -82,18 +87,22 @@ keepFrame slot bytes x =
     )
 
 -- as far as there is room for frames and for their bytes
+unfoldable pub frameSaid : ℕ → List ℕ → Box → List ℕ → ℕ × List ℕ → BoxLeft × (List ℕ × List ℕ)
+frameSaid slot frame b h t =
+    let kept : Box × List ℕ = keepFrame slot frame (b, h) in
+    let u : ℕ × List ℕ = appended t (answerLine (text "heard") 0) in
+    orWrong (ltb (b .heard) mostHeard && leb (b .used + length frame) (length h)) b h t (boxLeft true (u .0) (kept .0), (kept .1, u .1))
+
 unfoldable pub heardSaid : List ℕ → Read → Box → List ℕ → ℕ × List ℕ → BoxLeft × (List ℕ × List ℕ)
 heardSaid chars r b h t =
     let q : HeardLine = heardLine (length hexRoom) chars r in
     let frame : List ℕ = take mostBytes (bytesIn (q .len) chars (readAs decimalOf chars r)) in
-    let kept : Box × List ℕ = keepFrame (q .slot) frame (b, h) in
-    let u : ℕ × List ℕ = appended t (answerLine (text "heard") 0) in
-    cond (q .ok && (ltb (b .heard) mostHeard && leb (b .used + length frame) (length h)))
-    (boxLeft true (u .0) (kept .0), (kept .1, u .1)) (boxLeft false (t .0) b, (h, t .1))
+    orWrong (q .ok) b h t (frameSaid (q .slot) frame b h t)
 
 -- ---- `receive NUMBER DB` and `arrive DB PLACE ..`
 
--- what a reception leaves: its record and its answer; "A refused `receive` keeps the frames heard, and `arrive` neither takes nor clears them"
+-- what a reception leaves: its record and its answer; "A refused `receive` keeps the frames heard, and `arrive` neither takes nor clears
+-- them"
 unfoldable pub after : Bool → Listened → Box → Box
 after heard q b =
     cond (eqb (q .answer .refusal) 0)
@@ -126,10 +135,6 @@ module _ (name : List ℕ) (heard : Bool) (number db : ℕ) (bytes sizes slots :
       let x : BoxLeft × (List ℕ × List ℕ) = takenIn (take (b .lent) w) (take most hexRoom) t in
       (x .0, (x .1 .0 ++ drop (b .lent) w, x .1 .1))
 
--- a line that is wrong leaves all as it was
-abbrev pub orWrong : Bool → Box → List ℕ → ℕ × List ℕ → BoxLeft × (List ℕ × List ℕ) → BoxLeft × (List ℕ × List ℕ)
-orWrong ok b w t x = cond ok x (boxLeft false (t .0) b, (w, t .1))
-
 unfoldable pub receiveSaid : List ℕ → Read → Box → ℕ → List ℕ → List ℕ → ℕ × List ℕ → BoxLeft × (List ℕ × List ℕ)
 receiveSaid chars r b most w h t =
     let q : ReceptionLine = receptionLine chars r in
@@ -141,9 +146,13 @@ unfoldable pub framesAt : ℕ → List ℕ → List ℕ → List ℕ
 framesAt size sent [] = []
 framesAt size sent (place ∷ places) = take size (drop (place * size) sent) ++ framesAt size sent places
 
+-- room for the frames at so many places
+unfoldable pub framesRoom : List ℕ
+framesRoom = replicate (frameBytes * mostPlaces) 0
+
 unfoldable pub arrivingSaid : ℕ → List ℕ → Box → ℕ → List ℕ → List ℕ → ℕ × List ℕ → BoxLeft × (List ℕ × List ℕ)
 arrivingSaid db places b most w sent t =
-    let bytes : List ℕ = overwrite (replicate (frameBytes * mostPlaces) 0) 0 (framesAt (min (b .size) frameBytes) sent places) in
+    let bytes : List ℕ = overwrite framesRoom 0 (framesAt (min (b .size) frameBytes) sent places) in
     takenSaid (text "arrive") false (b .number) db bytes (replicate mostPlaces (b .size)) places b most w t
 
 unfoldable pub arriveSaid : List ℕ → Read → Box → ℕ → List ℕ → List ℕ → ℕ × List ℕ → BoxLeft × (List ℕ × List ℕ)
@@ -185,21 +194,31 @@ showSaid chars r b w t =
 
 -- ---- the lines
 
+-- the window stays as it was
+abbrev pub keeping : List ℕ → BoxLeft × List ℕ → BoxLeft × (List ℕ × List ℕ)
+keeping w x = (x .0, (w, x .1))
+
 unfoldable pub receptionsSaid : List ℕ → Box → ℕ → List ℕ → List ℕ → List ℕ → ℕ × List ℕ → BoxLeft × (List ℕ × List ℕ)
 receptionsSaid chars b most w h sent t =
-    cond (begun chars (text "receive") .ok) (receiveSaid chars (begun chars (text "receive")) b most w h t)
-    (cond (begun chars (text "arrive") .ok) (arriveSaid chars (begun chars (text "arrive")) b most w sent t) (boxLeft false (t .0) b, (w, t .1)))
+    let receives : Read = begun chars (text "receive") in
+    let arrives : Read = begun chars (text "arrive") in
+    cond (receives .ok) (receiveSaid chars receives b most w h t)
+    (orWrong (arrives .ok) b w t (arriveSaid chars arrives b most w sent t))
+
+unfoldable pub otherSaid : List ℕ → Box → ℕ → List ℕ → List ℕ → List ℕ → ℕ × List ℕ → BoxLeft × (List ℕ × List ℕ)
+otherSaid chars b most w h sent t =
+    let lends : Read = begun chars (text "window") in
+    let shows : Read = begun chars (text "box") in
+    cond (lends .ok) (keeping w (windowSaid chars lends b t))
+    (cond (shows .ok) (keeping w (showSaid chars shows b w t)) (receptionsSaid chars b most w h sent t))
 
 -- the window, the bytes of the frames heard, and the buffer after it
 unfoldable pub listenSaid : List ℕ → Box → ℕ → List ℕ → List ℕ → List ℕ → ℕ × List ℕ → BoxLeft × (List ℕ × (List ℕ × List ℕ))
 listenSaid chars b most w h sent t =
-    let hears = heardSaid chars (begun chars (text "heard")) b h t in
-    let lends = windowSaid chars (begun chars (text "window")) b t in
-    let shows = showSaid chars (begun chars (text "box")) b w t in
-    let takes = receptionsSaid chars b most w h sent t in
-    cond (begun chars (text "heard") .ok) (hears .0, (w, hears .1))
-    (cond (begun chars (text "window") .ok) (lends .0, (w, (h, lends .1)))
-    (cond (begun chars (text "box") .ok) (shows .0, (w, (h, shows .1))) (takes .0, (takes .1 .0, (h, takes .1 .1)))))
+    let hears : Read = begun chars (text "heard") in
+    let heard : BoxLeft × (List ℕ × List ℕ) = heardSaid chars hears b h t in
+    let other : BoxLeft × (List ℕ × List ℕ) = otherSaid chars b most w h sent t in
+    cond (hears .ok) (heard .0, (w, heard .1)) (other .0, (other .1 .0, (h, other .1 .1)))
 
 -- ---- what a list does beside these
 

@@ -22,9 +22,10 @@ ghost use Prim.Native.Nat.{_+_, _*_, _≤_, _<_, min};
 ghost use lib.Dec.{leb};
 ghost use lib.ListN.{length, take};
 ghost use Rattle.laws.specs.Bytes.{overwrite};
-ghost use Rattle.box_calls.specs.BoxCalls.{mostHeard, mostBytes, frameBytes, mostPlaces, freshBox, boxLeft, keepFrame, heardSaid, after, takenIn};
-ghost use Rattle.box_calls.specs.BoxCalls.{takenSaid, receiveSaid, framesAt, arrivingSaid, arriveSaid, windowSaid, showSaid, receptionsSaid, listenSaid};
-ghost use Rattle.box_calls.specs.BoxCalls.{burstSent, replyLine};
+ghost use Rattle.box_calls.specs.BoxCalls.{mostHeard, mostBytes, frameBytes, mostPlaces, freshBox, boxLeft, keepFrame};
+ghost use Rattle.box_calls.specs.BoxCalls.{frameSaid, heardSaid, after, takenIn, takenSaid, receiveSaid, framesRoom, framesAt};
+ghost use Rattle.box_calls.specs.BoxCalls.{arrivingSaid, arriveSaid, windowSaid, showSaid, receptionsSaid, otherSaid};
+ghost use Rattle.box_calls.specs.BoxCalls.{listenSaid, burstSent, replyLine};
 
 // Frames that may be heard before a reception, and the bytes of one that are kept: one of 513 is left out by its length.
 const MOST_HEARD: usize = 128;
@@ -36,11 +37,14 @@ const FRAME_BYTES: u16 = 512;
 
 const MOST_PLACES: usize = 1024;
 
+// Bytes that the frames at so many places have at most.
+const FRAMES_ROOM: usize = 524288;
+
 // Bytes of output that there are, zeros at each call.
 const OUT_BYTES: usize = 32768;
 
-// What a box keeps between lines: its record, how many places of its window are lent; of the frames heard the lengths, the slot numbers, how
-// many they are, and how many bytes they have; the last burst's number, frames and frame size; its last answer, where it has answered.
+// What a box keeps between lines: its record, how many places of its window are lent; of the frames heard the lengths, the slot numbers,
+// how many they are, and how many bytes they have; the last burst's number, frames and frame size; its last answer, where it has answered.
 pub struct Box {
     pub receiver: Receiver,
     pub lent: usize,
@@ -128,23 +132,34 @@ fn keep_frame(b: Box, slot: u8, bytes: &[u8], h: &mut [u8]) -> Box
     next
 }
 
-fn hear(line: &[u8], r: Read, b: Box, h: &mut [u8], t: &mut [u8], n: usize) -> BoxLeft
-    ensures { λ q. ⌜ (q, (now (h .exit), now (t .exit))) ≡ heardSaid (now (line .entry)) r b (now (h .entry)) (n, now (t .entry)) ⌝ }
+// A frame of these bytes is heard, as far as there is room.
+fn hear_frame(slot: u8, bytes: &[u8], b: Box, h: &mut [u8], t: &mut [u8], n: usize) -> BoxLeft
+    requires { ⌜ length (now bytes) ≤ mostBytes ⌝ }
+    ensures { λ q. ⌜ (q, (now (h .exit), now (t .exit))) ≡ frameSaid slot (now (bytes .entry)) b (now (h .entry)) (n, now (t .entry)) ⌝ }
 {
-    let mut bytes = [0u8; 32768];
-    let q = heard_words(line, r, &mut bytes);
-    let len = least(kept_bytes(q.len), &bytes);
-    let fits = (b.heard < MOST_HEARD) & has_room(b.used, len, h.len());
-    if !q.ok | !fits {
+    let fits = (b.heard < MOST_HEARD) & has_room(b.used, bytes.len(), h.len());
+    if !fits {
         return wrong(b, n);
     }
-    let next = keep_frame(b, q.slot, &bytes[..len], h);
+    let next = keep_frame(b, slot, bytes, h);
     let text = transcript::answer(t, n, b"heard", 0);
     BoxLeft {
         ok: true,
         text,
         next,
     }
+}
+
+fn hear(line: &[u8], r: Read, b: Box, h: &mut [u8], t: &mut [u8], n: usize) -> BoxLeft
+    ensures { λ q. ⌜ (q, (now (h .exit), now (t .exit))) ≡ heardSaid (now (line .entry)) r b (now (h .entry)) (n, now (t .entry)) ⌝ }
+{
+    let mut bytes = [0u8; 32768];
+    let q = heard_words(line, r, &mut bytes);
+    if !q.ok {
+        return wrong(b, n);
+    }
+    let len = least(kept_bytes(q.len), &bytes);
+    hear_frame(q.slot, &bytes[..len], b, h, t, n)
 }
 
 // ---- receive and arrive
@@ -158,22 +173,11 @@ fn after(b: Box, q: Listened, heard: bool) -> Box
         return b;
     }
     let receiver = q.next;
-    let sizes = b.sizes;
-    let slots = b.slots;
     let answer = a.payload;
-    let mut next = Box {
-        receiver,
-        lent: b.lent,
-        sizes,
-        slots,
-        heard: b.heard,
-        used: b.used,
-        number: b.number,
-        frames: b.frames,
-        size: b.size,
-        answered: true,
-        answer,
-    };
+    let mut next = b;
+    next.receiver = receiver;
+    next.answered = true;
+    next.answer = answer;
     if heard {
         next.heard = 0;
         next.used = 0;
@@ -324,6 +328,13 @@ fn frames_at(sent: &[u8], places: &[u8], size: usize, bytes: &mut [u8])
     }
 }
 
+// Room for the frames at so many places.
+fn frames_room() -> [u8; FRAMES_ROOM]
+    ensures { λ r. ⌜ r ≡ framesRoom ⌝ }
+{
+    [0; FRAMES_ROOM]
+}
+
 // The frames at these places arrive.
 fn arriving(
     db: u8,
@@ -339,7 +350,7 @@ fn arriving(
     ensures { λ q. ⌜ (q, (now (w .exit), now (t .exit)))
         ≡ arrivingSaid db (now (places .entry)) b most (now (w .entry)) (now (sent .entry)) (n, now (t .entry)) ⌝ }
 {
-    let mut bytes = [0u8; 524288];
+    let mut bytes = frames_room();
     frames_at(sent, places, frame_size(b.size), &mut bytes);
     let sizes = [b.size; MOST_PLACES];
     taken(
@@ -441,6 +452,31 @@ fn receptions(
     wrong(b, n)
 }
 
+// A line that keeps the frames heard where they are.
+fn other_line(
+    line: &[u8],
+    b: Box,
+    most: usize,
+    w: &mut [u16],
+    h: &[u8],
+    sent: &[u8],
+    t: &mut [u8],
+    n: usize,
+) -> BoxLeft
+    ensures { λ q. ⌜ (q, (now (w .exit), now (t .exit)))
+        ≡ otherSaid (now (line .entry)) b most (now (w .entry)) (now (h .entry)) (now (sent .entry)) (n, now (t .entry)) ⌝ }
+{
+    let lends = word(line, b"window");
+    if lends.ok {
+        return lend(line, lends, b, t, n);
+    }
+    let shows = word(line, b"box");
+    if shows.ok {
+        return show(line, shows, b, w, t, n);
+    }
+    receptions(line, b, most, w, h, sent, t, n)
+}
+
 // A line of the box. most: the output that is lent.
 pub fn listen(
     line: &[u8],
@@ -459,15 +495,7 @@ pub fn listen(
     if heard.ok {
         return hear(line, heard, b, h, t, n);
     }
-    let lends = word(line, b"window");
-    if lends.ok {
-        return lend(line, lends, b, t, n);
-    }
-    let shows = word(line, b"box");
-    if shows.ok {
-        return show(line, shows, b, w, t, n);
-    }
-    receptions(line, b, most, w, h, sent, t, n)
+    other_line(line, b, most, w, h, sent, t, n)
 }
 
 // The burst that left the sender: its number, its frames, their size, and the output that has them.

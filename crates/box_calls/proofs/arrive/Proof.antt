@@ -1,11 +1,11 @@
 -- `arrive`: by whether its line is right; its places are read back from the room for them. Assumes nothing.
 use borrow.Author.Needs.{needs}
-use mathlib.Core.Path.{_≡_, _∙_, ap}
+use mathlib.Core.Path.{_∙_, ap}
 use mathlib.Core.List.{List}
 use Prim.Native.Nat.{ℕ}
 use native.Mathlib.Omega.{arith}
 use denote.Ref.{now}
-use lib.ListN.{length, take, replicate, length-replicate}
+use lib.ListN.{length, replicate, length-replicate}
 use Rattle.laws.proofs.Bytes.{length-over}
 use Rattle.words.specs.Words.{decimalOf}
 use Rattle.words.specs.Lines.{readAs}
@@ -28,8 +28,10 @@ wrong-requires c κs = search needs
 returns : tie.Need-returns
 unfolding arriveSaid
 returns c =
-    let q = c .before .before .before .before .places-words in
-    rw (← q .ensures .0, not-true (q .result .ok) (c .before .if1 .taken), c .wrong .ensures)
+    let p1 = c .before in
+    let p2 = p1 .before .before .before in
+    let q = p2 .places-words in
+    rw (← q .ensures .0, not-true (q .result .ok) (p1 .if1 .taken), c .wrong .ensures)
 
 slice-aggregate-least : tie.Need-slice-aggregate-least
 slice-aggregate-least c = search needs
@@ -45,9 +47,10 @@ slice-aggregate-arriving c = search needs
 
 arriving-requires : tie.Need-arriving-requires
 arriving-requires c κs =
-    let q = c .before .before .before .before .before .before .before .before .places-words in
-    let all = ap (λ (l : List ℕ). length l) (q .ensures .1) ∙ length-over _ _ _ ∙ length-replicate {A = ℕ} 1024 0 in
-    omega (arith, c .before .before .before .least .ensures .0, c .before .before .before .least .ensures .1 .0, all)
+    let p1 = c .before .before .before in
+    let p2 = p1 .before .before .before .before .before in
+    let all = ap (λ (l : List ℕ). length l) (p2 .places-words .ensures .1) ∙ length-over _ _ _ ∙ length-replicate {A = ℕ} 1024 0 in
+    omega (arith, p1 .least .ensures .0, p1 .least .ensures .1 .0, all)
 
 same-length : tie.Need-same-length
 same-length c = search needs
@@ -58,17 +61,24 @@ same-length-2 c = search needs
 returns-2 : tie.Need-returns-2
 unfolding arriveSaid
 returns-2 c =
-    let q = c .before .before .before .before .before .before .before .before .before .before .before .before .before .places-words in
-    let a = c .before .before .before .before .before .before .before .before .before .before .before .before .before .before .before .before .before .before .before .args in
+    let p1 = c .before .before .before .before in
+    let p2 = p1 .before .before .before .before in
+    let p3 = p2 .before .before in
+    let p4 = p3 .before .before .before in
+    let p5 = p4 .before .before .before .before .before .before in
+    let q = p4 .places-words in
+    let k = p2 .least in
+    let a = p5 .args in
+    let chars = now (a .line) in
+    let r = readAs decimalOf chars (a .r) in
     let t : ℕ × List ℕ = (a .n, now (a .t)) in
-    let r = readAs decimalOf (now (a .line)) (a .r) in
-    let all : List ℕ = placesFrom mostPlaces (a .b .frames) (now (a .line)) r .0 in
-    let few = places-few mostPlaces (a .b .frames) (now (a .line)) r in
+    let all : List ℕ = placesFrom mostPlaces (a .b .frames) chars r .0 in
+    let few = places-few mostPlaces (a .b .frames) chars r in
     let back =
-    read-back (replicate 1024 0) all _ (q .result .n) (c .before .before .before .before .before .before .before .before .least .result) (omega (arith, few, length-replicate {A = ℕ} 1024 0))
-    (q .ensures .1) (places-count mostPlaces (a .b .frames) (now (a .line)) (a .r) (q .ensures .0)) (c .before .before .before .before .before .before .before .before .least .ensures .1 .1) in
-    rw (← q .ensures .0, not-false (q .result .ok) (c .before .before .before .before .before .before .before .before .before .before .if1 .left))
-    (c .before .before .before .before .arriving .ensures ∙ ap (λ (l : List ℕ). arrivingSaid (q .result .db) l (a .b) (a .most) (now (a .w)) (now (a .sent)) t) back)
+    read-back (replicate 1024 0) all _ (q .result .n) (k .result) (omega (arith, few, length-replicate {A = ℕ} 1024 0))
+    (q .ensures .1) (places-count mostPlaces (a .b .frames) chars (a .r) (q .ensures .0)) (k .ensures .1 .1) in
+    rw (← q .ensures .0, not-false (q .result .ok) (p3 .if1 .left))
+    (p1 .arriving .ensures ∙ ap (λ (l : List ℕ). arrivingSaid (q .result .db) l (a .b) (a .most) (now (a .w)) (now (a .sent)) t) back)
 
 pub arrive-spec : {M : Type 1} → statement M
 arrive-spec =

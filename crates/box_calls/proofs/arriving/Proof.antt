@@ -1,18 +1,19 @@
 -- `arriving`: the frames at these places. Assumes nothing.
 use borrow.Author.Needs.{needs}
-use mathlib.Core.Path.{_∙_, ap}
+use mathlib.Core.Path.{_∙_, ap, ap₂}
 use mathlib.Core.Bool.{false}
 use mathlib.Core.List.{List}
 use Prim.Native.Nat.{ℕ}
-use native.Mathlib.Omega.{arith}
 use denote.Ref.{now}
 use lib.ListN.{replicate}
 use Rattle.laws.specs.Bytes.{overwrite}
 use Rattle.laws.specs.Text.{text}
 use Rattle.box_calls.specs.BoxCalls.{mostPlaces, framesAt, takenSaid, arrivingSaid}
-use Rattle.box_calls.proofs.Parts.{room-for}
 use Rattle.box_calls.proofs.arriving.Statement.{statement}
 use Rattle.box_calls.proofs.arriving.Tie as tie
+
+frames-room-requires : tie.Need-frames-room-requires
+frames-room-requires c κs = search needs
 
 frame-size-requires : tie.Need-frame-size-requires
 frame-size-requires c κs = search needs
@@ -21,7 +22,7 @@ slice-aggregate-frames-at : tie.Need-slice-aggregate-frames-at
 slice-aggregate-frames-at c = search needs
 
 frames-at-requires : tie.Need-frames-at-requires
-frames-at-requires c κs = (omega (arith, c .before .frame-size .ensures), c .before .before .before .before .before .before .pre, room-for 524288)
+frames-at-requires c κs = search needs
 
 slice-aggregate-taken : tie.Need-slice-aggregate-taken
 slice-aggregate-taken c = search needs
@@ -44,19 +45,27 @@ same-length-2 c = search needs
 returns : tie.Need-returns
 unfolding arrivingSaid
 returns c =
-    let a = c .before .before .before .before .before .before .before .before .before .before .before .before .before .before .before .before .before .before .args in
+    let p1 = c .before .before .before .before in
+    let p2 = p1 .before .before .before .before .before .before .before in
+    let p3 = p2 .before .before in
+    let p4 = p3 .before in
+    let p5 = p4 .before .before .before .before .before in
+    let a = p5 .args in
+    let places = now (a .places) in
     let t : ℕ × List ℕ = (a .n, now (a .t)) in
-    let frames =
-    c .before .before .before .before .before .before .before .before .before .before .before .frames-at .ensures
-    ∙ ap (λ (size : ℕ). overwrite (replicate 524288 0) 0 (framesAt size (now (a .sent)) (now (a .places)))) (c .before .before .before .before .before .before .before .before .before .before .before .before .before .frame-size .ensures) in
     let sizes = replicate mostPlaces (a .b .size) in
-    c .before .before .before .before .taken .ensures
-    ∙ ap (λ (l : List ℕ). takenSaid (text "arrive") false (a .b .number) (a .db) l sizes (now (a .places)) (a .b) (a .most) (now (a .w)) t) frames
+    let frames =
+    ap₂ (λ (l : List ℕ) (size : ℕ). overwrite l 0 (framesAt size (now (a .sent)) places)) (p4 .frames-room .ensures)
+    (p3 .frame-size .ensures) in
+    p1 .taken .ensures
+    ∙ ap (λ (l : List ℕ). takenSaid (text "arrive") false (a .b .number) (a .db) l sizes places (a .b) (a .most) (now (a .w)) t)
+    (p2 .frames-at .ensures ∙ frames)
 
 pub arriving-spec : {M : Type 1} → statement M
 arriving-spec =
     tie.close
     (tie.spec
+    frames-room-requires
     frame-size-requires
     slice-aggregate-frames-at
     frames-at-requires

@@ -18,15 +18,20 @@ slice-aggregate-copy-in c = search needs
 
 copy-in-requires : tie.Need-copy-in-requires
 copy-in-requires c κs =
-    let a = c .before .before .before .before .before .args in
-    omega (arith, ap (λ (l : List ℕ). length l) (c .before .before .least .ensures .1 .1), length-take (length (now (a .sent))) (now (a .out)))
+    let p1 = c .before .before in
+    let p2 = p1 .before .before .before in
+    let a = p2 .args in
+    omega (arith, ap (λ (l : List ℕ). length l) (p1 .least .ensures .1 .1), length-take (length (now (a .sent))) (now (a .out)))
 
 same-length : tie.Need-same-length
 same-length c = search needs
 
 returns : tie.Need-returns
 unfolding burstSent
-returns c = rw (c .before .before .copy-in .ensures, c .before .before .before .before .before .least .ensures .1 .1)
+returns c =
+    let p1 = c .before .before in
+    let p2 = p1 .before .before .before in
+    rw (p1 .copy-in .ensures, p2 .least .ensures .1 .1)
 
 pub burst-sent-spec : {M : Type 1} → statement M
 burst-sent-spec =

@@ -32,7 +32,10 @@ S d = d .before .before .before .before .before .before
 abbrev place : T → ℕ
 place d = getD (now (S d .args .places)) (d .before .before .loop .i) 0
 
-small : (d : T) → place d * S d .args .size ≤ 131072
+abbrev start : T → ℕ
+start d = place d * S d .args .size
+
+small : (d : T) → start d ≤ 131072
 small d = start-small (place d) (S d .args .size) (omega (arith, d .shared-slice-known3 .given (d .before .before .loop .i))) (S d .pre .0)
 
 -- what is there of the frame
@@ -42,7 +45,7 @@ F = tie.After-least2 Inv-loop μ-loop
 abbrev D : F → T
 D f = f .before .before
 
-cut : (f : F) → Cut (now (S (D f) .args .sent)) (place (D f) * S (D f) .args .size) (S (D f) .args .size) (f .before .least .result) (f .least2 .result)
+cut : (f : F) → let a = S (D f) .args in Cut (now (a .sent)) (start (D f)) (a .size) (f .before .least .result) (f .least2 .result)
 cut f =
     let from = f .before .least .ensures in
     let to = f .least2 .ensures in
@@ -80,16 +83,20 @@ part-copy-in-end c = search needs
 
 copy-in-requires : tie.Need-copy-in-requires Inv-loop μ-loop
 copy-in-requires c κs =
-    let f = c .before .before in
+    let p1 = c .before .before in
+    let f = p1 in
     let l = D f .before .before .loop in
     omega (arith, length-frame (cut f), few (cut f), S (D f) .pre, l .inv .1, l .inv .2, D f .before .loop-test .taken)
 
 sub-used : tie.Need-sub-used Inv-loop μ-loop
-sub-used c = omega (arith, ordered (cut (c .before .before .before .before .before)))
+sub-used c =
+    let p1 = c .before .before .before .before .before in
+    omega (arith, ordered (cut p1))
 
 add-used : tie.Need-add-used Inv-loop μ-loop
 add-used c =
-    let f = c .before .before .before .before .before in
+    let p1 = c .before .before .before .before .before in
+    let f = p1 in
     let l = D f .before .before .loop in
     omega (arith, few (cut f), S (D f) .pre, l .inv .1, D f .before .loop-test .taken)
 
@@ -101,16 +108,19 @@ loop-less c = search needs
 
 loop-again : tie.Need-loop-again Inv-loop μ-loop
 loop-again c =
-    let f = c .before .before .before .before .before in
+    let p1 = c .before .before in
+    let p2 = p1 .before .before .before in
+    let f = p2 in
     let l = D f .before .before .loop in
     let a = S (D f) .args in
+    let places = now (a .places) in
     let k = f .least2 .result - f .before .least .result in
     let frame = part (now (a .sent)) (f .before .least .result) k in
-    let stored = c .before .before .copy-in .ensures in
+    let stored = p1 .copy-in .ensures in
     let turn =
-    frames-turn (a .size) (now (a .sent)) (now (a .places)) (l .bytes) (l .used) (l .i) k frame (D f .before .loop-test .taken)
+    frames-turn (a .size) (now (a .sent)) places (l .bytes) (l .used) (l .i) k frame (D f .before .loop-test .taken)
     (frame-is (cut f)) (length-frame (cut f)) in
-    let ahead = framesAt (a .size) (now (a .sent)) (drop (l .i + 1) (now (a .places))) in (
+    let ahead = framesAt (a .size) (now (a .sent)) (drop (l .i + 1) places) in (
       l .inv .0 ∙ turn ∙ ap (λ (m : List ℕ). overwrite m (l .used + k) ahead) (sym stored),
       omega (arith, few (cut f), S (D f) .pre, l .inv .1),
       ap (λ (m : List ℕ). length m) stored ∙ length-over _ _ _ ∙ l .inv .2,
@@ -121,8 +131,10 @@ same-length c = search needs
 
 returns : tie.Need-returns Inv-loop μ-loop
 returns c =
-    let l = c .before .loop in
-    let a = c .before .before .before .before .before .args in
+    let p1 = c .before in
+    let p2 = p1 .before .before .before .before in
+    let l = p1 .loop in
+    let a = p2 .args in
     sym (l .inv .0 ∙ frames-end (a .size) (now (a .sent)) (now (a .places)) (l .bytes) (l .used) (l .i) (c .loop-test .left))
 
 pub frames-at-spec : {M : Type 1} → statement M

@@ -17,9 +17,12 @@ wrong-requires c κs = search needs
 returns : tie.Need-returns
 unfolding windowSaid
 returns c =
-    let d = c .before .before .before in
-    let q = d .before .whole in
-    rw (← q .ensures, ← d .done .ensures, too-wide (d .done .result) (q .result .value) 65536 (c .before .if1 .taken), c .wrong .ensures)
+    let p1 = c .before in
+    let p2 = p1 .before .before in
+    let p3 = p2 .before in
+    let q = p3 .whole in
+    let d = p2 .done in
+    rw (← q .ensures, ← d .ensures, too-wide (d .result) (q .result .value) 65536 (p1 .if1 .taken), c .wrong .ensures)
 
 slice-aggregate-answer : tie.Need-slice-aggregate-answer
 slice-aggregate-answer c = search needs
@@ -33,9 +36,13 @@ same-length c = search needs
 returns-2 : tie.Need-returns-2
 unfolding windowSaid
 returns-2 c =
-    let d = c .before .before .before .before .before .before .before in
-    let q = d .before .whole in
-    rw (← q .ensures, ← d .done .ensures, not-wide (d .done .result) (q .result .value) 65536 (c .before .before .before .before .before .if1 .left)) (said (c .before .before .answer .ensures))
+    let p1 = c .before .before in
+    let p2 = p1 .before .before .before in
+    let p3 = p2 .before .before in
+    let p4 = p3 .before in
+    let q = p4 .whole in
+    let d = p3 .done in
+    rw (← q .ensures, ← d .ensures, not-wide (d .result) (q .result .value) 65536 (p2 .if1 .left)) (said (p1 .answer .ensures))
 
 pub lend-spec : {M : Type 1} → statement M
 lend-spec =

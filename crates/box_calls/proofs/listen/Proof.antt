@@ -2,7 +2,7 @@
 use borrow.Author.Needs.{needs}
 use Rattle.laws.proofs.Picks.{cond-yes, cond-no}
 use Rattle.box_calls.specs.BoxCalls.{listenSaid}
-use Rattle.box_calls.proofs.Laws.{window-kept, both-kept, heard-kept}
+use Rattle.box_calls.proofs.Laws.{window-kept, heard-kept}
 use Rattle.box_calls.proofs.listen.Statement.{statement}
 use Rattle.box_calls.proofs.listen.Tie as tie
 
@@ -23,34 +23,17 @@ same-length-2 c = search needs
 
 returns : tie.Need-returns
 unfolding listenSaid
-returns c = rw (← c .before .before .before .before .before .before .before .before .word .ensures) (cond-yes _ _ _ _ (c .before .before .before .before .before .before .before .if1 .taken) (window-kept (c .before .before .before .before .hear .ensures)))
+returns c =
+    let p1 = c .before .before .before .before in
+    let p2 = p1 .before .before .before in
+    let p3 = p2 .before in
+    rw (← p3 .word .ensures) (cond-yes _ _ _ _ (p2 .if1 .taken) (window-kept (p1 .hear .ensures)))
 
-slice-aggregate-word-2 : tie.Need-slice-aggregate-word-2
-slice-aggregate-word-2 c = search needs
-
-word-requires-2 : tie.Need-word-requires-2
-word-requires-2 c κs = search needs
-
-lend-requires : tie.Need-lend-requires
-lend-requires c κs = search needs
+other-line-requires : tie.Need-other-line-requires
+other-line-requires c κs = search needs
 
 same-length-3 : tie.Need-same-length-3
 same-length-3 c = search needs
-
-returns-2 : tie.Need-returns-2
-unfolding listenSaid
-returns-2 c =
-    rw (← c .before .before .before .before .before .before .before .before .word .ensures, ← c .before .before .before .before .before .word2 .ensures)
-    (cond-no _ _ _ _ (c .before .before .before .before .before .before .before .if1 .left) (cond-yes _ _ _ _ (c .before .before .before .before .if2 .taken) (both-kept (c .before .before .lend .ensures))))
-
-slice-aggregate-word-3 : tie.Need-slice-aggregate-word-3
-slice-aggregate-word-3 c = search needs
-
-word-requires-3 : tie.Need-word-requires-3
-word-requires-3 c κs = search needs
-
-show-requires : tie.Need-show-requires
-show-requires c κs = search needs
 
 same-length-4 : tie.Need-same-length-4
 same-length-4 c = search needs
@@ -58,31 +41,13 @@ same-length-4 c = search needs
 same-length-5 : tie.Need-same-length-5
 same-length-5 c = search needs
 
-returns-3 : tie.Need-returns-3
+returns-2 : tie.Need-returns-2
 unfolding listenSaid
-returns-3 c =
-    rw (← c .before .before .before .before .before .before .before .before .before .before .before .before .word .ensures, ← c .before .before .before .before .before .before .before .before .before .word2 .ensures, ← c .before .before .before .before .before .before .word3 .ensures)
-    (cond-no _ _ _ _ (c .before .before .before .before .before .before .before .before .before .before .before .if1 .left)
-    (cond-no _ _ _ _ (c .before .before .before .before .before .before .before .before .if2 .left) (cond-yes _ _ _ _ (c .before .before .before .before .before .if3 .taken) (both-kept (c .before .before .show .ensures)))))
-
-receptions-requires : tie.Need-receptions-requires
-receptions-requires c κs = search needs
-
-same-length-6 : tie.Need-same-length-6
-same-length-6 c = search needs
-
-same-length-7 : tie.Need-same-length-7
-same-length-7 c = search needs
-
-same-length-8 : tie.Need-same-length-8
-same-length-8 c = search needs
-
-returns-4 : tie.Need-returns-4
-unfolding listenSaid
-returns-4 c =
-    rw (← c .before .before .before .before .before .before .before .before .before .before .before .before .before .before .before .word .ensures, ← c .before .before .before .before .before .before .before .before .before .before .before .before .word2 .ensures, ← c .before .before .before .before .before .before .before .before .before .word3 .ensures)
-    (cond-no _ _ _ _ (c .before .before .before .before .before .before .before .before .before .before .before .before .before .before .if1 .left)
-    (cond-no _ _ _ _ (c .before .before .before .before .before .before .before .before .before .before .before .if2 .left) (cond-no _ _ _ _ (c .before .before .before .before .before .before .before .before .if3 .left) (heard-kept (c .before .before .before .before .receptions .ensures)))))
+returns-2 c =
+    let p1 = c .before .before .before .before in
+    let p2 = p1 .before .before .before .before in
+    let p3 = p2 .before in
+    rw (← p3 .word .ensures) (cond-no _ _ _ _ (p2 .if1 .left) (heard-kept (p1 .other-line .ensures)))
 
 pub listen-spec : {M : Type 1} → statement M
 listen-spec =
@@ -94,19 +59,8 @@ listen-spec =
     same-length
     same-length-2
     returns
-    slice-aggregate-word-2
-    word-requires-2
-    lend-requires
+    other-line-requires
     same-length-3
-    returns-2
-    slice-aggregate-word-3
-    word-requires-3
-    show-requires
     same-length-4
     same-length-5
-    returns-3
-    receptions-requires
-    same-length-6
-    same-length-7
-    same-length-8
-    returns-4)
+    returns-2)

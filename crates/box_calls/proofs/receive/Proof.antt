@@ -16,8 +16,10 @@ wrong-requires c κs = search needs
 returns : tie.Need-returns
 unfolding receiveSaid
 returns c =
-    let q = c .before .before .before .reception-words in
-    rw (← q .ensures, not-true (q .result .ok) (c .before .if1 .taken), c .wrong .ensures)
+    let p1 = c .before in
+    let p2 = p1 .before .before in
+    let q = p2 .reception-words in
+    rw (← q .ensures, not-true (q .result .ok) (p1 .if1 .taken), c .wrong .ensures)
 
 least-requires : tie.Need-least-requires
 least-requires c κs = search needs
@@ -35,7 +37,10 @@ slice-aggregate-taken-2 : tie.Need-slice-aggregate-taken-2
 slice-aggregate-taken-2 c = search needs
 
 slice-aggregate-taken-3 : tie.Need-slice-aggregate-taken-3
-slice-aggregate-taken-3 c = let s = c .before .before .before .before .before .before .before .before .before .before .before .before .before .before .before in sym (length-unmapped ℕ (s .args .b .sizes) 128 (s .good .1 .1 .0 .1 .1 .1 .1 .0 .1 .0 .1))
+slice-aggregate-taken-3 c =
+    let p1 = c .before .before .before .before .before .before .before .before .before .before in
+    let p2 = p1 .before .before .before .before .before in
+    sym (length-unmapped ℕ (p2 .args .b .sizes) 128 (p2 .good .1 .1 .0 .1 .1 .1 .1 .0 .1 .0 .1))
 
 array-share-prefix-slots : tie.Need-array-share-prefix-slots
 array-share-prefix-slots c = search needs
@@ -55,13 +60,18 @@ same-length-2 c = search needs
 returns-2 : tie.Need-returns-2
 unfolding receiveSaid
 returns-2 c =
-    let q = c .before .before .before .before .before .before .before .before .before .before .before .before .before .before .before .before .before .before .reception-words in
+    let p1 = c .before .before .before .before in
+    let p2 = p1 .before .before .before .before .before .before .before in
+    let p3 = p2 .before .before .before .before in
+    let p4 = p3 .before in
+    let p5 = p4 .before .before in
+    let q = p5 .reception-words in
     rw (
       ← q .ensures,
-      not-false (q .result .ok) (c .before .before .before .before .before .before .before .before .before .before .before .before .before .before .before .before .if1 .left),
-      ← c .before .before .before .before .before .before .before .before .before .before .before .before .before .before .before .least .ensures .1 .1,
-      ← c .before .before .before .before .before .before .before .before .before .before .before .least2 .ensures .1 .1,
-    ) (c .before .before .before .before .taken .ensures)
+      not-false (q .result .ok) (p4 .if1 .left),
+      ← p3 .least .ensures .1 .1,
+      ← p2 .least2 .ensures .1 .1,
+    ) (p1 .taken .ensures)
 
 pub receive-spec : {M : Type 1} → statement M
 receive-spec =

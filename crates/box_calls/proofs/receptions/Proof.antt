@@ -22,7 +22,11 @@ same-length-2 c = search needs
 
 returns : tie.Need-returns
 unfolding receptionsSaid
-returns c = rw (← c .before .before .before .before .before .before .before .before .word .ensures) (cond-yes _ _ _ _ (c .before .before .before .before .before .before .before .if1 .taken) (c .before .before .before .before .receive .ensures))
+returns c =
+    let p1 = c .before .before .before .before in
+    let p2 = p1 .before .before .before in
+    let p3 = p2 .before in
+    rw (← p3 .word .ensures) (cond-yes _ _ _ _ (p2 .if1 .taken) (p1 .receive .ensures))
 
 slice-aggregate-word-2 : tie.Need-slice-aggregate-word-2
 slice-aggregate-word-2 c = search needs
@@ -42,15 +46,25 @@ same-length-4 c = search needs
 returns-2 : tie.Need-returns-2
 unfolding receptionsSaid
 returns-2 c =
-    rw (← c .before .before .before .before .before .before .before .before .before .before .before .word .ensures, ← c .before .before .before .before .before .before .before .before .word2 .ensures)
-    (cond-no _ _ _ _ (c .before .before .before .before .before .before .before .before .before .before .if1 .left) (cond-yes _ _ _ _ (c .before .before .before .before .before .before .before .if2 .taken) (c .before .before .before .before .arrive .ensures)))
+    let p1 = c .before .before .before .before in
+    let p2 = p1 .before .before .before in
+    let p3 = p2 .before in
+    let p4 = p3 .before .before in
+    let p5 = p4 .before in
+    rw (← p5 .word .ensures, ← p3 .word2 .ensures)
+    (cond-no _ _ _ _ (p4 .if1 .left) (cond-yes _ _ _ _ (p2 .if2 .taken) (p1 .arrive .ensures)))
 
 wrong-requires : tie.Need-wrong-requires
 wrong-requires c κs = search needs
 
 returns-3 : tie.Need-returns-3
 unfolding receptionsSaid
-returns-3 c = rw (← c .before .before .before .before .before .word .ensures, ← c .before .before .word2 .ensures, c .wrong .ensures, c .before .before .before .before .if1 .left, c .before .if2 .left)
+returns-3 c =
+    let p1 = c .before in
+    let p2 = p1 .before in
+    let p3 = p2 .before .before in
+    let p4 = p3 .before in
+    rw (← p4 .word .ensures, ← p2 .word2 .ensures, c .wrong .ensures, p3 .if1 .left, p1 .if2 .left)
 
 pub receptions-spec : {M : Type 1} → statement M
 receptions-spec =

@@ -9,7 +9,10 @@ use Rattle.box_calls.proofs.reply_line.Tie as tie
 
 returns : tie.Need-returns
 unfolding replyLine
-returns c = let b = c .before .before .before .before .args .b in cond-no (b .answered) _ _ _ (not-true (b .answered) (c .if1 .taken)) refl
+returns c =
+    let p1 = c .before .before .before .before in
+    let b = p1 .args .b in
+    cond-no (b .answered) _ _ _ (not-true (b .answered) (c .if1 .taken)) refl
 
 slice-aggregate-as-long : tie.Need-slice-aggregate-as-long
 slice-aggregate-as-long c = search needs
@@ -22,7 +25,12 @@ same-length c = search needs
 
 returns-2 : tie.Need-returns-2
 unfolding replyLine
-returns-2 c = let b = c .before .before .before .before .before .before .before .before .before .before .args .b in cond-yes (b .answered) _ _ _ (not-false (b .answered) (c .before .before .before .before .before .before .if1 .left)) (c .before .before .as-long .ensures)
+returns-2 c =
+    let p1 = c .before .before in
+    let p2 = p1 .before .before .before .before in
+    let p3 = p2 .before .before .before .before in
+    let b = p3 .args .b in
+    cond-yes (b .answered) _ _ _ (not-false (b .answered) (p2 .if1 .left)) (p1 .as-long .ensures)
 
 pub reply-line-spec : {M : Type 1} → statement M
 reply-line-spec =

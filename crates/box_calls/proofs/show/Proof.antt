@@ -29,9 +29,11 @@ same-length c = search needs
 returns-2 : tie.Need-returns-2
 unfolding showSaid
 returns-2 c =
-    let d = c .before .before .before in
-    rw (told-yes _ _ (d .before .before .before .done .ensures) (not-false _ (d .before .before .if1 .left)), ← d .kept-count .ensures)
-    (said (c .before .before .state .ensures))
+    let p1 = c .before .before in
+    let p2 = p1 .before in
+    let p3 = p2 .before .before in
+    let p4 = p3 .before in
+    rw (told-yes _ _ (p4 .done .ensures) (not-false _ (p3 .if1 .left)), ← p2 .kept-count .ensures) (said (p1 .state .ensures))
 
 pub show-spec : {M : Type 1} → statement M
 show-spec =

@@ -1,13 +1,13 @@
 -- `take_in`: its call, what is said of it, and what it leaves. Assumes nothing.
 use borrow.Author.Needs.{needs}
-use Rattle.box_calls.specs.BoxCalls.{takenIn}
-use Rattle.box_calls.proofs.Laws.{taken-said}
 use mathlib.Core.Path.{_∙_, ap}
 use mathlib.Core.List.{List}
 use Prim.Native.Nat.{ℕ}
+use denote.Ref.{now}
 use Rattle.text.specs.Buffer.{appended}
 use Rattle.box_lines.specs.BoxLines.{receivedLine}
-use denote.Ref.{now}
+use Rattle.box_calls.specs.BoxCalls.{takenIn}
+use Rattle.box_calls.proofs.Laws.{taken-said}
 use Rattle.box_calls.proofs.take_in.Statement.{statement}
 use Rattle.box_calls.proofs.take_in.Tie as tie
 
@@ -44,11 +44,15 @@ same-length-3 c = search needs
 returns : tie.Need-returns
 unfolding takenIn
 returns c =
-    let q = c .before .before .before .before .before .before .before .before .before .before .before .before .before .before .receiver-rx in
-    let a = c .before .before .before .before .before .before .before .before .before .before .before .before .before .before .before .before .before .before .before .before .before .before .before .before .args in
+    let p1 = c .before .before .before in
+    let p2 = p1 .before .before .before in
+    let p3 = p2 .before .before .before .before .before .before .before .before in
+    let p4 = p3 .before .before .before .before .before .before .before .before .before .before in
+    let q = p3 .receiver-rx in
+    let a = p4 .args in
     let t : ℕ × List ℕ = (a .n, now (a .t)) in
-    let words = ap (λ (l : List ℕ). appended t (receivedLine (now (a .name)) (q .result .answer) l)) (c .before .before .before .before .before .before .least .ensures .1 .1) in
-    taken-said (now (a .name)) (a .heard) (a .b) t (q .ensures) (c .before .before .before .received .ensures ∙ words) (c .after .ensures)
+    let words = ap (λ (l : List ℕ). appended t (receivedLine (now (a .name)) (q .result .answer) l)) (p2 .least .ensures .1 .1) in
+    taken-said (now (a .name)) (a .heard) (a .b) t (q .ensures) (p1 .received .ensures ∙ words) (c .after .ensures)
 
 pub take-in-spec : {M : Type 1} → statement M
 take-in-spec =

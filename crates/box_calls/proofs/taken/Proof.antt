@@ -41,10 +41,14 @@ same-length-2 c = search needs
 returns : tie.Need-returns
 unfolding takenSaid
 returns c =
-    let l = c .before .before .before .before .before .before .before .before .before .lent in
-    let a = c .before .before .before .before .before .before .before .before .before .before .before .before .before .before .before .before .before .before .before .args in
+    let p1 = c .before .before .before .before .before in
+    let p2 = p1 .before .before .before .before in
+    let p3 = p2 .before .before in
+    let p4 = p3 .before .before .before .before .before .before .before .before in
+    let l = p2 .lent in
+    let a = p4 .args in
     let rest = drop-as (now (a .w)) (l .result) (a .b .lent) (l .ensures .0) (l .ensures .1 .1) in
-    rw (← c .before .before .before .before .before .before .before .before .before .before .before .least .ensures .1 .1, ← l .ensures .1 .1, ← rest) (lent-said (drop (l .result) (now (a .w))) (c .before .before .before .before .before .take-in .ensures))
+    rw (← p3 .least .ensures .1 .1, ← l .ensures .1 .1, ← rest) (lent-said (drop (l .result) (now (a .w))) (p1 .take-in .ensures))
 
 pub taken-spec : {M : Type 1} → statement M
 taken-spec =
