@@ -1,7 +1,7 @@
 -- The start of a list, so much as there is of it; the frames of a burst, one after the other. Assumes nothing.
-use mathlib.Core.Path.{_≡_, refl, sym, ap, ap₂, _∙_}
+use mathlib.Core.Path.{_≡_, sym, ap, ap₂, _∙_}
 use mathlib.Core.Bool.{Bool}
-use mathlib.Core.List.{List, [], _∷_, _++_}
+use mathlib.Core.List.{List, _++_}
 use Prim.Native.Nat.{ℕ, zero, suc, _+_, _-_, _*_, _≤_, _<_, min}
 use native.Mathlib.Nat.{mul-le-mul}
 use native.Mathlib.Omega.{arith}
@@ -22,7 +22,7 @@ use Rattle.box_calls.specs.BoxCalls.{framesAt}
 
 -- n elements, or all of a list where it has less: k of them
 module _ (l : List ℕ) (k n : ℕ) (h : k ≤ length l) (e : take k l ≡ take n l) where
-  pub count-is : k ≡ min n (length l)
+  count-is : k ≡ min n (length l)
   count-is = sym (length-take-le k l h) ∙ ap (λ (m : List ℕ). length m) e ∙ length-take n l
 
   pub drop-as : drop k l ≡ drop n l

@@ -1,4 +1,5 @@
--- `frames_at`: the frames stored so far, and those ahead. Assumes nothing.
+-- `frames_at`: what is stored, with the frames ahead behind it, is what the whole gives (`Inv-loop`). A turn reads a place (`T`), cuts its
+-- frame off where the burst ends (`cut`), and stores it; at most 512 bytes a turn fit into the room. Assumes nothing.
 use borrow.Author.Needs.{needs}
 use mathlib.Core.Path.{_≡_, refl, sym, ap, _∙_}
 use mathlib.Core.List.{List}
