@@ -132,7 +132,15 @@ put-over a v bs f k low fits =
 
 pub fit-counted : (t : Station) (a : List ℕ) (l n : ℕ) → Fit t a l n → Counted (t .sender) a
 fit-counted t a l n f =
-    record { area = f .area; held = f .held; rest = f .rest; sent = f .sent; pieces = f .pieces; flying = f .flying; stream = omega (arith, f .stream, f .space .waits) }
+    record {
+      area = f .area;
+      held = f .held;
+      rest = f .rest;
+      sent = f .sent;
+      pieces = f .pieces;
+      flying = f .flying;
+      stream = omega (arith, f .stream, f .space .waits);
+    }
 
 -- what a queuing needs, of what stays
 module _ (m : Messages) (f w : ℕ) (a : List ℕ) (l n : ℕ) (fit : Space m f w a l n) (some : 1 ≤ n) where
@@ -204,7 +212,8 @@ module _ (t : Station) (a : List ℕ) (ar : Arrays (t .sender)) (by : Bytes a) (
         let k = placeOf c x .bytes in
         omega (arith, ap length bytes, length-append (take k v) ((b ∷ bs) ++ drop k v), length-append (b ∷ bs) (drop k v), length-take-le k v low, length-drop k v)
 
-    put-is : storeWaiting t (putIn c l (b ∷ bs) x (s .counts .flying) (length v) (overwrite a (s .counts .flying) v)) ≡ queuedIn c l (b ∷ bs) t a
+    put-is : let f = s .counts .flying in
+        storeWaiting t (putIn c l (b ∷ bs) x f (length v) (overwrite a f v)) ≡ queuedIn c l (b ∷ bs) t a
     unfolding queuedIn takeIn viewStation storeStation
     put-is =
         let w = goes (enqueue c l (b ∷ bs) queue) in
@@ -231,7 +240,8 @@ module _ (t : Station) (a : List ℕ) (ar : Arrays (t .sender)) (by : Bytes a) (
   -- WHAT A WITHDRAWAL AND `put_in` LEAVE
   pub queued-labelled : let x = stayWaiting l (t .messages) in
       let f = s .counts .flying in
-      storeWaiting t (putIn c l (b ∷ bs) (x .messages) f (x .waiting) (overwrite a f (stayBytes l (t .messages) (drop f a)))) ≡ queuedIn c l (b ∷ bs) t a
+      storeWaiting t (putIn c l (b ∷ bs) (x .messages) f (x .waiting) (overwrite a f (stayBytes l (t .messages) (drop f a))))
+      ≡ queuedIn c l (b ∷ bs) t a
   unfolding view
   queued-labelled =
       let m = t .messages in
@@ -245,11 +255,13 @@ module _ (t : Station) (a : List ℕ) (ar : Arrays (t .sender)) (by : Bytes a) (
       let few = fit .space .messages .few in
       (λ j. storeWaiting t (putIn c l (b ∷ bs) (withdrawn l m) f (len j) (overwrite a f (same j))))
       ∙ put-is (withdrawn l m) v (omega (arith, place-within (withdrawn l m) (total (stayIn l (begunIn m) (entriesIn m))) c sound .1))
-      (omega (arith, stay-bytes m f w a l n (fit .space) (omega arith))) (ap goes (M.enqueue-steps c l b bs queue) ∙ M.goes-again m waits sum z few l new)
+      (omega (arith, stay-bytes m f w a l n (fit .space) (omega arith)))
+      (ap goes (M.enqueue-steps c l b bs queue) ∙ M.goes-again m waits sum z few l new)
       (M.stores-again m waits sum z few l new ∙ labelled-stores)
 
   -- WITHOUT A LABEL `put_in` LEAVES IT
-  pub queued-plain : l ≡ 0 → storeWaiting t (putIn c l (b ∷ bs) (t .messages) (s .counts .flying) (s .counts .waiting) a) ≡ queuedIn c l (b ∷ bs) t a
+  pub queued-plain : l ≡ 0 →
+      storeWaiting t (putIn c l (b ∷ bs) (t .messages) (s .counts .flying) (s .counts .waiting) a) ≡ queuedIn c l (b ∷ bs) t a
   unfolding view
   queued-plain e =
       let m = t .messages in
@@ -278,12 +290,13 @@ module _ (t : Station) (a : List ℕ) (ar : Arrays (t .sender)) (by : Bytes a) (
 module _ (t : Station) (a : List ℕ) (ar : Arrays (t .sender)) (by : Bytes a) (z : Sized (t .messages)) (c l : ℕ) where
   -- WHAT `enqueue` LEAVES
   pub queued-waiting : (bs : List ℕ) → Fit t a l (length bs)
-      → storeWaiting t (queuedWaiting c l bs (t .messages) (t .sender .counts .flying) (t .sender .counts .waiting) a) ≡ queuedIn c l bs t a
+      → let k = t .sender .counts in storeWaiting t (queuedWaiting c l bs (t .messages) (k .flying) (k .waiting) a) ≡ queuedIn c l bs t a
   unfolding queuedWaiting queuedIn
   queued-waiting [] f = refl
   queued-waiting (b ∷ bs) f =
       by-test
-      (λ (x : Waiting × List ℕ). storeWaiting t (putIn c l (b ∷ bs) (x .0 .messages) (t .sender .counts .flying) (x .0 .waiting) (x .1)) ≡ queuedIn c l (b ∷ bs) t a)
+      (λ (x : Waiting × List ℕ).
+          storeWaiting t (putIn c l (b ∷ bs) (x .0 .messages) (t .sender .counts .flying) (x .0 .waiting) (x .1)) ≡ queuedIn c l (b ∷ bs) t a)
       (eqb l 0) (λ e. queued-plain t a ar by z c l b bs f (eqb-true l 0 e))
       (λ e. queued-labelled t a ar by z c l b bs f)
 
@@ -302,7 +315,8 @@ module _ (c l : ℕ) (m : Messages) (f w : ℕ) (a : List ℕ) where
   queued-none [] e = refl
   queued-none (b ∷ bs) e = absurd (omega (arith, e))
 
-  pub queued-steps : (bs : List ℕ) → 1 ≤ length bs → let x = stayedIn l m f w a in putIn c l bs (x .0 .messages) f (x .0 .waiting) (x .1) ≡ queuedWaiting c l bs m f w a
+  pub queued-steps : (bs : List ℕ) → 1 ≤ length bs →
+      let x = stayedIn l m f w a in putIn c l bs (x .0 .messages) f (x .0 .waiting) (x .1) ≡ queuedWaiting c l bs m f w a
   unfolding queuedWaiting
   queued-steps [] h = absurd (omega arith)
   queued-steps (b ∷ bs) h = refl

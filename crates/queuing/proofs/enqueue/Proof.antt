@@ -46,7 +46,8 @@ put-in-requires c κs =
     let d = w .before .before in
     let s = S d in
     let a = s .args in
-    subst (λ (x : Waiting × List ℕ). Room (x .0 .messages) (a .flying) (x .0 .waiting) (x .1) (length (now (a .bytes)))) (sym (w .withdrawn .ensures))
+    subst (λ (x : Waiting × List ℕ). Room (x .0 .messages) (a .flying) (x .0 .waiting) (x .1) (length (now (a .bytes))))
+    (sym (w .withdrawn .ensures))
     (stayed-room (a .m) (a .flying) (a .waiting) (now (a .a)) (a .label) _ (s .pre) (some d) (sized s))
 
 same-length : tie.Need-same-length
@@ -60,7 +61,8 @@ returns-2 c =
     let a = S d .args in
     let bs = now (a .bytes) in
     ap₂ (λ (r : Waiting) (x : List ℕ). (r, x)) (e .put-in .ensures .0) (e .put-in .ensures .1)
-    ∙ ap (λ (x : Waiting × List ℕ). putIn (a .class) (a .label) bs (x .0 .messages) (a .flying) (x .0 .waiting) (x .1)) (w .withdrawn .ensures)
+    ∙ ap (λ (x : Waiting × List ℕ). putIn (a .class) (a .label) bs (x .0 .messages) (a .flying) (x .0 .waiting) (x .1))
+    (w .withdrawn .ensures)
     ∙ queued-steps (a .class) (a .label) (a .m) (a .flying) (a .waiting) (now (a .a)) bs (some d)
 
 pub enqueue-spec : {M : Type 1} → statement M

@@ -24,7 +24,8 @@ S p = p .before .before .before
 within : (p : P) → let a = S p .args in (p .place .result .row ≤ a .m .n) × (p .place .result .bytes ≤ a .waiting)
 within p =
     let a = S p .args in
-    subst (λ (x : Position). (x .row ≤ a .m .n) × (x .bytes ≤ a .waiting)) (sym (p .place .ensures)) (place-within (a .m) (a .waiting) (a .class) (S p .pre .messages))
+    subst (λ (x : Position). (x .row ≤ a .m .n) × (x .bytes ≤ a .waiting)) (sym (p .place .ensures))
+    (place-within (a .m) (a .waiting) (a .class) (S p .pre .messages))
 
 place-requires : tie.Need-place-requires
 place-requires c κs = search needs
