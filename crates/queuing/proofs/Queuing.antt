@@ -296,7 +296,7 @@ module _ (t : Station) (a : List ℕ) (ar : Arrays (t .sender)) (by : Bytes a) (
   queued-waiting (b ∷ bs) f =
       by-test
       (λ (x : Waiting × List ℕ).
-          storeWaiting t (putIn c l (b ∷ bs) (x .0 .messages) (t .sender .counts .flying) (x .0 .waiting) (x .1)) ≡ queuedIn c l (b ∷ bs) t a)
+      storeWaiting t (putIn c l (b ∷ bs) (x .0 .messages) (t .sender .counts .flying) (x .0 .waiting) (x .1)) ≡ queuedIn c l (b ∷ bs) t a)
       (eqb l 0) (λ e. queued-plain t a ar by z c l b bs f (eqb-true l 0 e))
       (λ e. queued-labelled t a ar by z c l b bs f)
 

@@ -5,6 +5,8 @@ mod buffer;
 mod input;
 
 use asked::answered;
+use box_calls::Box;
+use boxed::BoxStep;
 use boxed::boxed;
 use buffer::flush;
 use buffer::room;
@@ -48,8 +50,9 @@ fn last_line(run: Run, s: Told, n: u64, t: &mut [u8]) -> usize {
     state_lines::end(t, run.text, s.counts, s.withdrawn)
 }
 
-fn finish(run: Run, s: Told, n: u64, t: &mut [u8]) {
-    let k = last_line(run, s, n, t);
+fn finish(x: State, n: u64, t: &mut [u8]) {
+    let s = x.said.next;
+    let k = last_line(run_after(x), told_of(s), n, t);
     flush(t, k);
 }
 
@@ -90,6 +93,84 @@ fn no_calls() -> Said {
     }
 }
 
+// A line, where it does not ask the sender, and the box after it.
+fn first_part(
+    line: &[u8],
+    run: Run,
+    s: Told,
+    b: Box,
+    area: &mut [u8],
+    out: &[u8],
+    t: &mut [u8],
+    v: &mut [u64; 146],
+    file: &mut [u8],
+    l: &mut [u8],
+    w: &mut [u16],
+    h: &mut [u8],
+    sent: &mut [u8],
+) -> BoxStep {
+    let x = boxed(line, run, s, b, w, h, sent, out, t, l);
+    let run = quiet(line, x.run, s, area, t, v, file, l);
+    let next = x.next;
+    BoxStep { run, next }
+}
+
+// What stands between lines: the run and the box, and what the last line left of the sender.
+pub struct State {
+    pub first: BoxStep,
+    pub said: Said,
+}
+
+// One line.
+fn step(
+    line: &[u8],
+    run: Run,
+    x: State,
+    area: &mut [u8],
+    out: &mut [u8],
+    t: &mut [u8],
+    v: &mut [u64; 146],
+    file: &mut [u8],
+    l: &mut [u8],
+    w: &mut [u16],
+    h: &mut [u8],
+    sent: &mut [u8],
+) -> State {
+    let s = x.said.next;
+    let first = first_part(
+        line,
+        run,
+        told_of(s),
+        x.first.next,
+        area,
+        out,
+        t,
+        v,
+        file,
+        l,
+        w,
+        h,
+        sent,
+    );
+    let k = least(first.run.len, l);
+    let said = answered(&l[..k], first.run, s, area, out, t, v, file);
+    State { first, said }
+}
+
+// The run after a line.
+fn run_after(x: State) -> Run {
+    left(x.first.run, x.said.ok, x.said.text)
+}
+
+fn before() -> State {
+    let first = BoxStep {
+        run: none_yet(),
+        next: box_calls::fresh(),
+    };
+    let said = no_calls();
+    State { first, said }
+}
+
 fn replay(
     chunk: &mut [u8],
     line: &mut [u8],
@@ -104,23 +185,28 @@ fn replay(
 ) {
     let mut v = [0u64; 146];
     let mut i = no_input();
-    let mut run = none_yet();
-    let mut q = no_calls();
-    let mut b = box_calls::fresh();
+    let mut x = before();
     let mut n: u64 = 0;
     while n < 18446744073709551615 {
         i = next_line(chunk, line, i);
-        run = ready(run, i, t);
+        let run = ready(run_after(x), i, t);
         let len = least(line_length(i), line);
-        let s = told_of(q.next);
-        let x = boxed(&line[..len], run, s, b, w, h, sent, out, t, l);
-        b = x.next;
-        run = quiet(&line[..len], x.run, s, area, t, &mut v, file, l);
-        let k = least(run.len, l);
-        q = answered(&l[..k], run, q.next, area, out, t, &v, file);
-        run = left(run, q.ok, q.text);
-        if (i.kind == END) | !q.ok {
-            finish(run, s, n, t);
+        x = step(
+            &line[..len],
+            run,
+            x,
+            area,
+            out,
+            t,
+            &mut v,
+            file,
+            l,
+            w,
+            h,
+            sent,
+        );
+        if (i.kind == END) | !x.said.ok {
+            finish(x, n, t);
             return;
         }
         n += 1;

@@ -8,253 +8,178 @@ use Rattle.replay.proofs.replay.Statement.{statement}
 use Rattle.replay.proofs.replay.Tie as tie
 
 abbrev Inv-loop : tie.InvT-loop
-Inv-loop chunk₀ line₀ area₀ out₀ t₀ file₀ l₀ w₀ h₀ sent₀ v₀ i₀ run₀ q₀ b₀ n₀ chunk line area out t file l w h sent v i run q b n =
+Inv-loop chunk₀ line₀ area₀ out₀ t₀ file₀ l₀ w₀ h₀ sent₀ v₀ i₀ x₀ n₀ chunk line area out t file l w h sent v i x n =
     (n ≤ 18446744073709551615) × ((length chunk ≡ length chunk₀) × ((length line ≡ length line₀) × ((length area ≡ length area₀) ×
     ((length out ≡ length out₀) × ((length t ≡ length t₀) × ((length file ≡ length file₀) × ((length l ≡ length l₀) ×
     ((length w ≡ length w₀) × ((length h ≡ length h₀) × (length sent ≡ length sent₀))))))))))
 
 abbrev μ-loop : tie.MeasureT-loop
-μ-loop chunk₀ line₀ area₀ out₀ t₀ file₀ l₀ w₀ h₀ sent₀ v₀ i₀ run₀ q₀ b₀ n₀ chunk line area out t file l w h sent v i run q b n =
+μ-loop chunk₀ line₀ area₀ out₀ t₀ file₀ l₀ w₀ h₀ sent₀ v₀ i₀ x₀ n₀ chunk line area out t file l w h sent v i x n =
     18446744073709551615 - n
 
 no-input-requires : tie.Need-no-input-requires Inv-loop μ-loop
-no-input-requires c κs = search needs
+no-input-requires c κs = tt
 
-none-yet-requires : tie.Need-none-yet-requires Inv-loop μ-loop
-none-yet-requires c κs = search needs
-
-no-calls-requires : tie.Need-no-calls-requires Inv-loop μ-loop
-no-calls-requires c κs = search needs
-
-fresh-requires : tie.Need-fresh-requires Inv-loop μ-loop
-fresh-requires c κs = search needs
+before-requires : tie.Need-before-requires Inv-loop μ-loop
+before-requires c κs = tt
 
 loop-holds : tie.Need-loop-holds Inv-loop μ-loop
 loop-holds c = search needs
 
 next-line-requires : tie.Need-next-line-requires Inv-loop μ-loop
-next-line-requires c κs = search needs
+next-line-requires c κs = tt
+
+run-after-requires : tie.Need-run-after-requires Inv-loop μ-loop
+run-after-requires c κs = tt
 
 ready-requires : tie.Need-ready-requires Inv-loop μ-loop
-ready-requires c κs = search needs
+ready-requires c κs = tt
 
 line-length-requires : tie.Need-line-length-requires Inv-loop μ-loop
-line-length-requires c κs = search needs
+line-length-requires c κs = tt
 
 least-requires : tie.Need-least-requires Inv-loop μ-loop
-least-requires c κs = search needs
+least-requires c κs = tt
 
-told-of-requires : tie.Need-told-of-requires Inv-loop μ-loop
-told-of-requires c κs = search needs
+slice-reshare-prefix-step : tie.Need-slice-reshare-prefix-step Inv-loop μ-loop
+slice-reshare-prefix-step c = search needs
 
-slice-reshare-prefix-boxed : tie.Need-slice-reshare-prefix-boxed Inv-loop μ-loop
-slice-reshare-prefix-boxed c = search needs
+slice-aggregate-step : tie.Need-slice-aggregate-step Inv-loop μ-loop
+slice-aggregate-step c = search needs
 
-slice-aggregate-boxed : tie.Need-slice-aggregate-boxed Inv-loop μ-loop
-slice-aggregate-boxed c = search needs
-
-boxed-requires : tie.Need-boxed-requires Inv-loop μ-loop
-boxed-requires c κs = search needs
-
-slice-reshare-prefix-quiet : tie.Need-slice-reshare-prefix-quiet Inv-loop μ-loop
-slice-reshare-prefix-quiet c = search needs
-
-slice-aggregate-quiet : tie.Need-slice-aggregate-quiet Inv-loop μ-loop
-slice-aggregate-quiet c =
-    let d = c .before .before .before .before .before .before .before .before .before .before .before .before in
-    d .before .before .before .before .before .before .before .before .before .least .ensures .1 .0
-
-quiet-requires : tie.Need-quiet-requires Inv-loop μ-loop
-quiet-requires c κs = search needs
-
-least-requires-2 : tie.Need-least-requires-2 Inv-loop μ-loop
-least-requires-2 c κs = search needs
-
-slice-reshare-prefix-answered : tie.Need-slice-reshare-prefix-answered Inv-loop μ-loop
-slice-reshare-prefix-answered c = search needs
-
-slice-aggregate-answered : tie.Need-slice-aggregate-answered Inv-loop μ-loop
-slice-aggregate-answered c = search needs
-
-answered-requires : tie.Need-answered-requires Inv-loop μ-loop
-answered-requires c κs = search needs
-
-left-requires : tie.Need-left-requires Inv-loop μ-loop
-left-requires c κs = search needs
+step-requires : tie.Need-step-requires Inv-loop μ-loop
+step-requires c κs = tt
 
 finish-requires : tie.Need-finish-requires Inv-loop μ-loop
-finish-requires c κs = search needs
+finish-requires c κs = tt
 
 same-length : tie.Need-same-length Inv-loop μ-loop
 same-length c =
-    let d = c .before .before .before .before .before .before .before .before .before .before .before .before .before .before in
-    let e₁ = d .before .before .before .before .before .before .before .before .before .before in
-    let e = e₁ .before .before .before .before .before .before .before in
-    let g₁ = e .before .before .before .before .before .before .before .before .before .before in
-    let g = g₁ .before .before .before .before .before .before .before .before in
-    let h₁ = g .before .before .before .before .before .before .before .before .before .before in
-    let h = h₁ .before .before .before .before .before .before .before .before in
+    let d = c .before .before .before .before .before .before .before .before .before .before .before in
+    let e = d .before .before .before .before .before .before .before .before .before .before .before .before in
+    let g = e .before .before .before .before .before .before .before .before .before .before in
+    let h = g .before .before .before .before .before .before .before .before .before .before .before in
     let n = h .next-line in
     let i = h .before .before .before .before .loop .inv in
     n .kept .0 ∙ i .1 .0
 
 same-length-2 : tie.Need-same-length-2 Inv-loop μ-loop
 same-length-2 c =
-    let d = c .before .before .before .before .before .before .before .before .before .before .before .before .before .before in
-    let e₁ = d .before .before .before .before .before .before .before .before .before .before in
-    let e = e₁ .before .before .before .before .before .before .before in
-    let g₁ = e .before .before .before .before .before .before .before .before .before .before in
-    let g = g₁ .before .before .before .before .before .before .before .before in
-    let h₁ = g .before .before .before .before .before .before .before .before .before .before in
-    let h = h₁ .before .before .before .before .before .before .before .before in
+    let d = c .before .before .before .before .before .before .before .before .before .before .before in
+    let e = d .before .before .before .before .before .before .before .before .before .before .before .before in
+    let g = e .before .before .before .before .before .before .before .before .before .before in
+    let h = g .before .before .before .before .before .before .before .before .before .before .before in
     let n = h .next-line in
     let i = h .before .before .before .before .loop .inv in
     n .kept .1 .0 ∙ i .1 .1 .0
 
 same-length-3 : tie.Need-same-length-3 Inv-loop μ-loop
 same-length-3 c =
-    let d = c .before .before .before .before .before .before .before .before .before .before .before .before .before .before in
-    let e₁ = d .before .before .before .before .before .before .before .before .before .before in
-    let e = e₁ .before .before .before .before .before .before .before in
-    let g₁ = e .before .before .before .before .before .before .before .before .before .before in
-    let g = g₁ .before .before .before .before .before .before .before .before in
-    let h₁ = g .before .before .before .before .before .before .before .before .before .before in
-    let h = h₁ .before .before .before .before .before .before .before .before in
-    let a = d .answered in
-    let q = e .quiet in
+    let d = c .before .before .before .before .before .before .before .before .before .before .before in
+    let e = d .before .before .before .before .before .before .before .before .before .before .before .before in
+    let g = e .before .before .before .before .before .before .before .before .before .before in
+    let h = g .before .before .before .before .before .before .before .before .before .before .before in
+    let s = e .step in
     let i = h .before .before .before .before .loop .inv in
-    a .kept .1 .1 .1 .0 ∙ q .kept .1 .1 .1 .0 ∙ i .1 .1 .1 .0
+    s .kept .1 .1 .1 .0 ∙ i .1 .1 .1 .0
 
 same-length-4 : tie.Need-same-length-4 Inv-loop μ-loop
 same-length-4 c =
-    let d = c .before .before .before .before .before .before .before .before .before .before .before .before .before .before in
-    let e₁ = d .before .before .before .before .before .before .before .before .before .before in
-    let e = e₁ .before .before .before .before .before .before .before in
-    let g₁ = e .before .before .before .before .before .before .before .before .before .before in
-    let g = g₁ .before .before .before .before .before .before .before .before in
-    let h₁ = g .before .before .before .before .before .before .before .before .before .before in
-    let h = h₁ .before .before .before .before .before .before .before .before in
-    let a = d .answered in
+    let d = c .before .before .before .before .before .before .before .before .before .before .before in
+    let e = d .before .before .before .before .before .before .before .before .before .before .before .before in
+    let g = e .before .before .before .before .before .before .before .before .before .before in
+    let h = g .before .before .before .before .before .before .before .before .before .before .before in
+    let s = e .step in
     let i = h .before .before .before .before .loop .inv in
-    a .kept .1 .1 .1 .1 .0 ∙ i .1 .1 .1 .1 .0
+    s .kept .1 .1 .1 .1 .0 ∙ i .1 .1 .1 .1 .0
 
 same-length-5 : tie.Need-same-length-5 Inv-loop μ-loop
 same-length-5 c =
-    let d = c .before .before .before .before .before .before .before .before .before .before .before .before .before .before in
-    let e₁ = d .before .before .before .before .before .before .before .before .before .before in
-    let e = e₁ .before .before .before .before .before .before .before in
-    let g₁ = e .before .before .before .before .before .before .before .before .before .before in
-    let g = g₁ .before .before .before .before .before .before .before .before in
-    let h₁ = g .before .before .before .before .before .before .before .before .before .before in
-    let h = h₁ .before .before .before .before .before .before .before .before in
-    let a = d .answered in
-    let q = e .quiet in
-    let x = g .boxed in
-    let i = h .before .before .before .before .loop .inv in
+    let d = c .before .before .before .before .before .before .before .before .before .before .before in
+    let e = d .before .before .before .before .before .before .before .before .before .before .before .before in
+    let g = e .before .before .before .before .before .before .before .before .before .before in
+    let h = g .before .before .before .before .before .before .before .before .before .before .before in
+    let s = e .step in
     let f = c .before .before .finish in
-    f .kept .1 .1 .1 .0 ∙ a .kept .1 .1 .1 .1 .1 .0 ∙ q .kept .1 .1 .1 .1 .0 ∙ x .kept .1 .1 .1 .1 .1 .1 .1 .1 .0 ∙ i .1 .1 .1 .1 .1 .0
+    let i = h .before .before .before .before .loop .inv in
+    f .kept .1 .1 .0 ∙ s .kept .1 .1 .1 .1 .1 .0 ∙ i .1 .1 .1 .1 .1 .0
 
 same-length-6 : tie.Need-same-length-6 Inv-loop μ-loop
 same-length-6 c =
-    let d = c .before .before .before .before .before .before .before .before .before .before .before .before .before .before in
-    let e₁ = d .before .before .before .before .before .before .before .before .before .before in
-    let e = e₁ .before .before .before .before .before .before .before in
-    let g₁ = e .before .before .before .before .before .before .before .before .before .before in
-    let g = g₁ .before .before .before .before .before .before .before .before in
-    let h₁ = g .before .before .before .before .before .before .before .before .before .before in
-    let h = h₁ .before .before .before .before .before .before .before .before in
-    let q = e .quiet in
+    let d = c .before .before .before .before .before .before .before .before .before .before .before in
+    let e = d .before .before .before .before .before .before .before .before .before .before .before .before in
+    let g = e .before .before .before .before .before .before .before .before .before .before in
+    let h = g .before .before .before .before .before .before .before .before .before .before .before in
+    let s = e .step in
     let i = h .before .before .before .before .loop .inv in
-    q .kept .1 .1 .1 .1 .1 .1 .0 ∙ i .1 .1 .1 .1 .1 .1 .0
+    s .kept .1 .1 .1 .1 .1 .1 .1 .0 ∙ i .1 .1 .1 .1 .1 .1 .0
 
 same-length-7 : tie.Need-same-length-7 Inv-loop μ-loop
 same-length-7 c =
-    let d = c .before .before .before .before .before .before .before .before .before .before .before .before .before .before in
-    let e₁ = d .before .before .before .before .before .before .before .before .before .before in
-    let e = e₁ .before .before .before .before .before .before .before in
-    let g₁ = e .before .before .before .before .before .before .before .before .before .before in
-    let g = g₁ .before .before .before .before .before .before .before .before in
-    let h₁ = g .before .before .before .before .before .before .before .before .before .before in
-    let h = h₁ .before .before .before .before .before .before .before .before in
-    let q = e .quiet in
-    let x = g .boxed in
+    let d = c .before .before .before .before .before .before .before .before .before .before .before in
+    let e = d .before .before .before .before .before .before .before .before .before .before .before .before in
+    let g = e .before .before .before .before .before .before .before .before .before .before in
+    let h = g .before .before .before .before .before .before .before .before .before .before .before in
+    let s = e .step in
     let i = h .before .before .before .before .loop .inv in
-    q .kept .1 .1 .1 .1 .1 .1 .1 .0 ∙ x .kept .1 .1 .1 .1 .1 .1 .1 .1 .1 .0 ∙ i .1 .1 .1 .1 .1 .1 .1 .0
+    s .kept .1 .1 .1 .1 .1 .1 .1 .1 .0 ∙ i .1 .1 .1 .1 .1 .1 .1 .0
 
 same-length-8 : tie.Need-same-length-8 Inv-loop μ-loop
 same-length-8 c =
-    let d = c .before .before .before .before .before .before .before .before .before .before .before .before .before .before in
-    let e₁ = d .before .before .before .before .before .before .before .before .before .before in
-    let e = e₁ .before .before .before .before .before .before .before in
-    let g₁ = e .before .before .before .before .before .before .before .before .before .before in
-    let g = g₁ .before .before .before .before .before .before .before .before in
-    let h₁ = g .before .before .before .before .before .before .before .before .before .before in
-    let h = h₁ .before .before .before .before .before .before .before .before in
-    let x = g .boxed in
+    let d = c .before .before .before .before .before .before .before .before .before .before .before in
+    let e = d .before .before .before .before .before .before .before .before .before .before .before .before in
+    let g = e .before .before .before .before .before .before .before .before .before .before in
+    let h = g .before .before .before .before .before .before .before .before .before .before .before in
+    let s = e .step in
     let i = h .before .before .before .before .loop .inv in
-    x .kept .1 .1 .1 .1 .0 ∙ i .1 .1 .1 .1 .1 .1 .1 .1 .0
+    s .kept .1 .1 .1 .1 .1 .1 .1 .1 .1 .0 ∙ i .1 .1 .1 .1 .1 .1 .1 .1 .0
 
 same-length-9 : tie.Need-same-length-9 Inv-loop μ-loop
 same-length-9 c =
-    let d = c .before .before .before .before .before .before .before .before .before .before .before .before .before .before in
-    let e₁ = d .before .before .before .before .before .before .before .before .before .before in
-    let e = e₁ .before .before .before .before .before .before .before in
-    let g₁ = e .before .before .before .before .before .before .before .before .before .before in
-    let g = g₁ .before .before .before .before .before .before .before .before in
-    let h₁ = g .before .before .before .before .before .before .before .before .before .before in
-    let h = h₁ .before .before .before .before .before .before .before .before in
-    let x = g .boxed in
+    let d = c .before .before .before .before .before .before .before .before .before .before .before in
+    let e = d .before .before .before .before .before .before .before .before .before .before .before .before in
+    let g = e .before .before .before .before .before .before .before .before .before .before in
+    let h = g .before .before .before .before .before .before .before .before .before .before .before in
+    let s = e .step in
     let i = h .before .before .before .before .loop .inv in
-    x .kept .1 .1 .1 .1 .1 .0 ∙ i .1 .1 .1 .1 .1 .1 .1 .1 .1 .0
+    s .kept .1 .1 .1 .1 .1 .1 .1 .1 .1 .1 .0 ∙ i .1 .1 .1 .1 .1 .1 .1 .1 .1 .0
 
 same-length-10 : tie.Need-same-length-10 Inv-loop μ-loop
 same-length-10 c =
-    let d = c .before .before .before .before .before .before .before .before .before .before .before .before .before .before in
-    let e₁ = d .before .before .before .before .before .before .before .before .before .before in
-    let e = e₁ .before .before .before .before .before .before .before in
-    let g₁ = e .before .before .before .before .before .before .before .before .before .before in
-    let g = g₁ .before .before .before .before .before .before .before .before in
-    let h₁ = g .before .before .before .before .before .before .before .before .before .before in
-    let h = h₁ .before .before .before .before .before .before .before .before in
-    let x = g .boxed in
+    let d = c .before .before .before .before .before .before .before .before .before .before .before in
+    let e = d .before .before .before .before .before .before .before .before .before .before .before .before in
+    let g = e .before .before .before .before .before .before .before .before .before .before in
+    let h = g .before .before .before .before .before .before .before .before .before .before .before in
+    let s = e .step in
     let i = h .before .before .before .before .loop .inv in
-    x .kept .1 .1 .1 .1 .1 .1 .0 ∙ i .1 .1 .1 .1 .1 .1 .1 .1 .1 .1
+    s .kept .1 .1 .1 .1 .1 .1 .1 .1 .1 .1 .1 .0 ∙ i .1 .1 .1 .1 .1 .1 .1 .1 .1 .1
 
 returns : tie.Need-returns Inv-loop μ-loop
 returns c = search needs
 
 add-n : tie.Need-add-n Inv-loop μ-loop
 add-n c =
-    let d₁ = c .before .before .before .before .before .before .before .before .before .before in
-    let d₂ = d₁ .before .before .before .before .before .before .before .before .before .before in
-    let d = d₂ .before .before .before .before .before .before .before in
-    let e₁ = d .before .before .before .before .before .before .before .before .before .before in
-    let e = e₁ .before .before .before .before .before .before .before .before in
+    let d = c .before .before .before .before .before .before .before .before .before .before in
+    let e = d .before .before .before .before .before .before .before .before .before in
     let g = e .before .before .before .before .before .before .before .before .before .before in
-    omega (arith, g .before .before .before .before .before .before .before .before .before .before .before .loop-test .taken)
+    let h = g .before .before .before .before .before .before .before .before .before .before .before in
+    omega (arith, h .before .before .before .loop-test .taken)
 
 loop-less : tie.Need-loop-less Inv-loop μ-loop
 loop-less c =
-    let d₁ = c .before .before .before .before .before .before .before .before .before .before in
-    let d₂ = d₁ .before .before .before .before .before .before .before .before .before .before in
-    let d = d₂ .before .before .before .before .before .before .before in
-    let e₁ = d .before .before .before .before .before .before .before .before .before .before in
-    let e = e₁ .before .before .before .before .before .before .before .before in
+    let d = c .before .before .before .before .before .before .before .before .before .before in
+    let e = d .before .before .before .before .before .before .before .before .before in
     let g = e .before .before .before .before .before .before .before .before .before .before in
-    omega (arith, g .before .before .before .before .before .before .before .before .before .before .before .loop-test .taken)
+    let h = g .before .before .before .before .before .before .before .before .before .before .before in
+    omega (arith, h .before .before .before .loop-test .taken)
 
 loop-again : tie.Need-loop-again Inv-loop μ-loop
 loop-again c =
     let d = c .before .before .before .before .before .before .before .before .before .before in
-    let e₁ = d .before .before .before .before .before .before .before .before .before .before in
-    let e = e₁ .before .before .before .before .before .before .before in
-    let g₁ = e .before .before .before .before .before .before .before .before .before .before in
-    let g = g₁ .before .before .before .before .before .before .before .before in
-    let h₁ = g .before .before .before .before .before .before .before .before .before .before in
-    let h = h₁ .before .before .before .before .before .before .before .before in
-    let a = d .answered in
-    let q = e .quiet in
-    let x = g .boxed in
+    let e = d .before .before .before .before .before .before .before .before .before in
+    let g = e .before .before .before .before .before .before .before .before .before .before in
+    let h = g .before .before .before .before .before .before .before .before .before .before .before in
+    let s = e .step in
     let n = h .next-line in
     let i = h .before .before .before .before .loop .inv in (
       omega (arith, h .before .before .before .loop-test .taken),
@@ -263,18 +188,21 @@ loop-again c =
         (
           n .kept .1 .0 ∙ i .1 .1 .0,
           (
-            a .kept .1 .1 .1 .0 ∙ q .kept .1 .1 .1 .0 ∙ i .1 .1 .1 .0,
+            s .kept .1 .1 .1 .0 ∙ i .1 .1 .1 .0,
             (
-              a .kept .1 .1 .1 .1 .0 ∙ i .1 .1 .1 .1 .0,
+              s .kept .1 .1 .1 .1 .0 ∙ i .1 .1 .1 .1 .0,
               (
-                a .kept .1 .1 .1 .1 .1 .0 ∙ q .kept .1 .1 .1 .1 .0 ∙ x .kept .1 .1 .1 .1 .1 .1 .1 .1 .0 ∙ i .1 .1 .1 .1 .1 .0,
+                s .kept .1 .1 .1 .1 .1 .0 ∙ i .1 .1 .1 .1 .1 .0,
                 (
-                  q .kept .1 .1 .1 .1 .1 .1 .0 ∙ i .1 .1 .1 .1 .1 .1 .0,
+                  s .kept .1 .1 .1 .1 .1 .1 .1 .0 ∙ i .1 .1 .1 .1 .1 .1 .0,
                   (
-                    q .kept .1 .1 .1 .1 .1 .1 .1 .0 ∙ x .kept .1 .1 .1 .1 .1 .1 .1 .1 .1 .0 ∙ i .1 .1 .1 .1 .1 .1 .1 .0,
+                    s .kept .1 .1 .1 .1 .1 .1 .1 .1 .0 ∙ i .1 .1 .1 .1 .1 .1 .1 .0,
                     (
-                      x .kept .1 .1 .1 .1 .0 ∙ i .1 .1 .1 .1 .1 .1 .1 .1 .0,
-                      (x .kept .1 .1 .1 .1 .1 .0 ∙ i .1 .1 .1 .1 .1 .1 .1 .1 .1 .0, x .kept .1 .1 .1 .1 .1 .1 .0 ∙ i .1 .1 .1 .1 .1 .1 .1 .1 .1 .1),
+                      s .kept .1 .1 .1 .1 .1 .1 .1 .1 .1 .0 ∙ i .1 .1 .1 .1 .1 .1 .1 .1 .0,
+                      (
+                        s .kept .1 .1 .1 .1 .1 .1 .1 .1 .1 .1 .0 ∙ i .1 .1 .1 .1 .1 .1 .1 .1 .1 .0,
+                        s .kept .1 .1 .1 .1 .1 .1 .1 .1 .1 .1 .1 .0 ∙ i .1 .1 .1 .1 .1 .1 .1 .1 .1 .1,
+                      ),
                     ),
                   ),
                 ),
@@ -325,26 +253,16 @@ replay-spec =
     Inv-loop
     μ-loop
     no-input-requires
-    none-yet-requires
-    no-calls-requires
-    fresh-requires
+    before-requires
     loop-holds
     next-line-requires
+    run-after-requires
     ready-requires
     line-length-requires
     least-requires
-    told-of-requires
-    slice-reshare-prefix-boxed
-    slice-aggregate-boxed
-    boxed-requires
-    slice-reshare-prefix-quiet
-    slice-aggregate-quiet
-    quiet-requires
-    least-requires-2
-    slice-reshare-prefix-answered
-    slice-aggregate-answered
-    answered-requires
-    left-requires
+    slice-reshare-prefix-step
+    slice-aggregate-step
+    step-requires
     finish-requires
     same-length
     same-length-2

@@ -5,13 +5,13 @@ use Rattle.replay.proofs.boxed.boxed.Statement.{statement}
 use Rattle.replay.proofs.boxed.boxed.Tie as tie
 
 box-now-requires : tie.Need-box-now-requires
-box-now-requires c κs = search needs
+box-now-requires c κs = tt
 
 looked-at-requires : tie.Need-looked-at-requires
-looked-at-requires c κs = search needs
+looked-at-requires c κs = tt
 
 is-box-requires : tie.Need-is-box-requires
-is-box-requires c κs = search needs
+is-box-requires c κs = tt
 
 same-length : tie.Need-same-length
 same-length c = search needs
@@ -23,10 +23,10 @@ returns : tie.Need-returns
 returns c = search needs
 
 replied-requires : tie.Need-replied-requires
-replied-requires c κs = search needs
+replied-requires c κs = tt
 
 to-ask-requires : tie.Need-to-ask-requires
-to-ask-requires c κs = search needs
+to-ask-requires c κs = tt
 
 same-length-3 : tie.Need-same-length-3
 same-length-3 c = search needs
@@ -41,7 +41,7 @@ returns-2 : tie.Need-returns-2
 returns-2 c = search needs
 
 listened-requires : tie.Need-listened-requires
-listened-requires c κs = search needs
+listened-requires c κs = tt
 
 same-length-6 : tie.Need-same-length-6
 same-length-6 c =
