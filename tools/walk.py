@@ -441,8 +441,18 @@ class Compiler:
         self.now[i] = v['d']
         w.nl()
 
+    # the cell behind a reference has its type's raw form, in which a field that is a struct has no name: it is stored at the type itself
+    def as_typed(self, i):
+        v = self.opened[i]; R = v['R']; c = f'{self.bo(i)} (only ({R["vals"]} {par(v["d"])}))'; self.p.use('denote.Steps', 'only'); self.p.use('base.Fml', 'fat')
+        self.w.move(f'cell{i}'); self.w.emit(f'use1 W (‵ (fat fullShare {R["mir"]} {c})) (W .laws .raw-at fullShare {R["mir"]} {c})')
+    def as_raw(self, i):
+        v = self.opened[i]; R = v['R']; vals = f'({R["vals"]} {par(v["d"])})'; self.p.use('denote.Memory', 'cellAt')
+        self.w.move(f'cell{i}'); self.w.emit(f'use1 W (‵ (cellAt fullShare ({R["row"]} .mir) {vals} {self.bo(i)})) (W .laws .at-raw fullShare {R["mir"]} {self.bo(i)} (only {vals}))')
+
     # ---- places and operands
     def field_of(self, v, path):
+        while path and 'parts' in v: v, path = v['parts'][path[0]], path[1:]
+        if not path: return v
         R, d, is_ = v['R'], v['d'], v['is_']
         for f in path:
             n, R2 = self.p.fields(R)[f]
@@ -451,7 +461,7 @@ class Compiler:
         return dict(kind='plain', R=R, d=d, is_=is_)
     def made(self, R, parts):                   # a struct of parts
         d = 'record { ' + '; '.join(f'{esc(n)} = {q["d"]}' for n, q in parts) + ' }'
-        return dict(kind='plain', R=R, d=d, is_=f'LL.owes {R["alias"]}.the-type {R["alias"]}′.the-laws ({d}) {nest([q["is_"] for _, q in parts])}')
+        return dict(kind='plain', R=R, d=d, is_=f'LL.owes {R["alias"]}.the-type {R["alias"]}′.the-laws ({d}) {nest([q["is_"] for _, q in parts])}', parts=[q for _, q in parts])
     def updated(self, v, path, new):            # a value with a field changed
         if not path: return new
         parts = [(n, self.field_of(v, [f])) for f, (n, _) in enumerate(self.p.fields(v['R']))]
@@ -507,7 +517,9 @@ class Compiler:
         dst, dpath, rv = int(s[1][1]), lst(s[1][2]), s[2]
         if dpath:
             if not (dpath[0][0] == 'deref' and self.fields(dpath[1:]) is not None and st[dst]['kind'] == 'mutref'): self.stop(f'no rule for {s}')
-            self.open_ref(dst)
+            self.open_ref(dst); fs = self.fields(dpath[1:])
+            typed_cell = len(fs) > 1 or fs and self.field_of(self.opened[dst], fs)['R']['kind'] in LARGE
+            if typed_cell: self.as_typed(dst)
         if rv[0] == 'rvOpd':
             t, v = self.operand(rv[1], st[dst]['R'] if not dpath and dst in st and st[dst]['kind'] == 'plain' else self.RES if dst == 0 else None); rvt = f'(of-opd ! {t})'; p.use('types.Run', 'of-opd')
         elif rv[0] == 'op2' and (rv[1] == 'eq' or rv[1][0] in ('lt', 'le')) and 'signed' not in rv[1]:
@@ -536,11 +548,14 @@ class Compiler:
         else: self.stop(f'no rule for {s}')
         do = 'assigns-last' if last else 'assigns'; p.use('types.Run', do)
         if dpath:
-            p.use('types.Run', 'hop'); fs = self.fields(dpath[1:])
-            if fs: p.use('types.Part', 'store-in'); how = f'(store-in ! {w.at(f"cell{dst}")} {self.sub(fs, self.R(dst))} {typed(v["R"], v["d"], v["is_"])})'
+            p.use('types.Run', 'hop')
+            if fs:
+                p.use('types.Part', 'store-in')
+                how = f'(store-in ! {w.at(f"cell{dst}")} {self.sub(fs, self.R(dst))} {typed(v["R"], v["d"], v["is_"])})'
             else: p.use('types.Run', 'store-raw'); how = f'(store-raw ! {w.at(f"cell{dst}")}{holds(v["R"], v["d"])} refl {typed(v["R"], v["d"], v["is_"])})'
             w.emit(f'{do} ! {rvt} (from ! (hop ! (look ! {w.at(c_(dst))} refl) {self.flds(fs, self.R(dst))})) {how}')
             self.opened[dst] = self.updated(self.opened[dst], fs, v)
+            if typed_cell: self.as_raw(dst)
         else:
             if v['kind'] == 'plain': t = typed(v['R'], v['d'], v['is_'])
             elif v['kind'] == 'slice': p.use('mir.Syntax', 'erased'); t = self.slice_typed(v['of'], 'erased')

@@ -20,18 +20,24 @@ use Rattle.transcript.specs.Answers.{answerLine, burstLines, pieceLine}
 use Rattle.words.specs.declared.Read.{Read}
 use Rattle.words.specs.Words.{decimalOf}
 use Rattle.words.specs.Lines.{readAs, isDone}
+use Rattle.call_lines.specs.CallLines.{hexRoom}
 use Rattle.call_lines.specs.declared.names.Named.{Named}
-use Rattle.list_calls.specs.declared.Asked.{Asked}
+use Rattle.list_calls.specs.declared.AskLine.{AskLine}
 use Rattle.list_calls.specs.declared.answers.Said.{Said}
-use Rattle.list_calls.specs.Asked.{askedOf}
+use Rattle.list_calls.specs.declared.answers.Wrote.{Wrote}
+use Rattle.list_calls.specs.Asked.{askLine, made}
 
 -- whether the line was right, the record after it, and what is used of the buffer
 abbrev pub said : Bool → Station → ℕ → Said
 said ok s n = record { ok = ok; text = n; next = s }
 
--- a frame's size at the level of the record, which is below 17 where a burst is made
-unfoldable pub frameSize : Profile → Station → ℕ
-frameSize p s = cond (ltb (s .sender .gear .level) 17) (frameBytes p (s .sender .gear .level)) 0
+-- with the buffer after it
+abbrev pub told : Bool → Station → ℕ × List ℕ → Said × List ℕ
+told ok s t = (said ok s (t .0), t .1)
+
+-- a frame's size at a level, which is below 17 where a burst is made
+unfoldable pub frameSize : Profile → ℕ → ℕ
+frameSize p level = cond (ltb level 17) (frameBytes p level) 0
 
 -- `burst ok ..` and a line for each frame, or "its name, `refused` and its number"
 unfoldable pub burstText : Burst → ℕ → List ℕ → List ℕ
@@ -40,14 +46,11 @@ burstText b size out = cond (eqb (b .refusal) 0) (burstLines (b .outgoing) size 
 -- the burst that was made, with the work area, the output and the buffer after it
 abbrev pub sent : ℕ → ℕ × List ℕ → LeftBurst × (List ℕ × List ℕ) → Said × (List ℕ × (List ℕ × List ℕ))
 sent size t b =
-    let u : ℕ × List ℕ = appended t (burstText (b .0 .burst) size (b .1 .1)) in
-    (said true (b .0 .next) (u .0), (b .1 .0, (b .1 .1, u .1)))
+    let q : Said × List ℕ = told true (b .0 .next) (appended t (burstText (b .0 .burst) size (b .1 .1))) in
+    (q .0, (b .1 .0, (b .1 .1, q .1)))
 
--- `burst` has no other word
-unfoldable pub burstSaid : Profile → Station → List ℕ → List ℕ → List ℕ → Read → ℕ × List ℕ
-    → Said × (List ℕ × (List ℕ × List ℕ))
-burstSaid p s a out chars r t =
-    cond (isDone chars r) (sent (frameSize p s) t (burstNumber (burstCall p s a out))) (said false s (t .0), (a, (out, t .1)))
+unfoldable pub burstSaid : Profile → Station → List ℕ → List ℕ → ℕ × List ℕ → Said × (List ℕ × (List ℕ × List ℕ))
+burstSaid p s a out t = sent (frameSize p (s .sender .gear .level)) t (burstNumber (burstCall p s a out))
 
 -- `piece HEX`, `piece none`, or its refusal. "A `piece` OFFSET above 2^32 - 1 finds none"
 unfoldable pub pieceAnswer : Place → List ℕ → ℕ → List ℕ
@@ -59,39 +62,39 @@ pieceAnswer found bytes at =
 abbrev pub pieceText : Profile → Station → List ℕ → ℕ → List ℕ
 pieceText p s a at = pieceAnswer (findNumber (findOf p s a (at % 4294967296))) (pieceOf p s a (at % 4294967296)) at
 
--- with the buffer after it
-abbrev pub told : Bool → Station → ℕ × List ℕ → Said × List ℕ
-told ok s t = (said ok s (t .0), t .1)
+-- the answer to a line that is right, with the buffer after it
+unfoldable pub pieceTold : Bool → ℕ × List ℕ → List ℕ → Wrote × List ℕ
+pieceTold ok t chars = let u : ℕ × List ℕ = cond ok (appended t chars) t in (record { ok = ok; text = u .0 }, u .1)
 
-unfoldable pub pieceSaid : Profile → Station → List ℕ → List ℕ → Read → ℕ × List ℕ → Said × List ℕ
-pieceSaid p s a chars r t =
-    let q : Read = readAs decimalOf chars r in
-    cond (isDone chars q) (told true s (appended t (pieceText p s a (q .value)))) (told false s t)
+abbrev pub pieceWrote : Profile → Station → List ℕ → List ℕ → Read → ℕ × List ℕ → Wrote × List ℕ
+pieceWrote p s a chars r t = let q : Read = readAs decimalOf chars r in pieceTold (isDone chars q) t (pieceText p s a (q .value))
 
 -- the answer to a line that is right, by its first word
 unfoldable pub answered : Bool → ℕ → List ℕ → Read → ℕ × List ℕ → ℕ × List ℕ
 answered ok refusal chars r t = cond ok (appended t (answerLine (take (r .at) chars) refusal)) t
 
--- what a line asked, and the work area after it, with the buffer after the answer
-abbrev pub replied : List ℕ → Read → ℕ × List ℕ → Asked × List ℕ → Said × (List ℕ × List ℕ)
-replied chars r t q =
-    let u : ℕ × List ℕ = answered (q .0 .ok) (q .0 .left .refusal) chars r t in
-    (said (q .0 .ok) (q .0 .left .next) (u .0), (q .1, u .1))
+-- what a call left, and the work area after it, with the buffer after the answer
+abbrev pub replied : List ℕ → Read → Bool → ℕ × List ℕ → Left × List ℕ → Said × (List ℕ × List ℕ)
+replied chars r ok t left =
+    let q : Said × List ℕ = told ok (left .0 .next) (answered ok (left .0 .refusal) chars r t) in
+    (q .0, (left .1, q .1))
 
--- a queuing or a reply
+-- a queuing, a reply or a reception; any other line breaks the rules
 unfoldable pub askSaid : Profile → Station → List ℕ → List ℕ → Named → ℕ × List ℕ → Said × (List ℕ × List ℕ)
-askSaid p s a chars n t = replied chars (n .read) t (askedOf p s a chars n)
+askSaid p s a chars n t =
+    let q : AskLine × List ℕ = askLine hexRoom chars n in
+    replied chars (n .read) (q .0 .ok) t (made p s a (q .0) (take (q .0 .len) (q .1)))
 
--- the output stays as it is; so does the work area
+-- the output stays as it is; so do the record and the work area
 abbrev pub keeping : List ℕ → Said × (List ℕ × List ℕ) → Said × (List ℕ × (List ℕ × List ℕ))
 keeping out q = (q .0, (q .1 .0, (out, q .1 .1)))
 
-abbrev pub keepingBoth : List ℕ → List ℕ → Said × List ℕ → Said × (List ℕ × (List ℕ × List ℕ))
-keepingBoth a out q = (q .0, (a, (out, q .1)))
+abbrev pub keepingAll : Station → List ℕ → List ℕ → Wrote × List ℕ → Said × (List ℕ × (List ℕ × List ℕ))
+keepingAll s a out q = (said (q .0 .ok) s (q .0 .text), (a, (out, q .1)))
 
--- by the call's number (Names.antt of `call_lines`)
+-- by the call's number (Names.antt of `call_lines`). `burst` has no other word
 unfoldable pub saidOf : Profile → Station → List ℕ → List ℕ → List ℕ → Named → ℕ × List ℕ
     → Said × (List ℕ × (List ℕ × List ℕ))
 saidOf p s a out chars n t =
-    cond (eqb (n .call) 6) (burstSaid p s a out chars (n .read) t)
-    (cond (eqb (n .call) 7) (keepingBoth a out (pieceSaid p s a chars (n .read) t)) (keeping out (askSaid p s a chars n t)))
+    cond (eqb (n .call) 6 && isDone chars (n .read)) (burstSaid p s a out t)
+    (cond (eqb (n .call) 7) (keepingAll s a out (pieceWrote p s a chars (n .read) t)) (keeping out (askSaid p s a chars n t)))

@@ -1,13 +1,14 @@
-// The lines of a call list that ask the sender, a queuing or a reply (docs/CALLS.md, Calls): each is read, and its call is made over a
-// record by value. The module `answers` has these with their answers, a burst and the question for a piece.
-use byte_copy::least;
+// The lines of a call list that ask the sender, a queuing, a reply or a reception (docs/CALLS.md, Calls): each is read into what it asks,
+// and the call is made over a record by value. The module `answers` has these with their answers, a burst and the question for a piece.
 use call_lines::connect_words;
 use call_lines::frames_words;
 use call_lines::long_words;
 use call_lines::names::CONNECT;
 use call_lines::names::FRAMES;
 use call_lines::names::LONG;
+use call_lines::names::NO_CALL;
 use call_lines::names::Named;
+use call_lines::names::QUEUE;
 use call_lines::names::SHORT;
 use call_lines::names::TURN;
 use call_lines::queue_words;
@@ -16,128 +17,182 @@ use call_lines::turn_words;
 use config::Profile;
 use numbered::Left;
 use numbered::Message;
+use numbered::answered;
+use numbered::queued;
 use queuing::Station;
+use reception::Reception;
+use refusals::MAX_RECEIVED;
+use refusals::Reply;
+use replies::Heard;
+use replies::LongAck;
 use words::Read;
 ghost use mathlib.Core.Path.{_≡_};
-ghost use Rattle.list_calls.specs.Asked.{broken, connectAsked, shortAsked, turnAsked, longAsked, framesAsked, queueAsked, askedOf};
+ghost use Rattle.list_calls.specs.Asked.{noLine, replyLine, connectAsks, shortAsks, turnAsks, longAsks};
+ghost use Rattle.list_calls.specs.Asked.{framesAsks, queueAsks, askLine, made};
 
 pub mod answers;
 
-// Bytes that a line can have as HEX: its 65,536 characters have no more pairs.
-const BYTES: usize = 32768;
-
-// What a line asked of the sender: whether the line was right, and what the call left.
-pub struct Asked {
+// A line that asks the sender, read: whether it was right, and what it asks. `kind`: QUEUE, FRAMES, or 0 for a reply. `len`: how many bytes
+// go with it. What the line's kind does not have is as in `no_line`.
+pub struct AskLine {
     pub ok: bool,
-    pub left: Left,
+    pub kind: u8,
+    pub heard: Heard,
+    pub reply: Reply,
+    pub reception: Reception,
+    pub message: Message,
+    pub len: usize,
 }
 
-fn broken(s: Station) -> Asked
-    ensures { λ r. ⌜ r ≡ broken s ⌝ }
+fn no_line() -> AskLine
+    ensures { λ q. ⌜ q ≡ noLine ⌝ }
 {
-    Asked {
+    AskLine {
         ok: false,
-        left: Left {
-            refusal: 0,
-            next: s,
+        kind: NO_CALL,
+        heard: Heard {
+            time: 0.0,
+            wave: 0,
+            snr_db: 0.0,
         },
+        reply: Reply::LongAck(LongAck {
+            want_turn: false,
+            want_disc: false,
+            stored: false,
+        }),
+        reception: Reception {
+            n: 0,
+            kind: [0; MAX_RECEIVED],
+            flags: [0; MAX_RECEIVED],
+            len: [0; MAX_RECEIVED],
+        },
+        message: Message { class: 0, label: 0 },
+        len: 0,
     }
 }
 
-fn connect(line: &[u8], r: Read, p: Profile, s: Station, area: &mut [u8]) -> Asked
-    ensures { λ q. ⌜ (q, now (area .exit)) ≡ connectAsked p s (now (area .entry)) (now (line .entry)) r ⌝ }
+fn reply_line(ok: bool, heard: Heard, reply: Reply, len: usize) -> AskLine
+    ensures { λ q. ⌜ q ≡ replyLine ok heard reply len ⌝ }
+{
+    let q = no_line();
+    let reception = q.reception;
+    let message = q.message;
+    AskLine {
+        ok,
+        kind: NO_CALL,
+        heard,
+        reply,
+        reception,
+        message,
+        len,
+    }
+}
+
+fn connect(line: &[u8], r: Read) -> AskLine
+    ensures { λ q. ⌜ q ≡ connectAsks (now (line .entry)) r ⌝ }
 {
     let q = connect_words(line, r);
-    if !q.ok {
-        return broken(s);
-    }
-    let left = numbered::connect(p, s, area, q.heard, q.reply);
-    Asked { ok: true, left }
+    let reply = q.reply;
+    reply_line(q.ok, q.heard, Reply::ConnAck(reply), 0)
 }
 
-fn short(line: &[u8], r: Read, p: Profile, s: Station, area: &mut [u8]) -> Asked
-    ensures { λ q. ⌜ (q, now (area .exit)) ≡ shortAsked p s (now (area .entry)) (now (line .entry)) r ⌝ }
+fn short(line: &[u8], r: Read) -> AskLine
+    ensures { λ q. ⌜ q ≡ shortAsks (now (line .entry)) r ⌝ }
 {
     let q = short_words(line, r);
-    if !q.ok {
-        return broken(s);
-    }
-    let left = numbered::short_ack(p, s, area, q.heard, q.reply);
-    Asked { ok: true, left }
+    let reply = q.reply;
+    reply_line(q.ok, q.heard, Reply::Ack(reply), 0)
 }
 
-fn turn(line: &[u8], r: Read, p: Profile, s: Station, area: &mut [u8]) -> Asked
-    ensures { λ q. ⌜ (q, now (area .exit)) ≡ turnAsked p s (now (area .entry)) (now (line .entry)) r ⌝ }
+fn turn(line: &[u8], r: Read) -> AskLine
+    ensures { λ q. ⌜ q ≡ turnAsks (now (line .entry)) r ⌝ }
 {
     let q = turn_words(line, r);
-    if !q.ok {
-        return broken(s);
-    }
-    let left = numbered::turn(p, s, area, q.heard, q.reply);
-    Asked { ok: true, left }
+    let reply = q.reply;
+    reply_line(q.ok, q.heard, Reply::Turn(reply), 0)
 }
 
-fn long(line: &[u8], r: Read, p: Profile, s: Station, area: &mut [u8]) -> Asked
-    ensures { λ q. ⌜ (q, now (area .exit)) ≡ longAsked p s (now (area .entry)) (now (line .entry)) r ⌝ }
+// The payload is put at the start of `bytes`, and so are the payloads of a reception and the bytes of a message.
+fn long(line: &[u8], r: Read, bytes: &mut [u8]) -> AskLine
+    ensures { λ q. ⌜ (q, now (bytes .exit)) ≡ longAsks (now (bytes .entry)) (now (line .entry)) r ⌝ }
 {
-    let mut bytes = [0u8; BYTES];
-    let q = long_words(line, r, &mut bytes);
-    if !q.ok {
-        return broken(s);
-    }
-    let n = least(q.payload, &bytes);
-    let left = numbered::long_ack(p, s, area, q.heard, q.reply, &bytes[..n]);
-    Asked { ok: true, left }
+    let q = long_words(line, r, bytes);
+    let reply = q.reply;
+    reply_line(q.ok, q.heard, Reply::LongAck(reply), q.payload)
 }
 
-fn frames(line: &[u8], r: Read, p: Profile, s: Station, area: &mut [u8]) -> Asked
-    ensures { λ q. ⌜ (q, now (area .exit)) ≡ framesAsked p s (now (area .entry)) (now (line .entry)) r ⌝ }
+fn frames(line: &[u8], r: Read, bytes: &mut [u8]) -> AskLine
+    ensures { λ q. ⌜ (q, now (bytes .exit)) ≡ framesAsks (now (bytes .entry)) (now (line .entry)) r ⌝ }
 {
-    let mut bytes = [0u8; BYTES];
-    let q = frames_words(line, r, &mut bytes);
-    if !q.ok {
-        return broken(s);
-    }
-    let n = least(q.used, &bytes);
-    let left = numbered::frames(p, s, area, q.heard, q.reception, &bytes[..n]);
-    Asked { ok: true, left }
+    let q = frames_words(line, r, bytes);
+    let heard = q.heard;
+    let reception = q.reception;
+    let mut a = no_line();
+    a.ok = q.ok;
+    a.kind = FRAMES;
+    a.heard = heard;
+    a.reception = reception;
+    a.len = q.used;
+    a
 }
 
-fn queue(line: &[u8], r: Read, p: Profile, s: Station, area: &mut [u8]) -> Asked
-    ensures { λ q. ⌜ (q, now (area .exit)) ≡ queueAsked p s (now (area .entry)) (now (line .entry)) r ⌝ }
+fn queue(line: &[u8], r: Read, bytes: &mut [u8]) -> AskLine
+    ensures { λ q. ⌜ (q, now (bytes .exit)) ≡ queueAsks (now (bytes .entry)) (now (line .entry)) r ⌝ }
 {
-    let mut bytes = [0u8; BYTES];
-    let q = queue_words(line, r, &mut bytes);
-    if !q.ok {
-        return broken(s);
-    }
-    let n = least(q.len, &bytes);
-    let m = Message {
-        class: q.class,
-        label: q.label,
-    };
-    let left = numbered::queue(p, s, area, m, &bytes[..n]);
-    Asked { ok: true, left }
+    let q = queue_words(line, r, bytes);
+    let mut a = no_line();
+    a.ok = q.ok;
+    a.kind = QUEUE;
+    a.message.class = q.class;
+    a.message.label = q.label;
+    a.len = q.len;
+    a
 }
 
-// A queuing, a reply or a reception.
-pub(crate) fn ask(n: Named, line: &[u8], p: Profile, s: Station, area: &mut [u8]) -> Asked
-    ensures { λ q. ⌜ (q, now (area .exit)) ≡ askedOf p s (now (area .entry)) (now (line .entry)) n ⌝ }
+// By the call's number. A line of another call breaks the rules.
+pub(crate) fn ask_line(n: Named, line: &[u8], bytes: &mut [u8]) -> AskLine
+    ensures { λ q. ⌜ (q, now (bytes .exit)) ≡ askLine (now (bytes .entry)) (now (line .entry)) n ⌝ }
 {
     if n.call == SHORT {
-        return short(line, n.read, p, s, area);
+        return short(line, n.read);
     }
     if n.call == LONG {
-        return long(line, n.read, p, s, area);
+        return long(line, n.read, bytes);
     }
     if n.call == TURN {
-        return turn(line, n.read, p, s, area);
+        return turn(line, n.read);
     }
     if n.call == CONNECT {
-        return connect(line, n.read, p, s, area);
+        return connect(line, n.read);
     }
     if n.call == FRAMES {
-        return frames(line, n.read, p, s, area);
+        return frames(line, n.read, bytes);
     }
-    queue(line, n.read, p, s, area)
+    if n.call == QUEUE {
+        return queue(line, n.read, bytes);
+    }
+    no_line()
+}
+
+// The call that the line q asks for, with its bytes; none where the line breaks the rules.
+pub(crate) fn made(q: AskLine, p: Profile, s: Station, area: &mut [u8], bytes: &[u8]) -> Left
+    ensures { λ r. ⌜ (r, now (area .exit)) ≡ made p s (now (area .entry)) q (now (bytes .entry)) ⌝ }
+{
+    if !q.ok {
+        return Left {
+            refusal: 0,
+            next: s,
+        };
+    }
+    if q.kind == QUEUE {
+        let left = numbered::queue(p, s, area, q.message, bytes);
+        return queued(s, left);
+    }
+    if q.kind == FRAMES {
+        let left = numbered::frames(p, s, area, q.heard, q.reception, bytes);
+        return answered(s, left);
+    }
+    let reply = q.reply;
+    let left = numbered::reply(p, s, area, q.heard, reply, bytes);
+    answered(s, left)
 }

@@ -8,9 +8,11 @@ use io::write_all;
 use libc::STDOUT_FILENO;
 use numbered::Left;
 use numbered::Message;
+use numbered::answered;
 use numbered::connect;
 use numbered::data_burst;
 use numbered::queue;
+use numbered::queued;
 use numbered::short_ack;
 use queuing::Station;
 use queuing::fresh;
@@ -75,15 +77,16 @@ struct Step {
     n: usize,
 }
 
-fn answered(q: Left, t: &mut [u8], n: usize, name: &[u8]) -> Step {
+fn stepped(q: Left, t: &mut [u8], n: usize, name: &[u8]) -> Step {
     let n = transcript::answer(t, n, name, q.refusal);
     let s = q.next;
     Step { s, n }
 }
 
 fn connect_step(p: Profile, a: &mut [u8], t: &mut [u8]) -> Step {
-    let q = connect(p, fresh(), a, connect_heard(), connect_answer());
-    answered(q, t, 0, b"connect")
+    let first = fresh();
+    let q = connect(p, first, a, connect_heard(), connect_answer());
+    stepped(answered(first, q), t, 0, b"connect")
 }
 
 fn queue_step(p: Profile, last: Step, a: &mut [u8], t: &mut [u8]) -> Step {
@@ -95,7 +98,7 @@ fn queue_step(p: Profile, last: Step, a: &mut [u8], t: &mut [u8]) -> Step {
         routine,
         b"Snow since midnight, 40 cm at the door.\n",
     );
-    answered(q, t, last.n, b"queue")
+    stepped(queued(last.s, q), t, last.n, b"queue")
 }
 
 // The burst's frames stand in the output.
@@ -115,7 +118,7 @@ fn burst_step(p: Profile, last: Step, a: &mut [u8], out: &mut [u8], t: &mut [u8]
 
 fn ack_step(p: Profile, last: Step, a: &mut [u8], t: &mut [u8]) -> Step {
     let q = short_ack(p, last.s, a, ack_heard(), arrived());
-    answered(q, t, last.n, b"short")
+    stepped(answered(last.s, q), t, last.n, b"short")
 }
 
 fn write_first(t: &[u8], n: usize) {
@@ -130,8 +133,8 @@ fn main() {
     let mut text = [0u8; 1024];
     let p = new_profile();
     let connected = connect_step(p, &mut area, &mut text);
-    let queued = queue_step(p, connected, &mut area, &mut text);
-    let sent = burst_step(p, queued, &mut area, &mut out, &mut text);
+    let waits = queue_step(p, connected, &mut area, &mut text);
+    let sent = burst_step(p, waits, &mut area, &mut out, &mut text);
     let acked = ack_step(p, sent, &mut area, &mut text);
     let last = acked.s;
     let n = state_lines::end(

@@ -8,10 +8,10 @@ use native.Mathlib.Omega.{arith}
 use lib.ListN.{length, take, drop, length-append, length-drop, take-append-drop}
 use lib.Seq.{take-length, length-take-le}
 use lib.Dec.{eqb}
-use borrow.Author.Tests.{eq-eqb}
+use borrow.Author.Tests.{eq-eqb, eqb-true}
 use Rattle.laws.specs.Bytes.{overwrite, part, Bytes}
 use Rattle.laws.proofs.Bytes.{over-part, over-keep, over-cat, over-over, over-comm, length-over, length-part, part-inside}
-use Rattle.laws.proofs.Picks.{test, or-right}
+use Rattle.laws.proofs.Picks.{by as by-test, or-right}
 use Rattle.limits.specs.Limits.{maxClass, maxWaiting, maxMessages}
 use Rattle.ledger.specs.Ledger.{bytesOf, requeue}
 use Rattle.ledger.specs.Queue.{Message, Queue, messageBytes, goes, enqueue, superseded, withdrawnBy}
@@ -40,8 +40,21 @@ use Rattle.messages.proofs.Withdrawn.{stay-go, gone-in, nothing-gone}
 use Rattle.messages.proofs.Link as M
 use Rattle.messages.proofs.Entries.{length-entries}
 use Rattle.queuing.specs.Station.{viewStation, storeStation, queuedIn}
-use Rattle.queuing.specs.StationCode.{Fit, Room, queuedTo, stayBytes, stayStation, placeOf, putStation, putArea}
+use Rattle.queuing.specs.StationCode.{
+  Space,
+  Fit,
+  Room,
+  queuedTo,
+  stayBytes,
+  stayWaiting,
+  stayedIn,
+  placeOf,
+  putIn,
+  queuedWaiting,
+  storeWaiting,
+}
 use Rattle.queuing.specs.declared.Station.{Station}
+use Rattle.queuing.specs.declared.Waiting.{Waiting}
 use Rattle.queuing.proofs.Shown.{waiting-sum}
 
 -- ---- the sender, and its work area, where other bytes wait
@@ -119,18 +132,18 @@ put-over a v bs f k low fits =
 
 pub fit-counted : (t : Station) (a : List ℕ) (l n : ℕ) → Fit t a l n → Counted (t .sender) a
 fit-counted t a l n f =
-    record { area = f .area; held = f .held; rest = f .rest; sent = f .sent; pieces = f .pieces; flying = f .flying; stream = omega (arith, f .stream, f .waits) }
-
-pub queued-none : (c l : ℕ) (bs : List ℕ) (t : Station) (a : List ℕ) → length bs ≡ 0 → (t, a) ≡ queuedIn c l bs t a
-unfolding queuedIn
-queued-none c l [] t a e = refl
-queued-none c l (b ∷ bs) t a e = absurd (omega (arith, e))
+    record {
+      area = f .area;
+      held = f .held;
+      rest = f .rest;
+      sent = f .sent;
+      pieces = f .pieces;
+      flying = f .flying;
+      stream = omega (arith, f .stream, f .space .waits);
+    }
 
 -- what a queuing needs, of what stays
-module _ (t : Station) (a : List ℕ) (l n : ℕ) (fit : Fit t a l n) (some : 1 ≤ n) where
-  abbrev m : Messages
-  m = t .messages
-
+module _ (m : Messages) (f w : ℕ) (a : List ℕ) (l n : ℕ) (fit : Space m f w a l n) (some : 1 ≤ n) where
   abbrev stays : List Entry
   stays = stayIn l (begunIn m) (entriesIn m)
 
@@ -142,22 +155,27 @@ module _ (t : Station) (a : List ℕ) (l n : ℕ) (fit : Fit t a l n) (some : 1 
   stay-row =
       omega (arith, stay-go l (begunIn m) (entriesIn m) .0, ap length (gone-in l n m some), fit .row some, length-entries m 0 (m .n))
 
-  pub stay-room : Sized m → (x : List ℕ) → length x ≡ length a → Room (stayStation l t) x n
+  pub stay-room : Sized m → (x : List ℕ) → length x ≡ length a → Room (withdrawn l m) f (total stays) x n
   stay-room z x e =
       record {
-        messages = withdraw-sound m (t .sender .counts .waiting) l z (fit .messages);
-        row = omega (arith, stay-row, withdraw-rows m (t .sender .counts .waiting) l z (fit .messages));
+        messages = withdraw-sound m w l z (fit .messages);
+        row = omega (arith, stay-row, withdraw-rows m w l z (fit .messages));
         bytes = stay-bytes;
-        area = omega (arith, stay-bytes, fit .stream, fit .area);
+        area = omega (arith, stay-bytes, fit .area);
       }
 
   -- without a label
-  pub plain-room : l ≡ 0 → Room t a n
+  pub plain-room : l ≡ 0 → Room m f w a n
   unfolding total
   plain-room e =
       let z = nothing-gone l n m (or-right (eqb n 0) (eqb l 0) (eq-eqb l 0 e)) in
-      let by : t .sender .counts .waiting + n ≤ maxWaiting = omega (arith, ap total z, fit .bytes) in
-      record { messages = fit .messages; row = omega (arith, ap length z, fit .row some); bytes = by; area = omega (arith, fit .stream, fit .area) }
+      let by : w + n ≤ maxWaiting = omega (arith, ap total z, fit .bytes) in
+      record { messages = fit .messages; row = omega (arith, ap length z, fit .row some); bytes = by; area = omega (arith, fit .area) }
+
+  pub stayed-room : Sized m → let x = stayedIn l m f w a in Room (x .0 .messages) f (x .0 .waiting) (x .1) n
+  stayed-room z =
+      by-test (λ (x : Waiting × List ℕ). Room (x .0 .messages) f (x .0 .waiting) (x .1) n) (eqb l 0) (λ e. plain-room (eqb-true l 0 e))
+      (λ e. stay-room z (overwrite a f (stayBytes l m (drop f a))) (length-over a f (stayBytes l m (drop f a))))
 
 module _ (t : Station) (a : List ℕ) (ar : Arrays (t .sender)) (by : Bytes a) (z : Sized (t .messages)) (c l b : ℕ) (bs : List ℕ) (fit : Fit t a l (length (b ∷ bs))) where
   abbrev s : Sender
@@ -177,7 +195,7 @@ module _ (t : Station) (a : List ℕ) (ar : Arrays (t .sender)) (by : Bytes a) (
   waits = view s a .waiting
 
   sum : total (entriesIn (t .messages)) ≡ length waits
-  sum = waiting-sum t a counted (fit .messages)
+  sum = waiting-sum t a counted (fit .space .messages)
 
   abbrev queue : Queue
   queue = queueIn (t .messages) waits
@@ -189,15 +207,13 @@ module _ (t : Station) (a : List ℕ) (ar : Arrays (t .sender)) (by : Bytes a) (
   module _ (x : Messages) (v : List ℕ) (low : placeOf c x .bytes ≤ length v) (most : length v + n ≤ maxWaiting)
       (bytes : goes (enqueue c l (b ∷ bs) queue) ≡ take (placeOf c x .bytes) v ++ ((b ∷ bs) ++ drop (placeOf c x .bytes) v))
       (stores : storeEntries (begunIn x) (insertRow (placeOf c x .row) (entryOf n c l) (entriesIn x)) x ≡ withWithdrawn sums (storeQueue (enqueue c l (b ∷ bs) queue) (t .messages))) where
-    abbrev u : Station
-    u = record { sender = queuedTo s (length v); messages = x }
-
     long : length (goes (enqueue c l (b ∷ bs) queue)) ≡ length v + n
     long =
         let k = placeOf c x .bytes in
         omega (arith, ap length bytes, length-append (take k v) ((b ∷ bs) ++ drop k v), length-append (b ∷ bs) (drop k v), length-take-le k v low, length-drop k v)
 
-    put-is : (putStation c l n u, putArea c (b ∷ bs) u (overwrite a (s .counts .flying) v)) ≡ queuedIn c l (b ∷ bs) t a
+    put-is : let f = s .counts .flying in
+        storeWaiting t (putIn c l (b ∷ bs) x f (length v) (overwrite a f v)) ≡ queuedIn c l (b ∷ bs) t a
     unfolding queuedIn takeIn viewStation storeStation
     put-is =
         let w = goes (enqueue c l (b ∷ bs) queue) in
@@ -222,28 +238,30 @@ module _ (t : Station) (a : List ℕ) (ar : Arrays (t .sender)) (by : Bytes a) (
       (sym (ap (λ (k : ℕ). t .messages .withdrawn + k) g ∙ add-zero (t .messages .withdrawn)))
 
   -- WHAT A WITHDRAWAL AND `put_in` LEAVE
-  abbrev stayed : List ℕ
-  stayed = overwrite a (s .counts .flying) (stayBytes l (t .messages) (drop (s .counts .flying) a))
-
-  pub queued-labelled : (putStation c l n (stayStation l t), putArea c (b ∷ bs) (stayStation l t) stayed) ≡ queuedIn c l (b ∷ bs) t a
+  pub queued-labelled : let x = stayWaiting l (t .messages) in
+      let f = s .counts .flying in
+      storeWaiting t (putIn c l (b ∷ bs) (x .messages) f (x .waiting) (overwrite a f (stayBytes l (t .messages) (drop f a))))
+      ≡ queuedIn c l (b ∷ bs) t a
   unfolding view
   queued-labelled =
       let m = t .messages in
+      let f = s .counts .flying in
       let v = goes (stayQueue l queue) in
       let w = s .counts .waiting in
-      let same : stayBytes l m (drop (s .counts .flying) a) ≡ v = ap (λ (q : Queue). goes (stayQueue l q)) (sym (M.queue-take m w (drop (s .counts .flying) a) (omega (arith, fit .messages .sum)))) in
+      let same : stayBytes l m (drop f a) ≡ v =
+      ap (λ (q : Queue). goes (stayQueue l q)) (sym (M.queue-take m w (drop f a) (omega (arith, fit .space .messages .sum)))) in
       let len : total (stayIn l (begunIn m) (entriesIn m)) ≡ length v = M.bytes-stay m waits sum l in
-      let sound = withdraw-sound m w l z (fit .messages) in
-      let few = fit .messages .few in
-      (λ j.
-      let u : Station = record { sender = queuedTo s (len j); messages = withdrawn l m } in
-      (putStation c l n u, putArea c (b ∷ bs) u (overwrite a (s .counts .flying) (same j))))
+      let sound = withdraw-sound m w l z (fit .space .messages) in
+      let few = fit .space .messages .few in
+      (λ j. storeWaiting t (putIn c l (b ∷ bs) (withdrawn l m) f (len j) (overwrite a f (same j))))
       ∙ put-is (withdrawn l m) v (omega (arith, place-within (withdrawn l m) (total (stayIn l (begunIn m) (entriesIn m))) c sound .1))
-      (omega (arith, stay-bytes t a l n fit (omega arith))) (ap goes (M.enqueue-steps c l b bs queue) ∙ M.goes-again m waits sum z few l new)
+      (omega (arith, stay-bytes m f w a l n (fit .space) (omega arith)))
+      (ap goes (M.enqueue-steps c l b bs queue) ∙ M.goes-again m waits sum z few l new)
       (M.stores-again m waits sum z few l new ∙ labelled-stores)
 
   -- WITHOUT A LABEL `put_in` LEAVES IT
-  pub queued-plain : l ≡ 0 → (putStation c l n t, putArea c (b ∷ bs) t a) ≡ queuedIn c l (b ∷ bs) t a
+  pub queued-plain : l ≡ 0 →
+      storeWaiting t (putIn c l (b ∷ bs) (t .messages) (s .counts .flying) (s .counts .waiting) a) ≡ queuedIn c l (b ∷ bs) t a
   unfolding view
   queued-plain e =
       let m = t .messages in
@@ -251,11 +269,9 @@ module _ (t : Station) (a : List ℕ) (ar : Arrays (t .sender)) (by : Bytes a) (
       let w = s .counts .waiting in
       let len : w ≡ length waits = sym (length-part a f w (omega (arith, counted .stream, counted .area))) in
       let gone = M.superseded-bytes m waits sum l (b ∷ bs) ∙ ap total (nothing-gone l n m (or-right (eqb n 0) (eqb l 0) (eq-eqb l 0 e))) in
-      let room = plain-room t a l n fit (omega arith) e in
-      (λ j.
-      let u : Station = record { sender = queuedTo s (len j); messages = m } in
-      (putStation c l n u, putArea c (b ∷ bs) u (sym (over-part a f w) j)))
-      ∙ put-is m waits (omega (arith, place-within m w c (fit .messages) .1)) (omega (arith, room .bytes))
+      let room = plain-room m f w a l n (fit .space) (omega arith) e in
+      (λ j. storeWaiting t (putIn c l (b ∷ bs) m f (len j) (sym (over-part a f w) j)))
+      ∙ put-is m waits (omega (arith, place-within m w c (fit .space .messages) .1)) (omega (arith, room .bytes))
       (ap goes (M.enqueue-step c l b bs queue e) ∙ M.goes-place m waits sum new) (M.insert-stores m waits sum new ∙ plain-stores e gone)
 
   -- the clauses about messages
@@ -263,29 +279,44 @@ module _ (t : Station) (a : List ℕ) (ar : Arrays (t .sender)) (by : Bytes a) (
   keeps h =
       let w = s .counts .waiting in
       let x = withdrawn l (t .messages) in
-      let y = withdraw-sized (t .messages) w l z (fit .messages) in
+      let y = withdraw-sized (t .messages) w l z (fit .space .messages) in
       let e = entryOf n c l in
       subst (λ (r : Station × List ℕ). SoundMessages (r .0 .messages) (r .0 .sender .counts .waiting) × Sized (r .0 .messages)) queued-labelled (
-        insert-sound x _ e y (withdraw-sound (t .messages) w l z (fit .messages)) (stay-room t a l n fit (omega arith) z a refl .row) (omega arith) h (begunIn x) (placeOf c x .row),
+        insert-sound x _ e y (withdraw-sound (t .messages) w l z (fit .space .messages))
+            (stay-room (t .messages) (s .counts .flying) w a l n (fit .space) (omega arith) z a refl .row) (omega arith) h (begunIn x) (placeOf c x .row),
         sized-stored x y (begunIn x) (insertRow (placeOf c x .row) e (entriesIn x)),
       )
 
 module _ (t : Station) (a : List ℕ) (ar : Arrays (t .sender)) (by : Bytes a) (z : Sized (t .messages)) (c l : ℕ) where
-  pub queued-some : (bs : List ℕ) → 1 ≤ length bs → Fit t a l (length bs) → (
-    putStation c l (length bs) (stayStation l t),
-    putArea c bs (stayStation l t) (overwrite a (t .sender .counts .flying) (stayBytes l (t .messages) (drop (t .sender .counts .flying) a))),
-  )
-      ≡ queuedIn c l bs t a
-  queued-some [] h f = absurd (omega arith)
-  queued-some (b ∷ bs) h f = queued-labelled t a ar by z c l b bs f
-
-  pub queued-unlabelled : (bs : List ℕ) → 1 ≤ length bs → Fit t a l (length bs) → l ≡ 0 → (putStation c l (length bs) t, putArea c bs t a) ≡ queuedIn c l bs t a
-  queued-unlabelled [] h f e = absurd (omega arith)
-  queued-unlabelled (b ∷ bs) h f e = queued-plain t a ar by z c l b bs f e
+  -- WHAT `enqueue` LEAVES
+  pub queued-waiting : (bs : List ℕ) → Fit t a l (length bs)
+      → let k = t .sender .counts in storeWaiting t (queuedWaiting c l bs (t .messages) (k .flying) (k .waiting) a) ≡ queuedIn c l bs t a
+  unfolding queuedWaiting queuedIn
+  queued-waiting [] f = refl
+  queued-waiting (b ∷ bs) f =
+      by-test
+      (λ (x : Waiting × List ℕ).
+      storeWaiting t (putIn c l (b ∷ bs) (x .0 .messages) (t .sender .counts .flying) (x .0 .waiting) (x .1)) ≡ queuedIn c l (b ∷ bs) t a)
+      (eqb l 0) (λ e. queued-plain t a ar by z c l b bs f (eqb-true l 0 e))
+      (λ e. queued-labelled t a ar by z c l b bs f)
 
   -- A QUEUING KEEPS THE CLAUSES ABOUT MESSAGES
   pub queued-keeps : (bs : List ℕ) → Fit t a l (length bs) → c ≤ maxClass →
       let r = queuedIn c l bs t a .0 in SoundMessages (r .messages) (r .sender .counts .waiting) × Sized (r .messages)
   unfolding queuedIn
-  queued-keeps [] f h = (f .messages, z)
+  queued-keeps [] f h = (f .space .messages, z)
   queued-keeps (b ∷ bs) f h = keeps t a ar by z c l b bs f h
+
+-- ---- the steps of `enqueue`
+
+module _ (c l : ℕ) (m : Messages) (f w : ℕ) (a : List ℕ) where
+  pub queued-none : (bs : List ℕ) → length bs ≡ 0 → (record { messages = m; waiting = w }, a) ≡ queuedWaiting c l bs m f w a
+  unfolding queuedWaiting
+  queued-none [] e = refl
+  queued-none (b ∷ bs) e = absurd (omega (arith, e))
+
+  pub queued-steps : (bs : List ℕ) → 1 ≤ length bs →
+      let x = stayedIn l m f w a in putIn c l bs (x .0 .messages) f (x .0 .waiting) (x .1) ≡ queuedWaiting c l bs m f w a
+  unfolding queuedWaiting
+  queued-steps [] h = absurd (omega arith)
+  queued-steps (b ∷ bs) h = refl

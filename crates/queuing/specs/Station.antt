@@ -4,7 +4,9 @@ use Prim.Native.Nat.{ℕ}
 use Rattle.ledger.specs.Station as L
 use Rattle.ledger.specs.Station.{takeIn}
 use Rattle.messages.specs.Messages.{noMessages, queueIn, storeQueue, withWithdrawn}
+use Rattle.messages.specs.declared.Messages.{Messages}
 use Rattle.record.specs.Fresh.{fresh}
+use Rattle.record.specs.Setters.{withCounts, withWaiting}
 use Rattle.record.specs.View.{view, store, storeArea}
 use Rattle.record.specs.declared.Sender.{Sender}
 use Rattle.queuing.specs.declared.Station.{Station}
@@ -14,6 +16,10 @@ freshStation = record { sender = fresh; messages = noMessages }
 
 abbrev pub withSender : Station → Sender → Station
 withSender t s = record { sender = s; messages = t .messages }
+
+-- these messages wait, n bytes in all
+abbrev pub withMessages : Station → Messages → ℕ → Station
+withMessages t m n = record { sender = withCounts (t .sender) (withWaiting (t .sender .counts) n); messages = m }
 
 -- the ledger's sender, the queue of messages cut out of its waiting bytes, and the bytes withdrawn
 unfoldable pub viewStation : Station → List ℕ → L.Station

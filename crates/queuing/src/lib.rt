@@ -14,14 +14,19 @@ ghost use Rattle.laws.specs.Bytes.{overwrite};
 ghost use Rattle.limits.specs.Limits.{maxMessages, maxTaken};
 ghost use Rattle.messages.specs.Messages.{entriesIn, total, begunIn};
 ghost use Rattle.messages.specs.MessagesCode.{stayIn};
-ghost use Rattle.messages.specs.SoundCode.{SoundMessages};
-ghost use Rattle.queuing.specs.Station.{freshStation, queuedIn};
-ghost use Rattle.queuing.specs.StationCode.{Fit, Room, stayBytes, stayStation, putStation, putArea};
+ghost use Rattle.queuing.specs.Station.{freshStation};
+ghost use Rattle.queuing.specs.StationCode.{Space, Room, stayBytes, stayedIn, putWaiting, putArea, queuedWaiting};
 
 #[repr(C)]
 pub struct Station {
     pub sender: Sender,
     pub messages: Messages,
+}
+
+// What a queuing leaves of the record beside what it leaves alone: the messages, and how many bytes wait.
+pub struct Waiting {
+    pub messages: Messages,
+    pub waiting: u32,
 }
 
 // The record of a new station.
@@ -58,60 +63,75 @@ fn close_gaps(m: Messages, a: &mut [u8], first: usize, label: u16) -> usize
     to - first
 }
 
-// What waits once the messages that a label withdraws are gone.
-fn withdrawn(t: Station, a: &mut [u8], label: u16) -> Station
-    requires { ⌜ SoundMessages (t .messages) (t .sender .counts .waiting) ⌝ }
-    requires { ⌜ t .sender .counts .flying + t .sender .counts .waiting ≤ length (now a) ⌝ }
-    requires { ⌜ t .messages .withdrawn + t .sender .counts .waiting ≤ maxTaken ⌝ }
-    ensures { λ r. ⌜ r ≡ stayStation label t ⌝ }
-    ensures { λ _. ⌜ now (a .exit) ≡ overwrite (now (a .entry)) (t .sender .counts .flying)
-        (stayBytes label (t .messages) (drop (t .sender .counts .flying) (now (a .entry)))) ⌝ }
+// What waits once the messages that a label withdraws are gone, where `flying` bytes stand before them. No label withdraws none.
+fn withdrawn(m: Messages, flying: u32, waiting: u32, a: &mut [u8], label: u16) -> Waiting
+    requires { ⌜ m .n ≤ maxMessages ⌝ }
+    requires { ⌜ flying + total (entriesIn m) ≤ length (now a) ⌝ }
+    requires { ⌜ m .withdrawn + total (entriesIn m) ≤ maxTaken ⌝ }
+    ensures { λ r. ⌜ (r, now (a .exit)) ≡ stayedIn label m flying waiting (now (a .entry)) ⌝ }
 {
-    let m = t.messages;
-    let first = t.sender.counts.flying as usize;
+    if label == 0 {
+        return Waiting {
+            messages: m,
+            waiting,
+        };
+    }
+    let first = flying as usize;
     let n = close_gaps(m, a, first, label);
-    let after = withdraw(m, label);
-    let stay = n as u32;
-    let mut next = t;
-    next.messages = after;
-    next.sender.counts.waiting = stay;
-    next
+    let messages = withdraw(m, label);
+    Waiting {
+        messages,
+        waiting: n as u32,
+    }
 }
 
 // Bytes to send, as one message of this class and label, behind those of its class and of lower ones.
-fn put_in(t: Station, a: &mut [u8], class: u8, label: u16, bytes: &[u8]) -> Station
-    requires { ⌜ Room t (now a) (length (now bytes)) ⌝ }
-    ensures { λ r. ⌜ r ≡ putStation class label (length (now (bytes .entry))) t ⌝ }
-    ensures { λ _. ⌜ now (a .exit) ≡ putArea class (now (bytes .entry)) t (now (a .entry)) ⌝ }
+fn put_in(
+    m: Messages,
+    flying: u32,
+    waiting: u32,
+    a: &mut [u8],
+    class: u8,
+    label: u16,
+    bytes: &[u8],
+) -> Waiting
+    requires { ⌜ Room m flying waiting (now a) (length (now bytes)) ⌝ }
+    ensures { λ r. ⌜ r ≡ putWaiting class label (length (now (bytes .entry))) m waiting ⌝ }
+    ensures { λ _. ⌜ now (a .exit) ≡ putArea class (now (bytes .entry)) m flying waiting (now (a .entry)) ⌝ }
 {
     let n = bytes.len();
-    let c = t.sender.counts;
-    let m = t.messages;
     let at = place(m, class);
-    let first = c.flying as usize;
-    let end = first + c.waiting as usize;
+    let first = flying as usize;
+    let end = first + waiting as usize;
     let from = first + at.bytes;
     insert_in(a, from, end, bytes);
-    let after = insert(m, at.row, n as u16, class, label);
-    let w = c.waiting + n as u32;
-    let mut next = t;
-    next.messages = after;
-    next.sender.counts.waiting = w;
-    next
+    let messages = insert(m, at.row, n as u16, class, label);
+    Waiting {
+        messages,
+        waiting: waiting + n as u32,
+    }
 }
 
 // Bytes to send, as one message of this class and label: the waiting ones with its label that have not begun are withdrawn. No bytes make no
-// message and withdraw none.
-pub fn enqueue(t: Station, a: &mut [u8], class: u8, label: u16, bytes: &[u8]) -> Station
-    requires { ⌜ Fit t (now a) label (length (now bytes)) ⌝ }
-    ensures { λ r. ⌜ (r, now (a .exit)) ≡ queuedIn class label (now (bytes .entry)) t (now (a .entry)) ⌝ }
+// message and withdraw none. `flying` bytes of the work area stand before those that wait.
+pub fn enqueue(
+    m: Messages,
+    flying: u32,
+    waiting: u32,
+    a: &mut [u8],
+    class: u8,
+    label: u16,
+    bytes: &[u8],
+) -> Waiting
+    requires { ⌜ Space m flying waiting (now a) label (length (now bytes)) ⌝ }
+    ensures { λ r. ⌜ (r, now (a .exit)) ≡ queuedWaiting class label (now (bytes .entry)) m flying waiting (now (a .entry)) ⌝ }
 {
     if bytes.len() == 0 {
-        return t;
+        return Waiting {
+            messages: m,
+            waiting,
+        };
     }
-    if label == 0 {
-        return put_in(t, a, class, label, bytes);
-    }
-    let s = withdrawn(t, a, label);
-    put_in(s, a, class, label, bytes)
+    let w = withdrawn(m, flying, waiting, a, label);
+    put_in(w.messages, flying, w.waiting, a, class, label, bytes)
 }

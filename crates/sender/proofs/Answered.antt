@@ -71,11 +71,15 @@ module _ (p : Profile) (t : Station) (a : List ℕ) where
           pieces = c .pieces;
           flying = c .flying;
           stream = r .0;
-          messages = ok-sound _ _ (q .listed);
-          waits = r .3;
-          bytes = r .2;
-          row = q .row;
-          taken = omega (arith, q .took);
+          space =
+              record {
+                area = omega (arith, r .0, c .area);
+                messages = ok-sound _ _ (q .listed);
+                waits = r .3;
+                bytes = r .2;
+                row = q .row;
+                taken = omega (arith, q .took);
+              };
         }
 
   -- ---- a reply

@@ -12,7 +12,7 @@ use Rattle.record.specs.View.{view}
 use Rattle.ledger.specs.Queue.{flies}
 use Rattle.messages.specs.Messages.{storeQueue}
 use Rattle.messages.specs.declared.Messages.{Messages}
-use Rattle.queuing.specs.Station.{withSender, viewStation, queuedIn}
+use Rattle.queuing.specs.Station.{withSender, withMessages, viewStation, queuedIn}
 use Rattle.queuing.specs.declared.Station.{Station}
 use Rattle.record.specs.declared.Sender.{Sender}
 use Rattle.replies.specs.declared.Heard.{Heard}
@@ -21,6 +21,8 @@ use Rattle.receive.specs.Accepted.{acceptedReply}
 use Rattle.reception.specs.Reception.{decodedIn, framesHeard}
 use Rattle.reception.specs.declared.Reception.{Reception}
 use Rattle.sender.specs.declared.Answer.{Answer}
+use Rattle.sender.specs.declared.Replied.{Replied}
+use Rattle.sender.specs.declared.Queued.{Queued}
 use Rattle.sender.specs.declared.Finding.{Finding}
 use Rattle.outgoing.specs.Outgoing.{burstOf}
 use Rattle.outgoing.specs.declared.Outgoing.{Outgoing}
@@ -37,6 +39,10 @@ queueOf p t a class label bytes =
     let after = queuedIn class label bytes t a in
     cond (passed v) (record { verdict = v; next = after .0 }, after .1) (record { verdict = v; next = t }, a)
 
+-- what is handed back of it: the record t, with these messages
+abbrev pub queuedBy : Station → Queued → Answer
+queuedBy t q = record { verdict = q .verdict; next = withMessages t (q .messages) (q .waiting) }
+
 -- ---- sender_rx: 1 2 3 4 5 6, a long ack also 7
 
 unfoldable pub receiveOf : Profile → Station → List ℕ → Heard → Reply → List ℕ → Answer × List ℕ
@@ -44,6 +50,10 @@ receiveOf p t a h r payload =
     let v = receiveVerdict p t a h r (length payload) in
     let after = acceptedReply p h r payload (t .sender) a in
     cond (passed v) (record { verdict = v; next = withSender t (after .0) }, after .1) (record { verdict = v; next = t }, a)
+
+-- what is handed back of it: the record t, with this sender; the messages stay
+abbrev pub repliedBy : Station → Replied → Answer
+repliedBy t q = record { verdict = q .verdict; next = withSender t (q .sender) }
 
 -- ---- all frames of one reception: 1 2 3 15 4 5 6
 

@@ -2,6 +2,7 @@
 use area::lookup::Found;
 use config::Profile;
 use limits::MAX_SLOTS;
+use messages::Messages;
 use messages::fly;
 use outgoing::Frames;
 use outgoing::Outgoing;
@@ -10,6 +11,7 @@ use queuing::enqueue;
 use receive::accepted::answer;
 use reception::Reception;
 use reception::hear_frames;
+use record::Sender;
 use refusals::Reply;
 use refusals::Verdict;
 use refusals::kind;
@@ -22,12 +24,25 @@ use verdicts::receive_verdict;
 use verdicts::standing;
 ghost use mathlib.Core.Path.{_≡_};
 ghost use Rattle.queuing.specs.Station.{freshStation};
-ghost use Rattle.sender.specs.Calls.{queueOf, receiveOf, framesOf, findOf, pieceOf, noBurst, burstCall};
+ghost use Rattle.sender.specs.Calls.{queueOf, queuedBy, receiveOf, repliedBy, framesOf, findOf, pieceOf, noBurst, burstCall};
 
 // What a queuing or a reply answers, and the next record.
 pub struct Answer {
     pub verdict: Verdict,
     pub next: Station,
+}
+
+// The same of a reply, without the messages, which stay.
+pub struct Replied {
+    pub sender: Sender,
+    pub verdict: Verdict,
+}
+
+// The same of a queuing, which leaves the rest of the record alone: the messages, and how many bytes wait.
+pub struct Queued {
+    pub messages: Messages,
+    pub waiting: u32,
+    pub verdict: Verdict,
 }
 
 pub struct Bursted {
@@ -48,8 +63,8 @@ pub fn fresh() -> Station
 }
 
 // Bytes to send, as one message of this class and label: the waiting ones with its label that have not begun are withdrawn.
-pub fn queue(p: Profile, t: Station, a: &mut [u8], class: u8, label: u16, bytes: &[u8]) -> Answer
-    ensures { λ r. ⌜ (r, now (a .exit)) ≡ queueOf p t (now (a .entry)) class label (now (bytes .entry)) ⌝ }
+pub fn queue(p: Profile, t: Station, a: &mut [u8], class: u8, label: u16, bytes: &[u8]) -> Queued
+    ensures { λ r. ⌜ (queuedBy t r, now (a .exit)) ≡ queueOf p t (now (a .entry)) class label (now (bytes .entry)) ⌝ }
 {
     let n = bytes.len();
     let v = queue_verdict(
@@ -61,34 +76,43 @@ pub fn queue(p: Profile, t: Station, a: &mut [u8], class: u8, label: u16, bytes:
         n,
     );
     if number(v) != 0 {
-        return Answer {
+        let messages = t.messages;
+        return Queued {
             verdict: v,
-            next: t,
+            messages,
+            waiting: t.sender.counts.waiting,
         };
     }
-    let next = enqueue(t, a, class, label, bytes);
-    Answer { verdict: v, next }
+    let c = t.sender.counts;
+    let w = enqueue(t.messages, c.flying, c.waiting, a, class, label, bytes);
+    let messages = w.messages;
+    Queued {
+        verdict: v,
+        messages,
+        waiting: w.waiting,
+    }
 }
 
 // A reply, and a long ack's payload. The messages stay.
-pub fn sender_rx(p: Profile, t: Station, a: &mut [u8], h: Heard, r: Reply, payload: &[u8]) -> Answer
-    ensures { λ q. ⌜ (q, now (a .exit)) ≡ receiveOf p t (now (a .entry)) h r (now (payload .entry)) ⌝ }
+pub fn sender_rx(
+    p: Profile,
+    t: Station,
+    a: &mut [u8],
+    h: Heard,
+    r: Reply,
+    payload: &[u8],
+) -> Replied
+    ensures { λ q. ⌜ (repliedBy t q, now (a .exit)) ≡ receiveOf p t (now (a .entry)) h r (now (payload .entry)) ⌝ }
 {
     let n = payload.len();
     let last = t.sender.link.last_time;
     let v = receive_verdict(standing(p, t, a, kind(r) == 0), last, h, r, n);
     if number(v) != 0 {
-        return Answer {
-            verdict: v,
-            next: t,
-        };
+        let sender = t.sender;
+        return Replied { verdict: v, sender };
     }
     let sender = answer(p, t.sender, a, h, r, payload);
-    let messages = t.messages;
-    Answer {
-        verdict: v,
-        next: Station { sender, messages },
-    }
+    Replied { verdict: v, sender }
 }
 
 // All decoded frames of one reception, the payloads back to back. The messages stay.
@@ -99,23 +123,17 @@ pub fn frames_rx(
     h: Heard,
     r: Reception,
     payloads: &[u8],
-) -> Answer
-    ensures { λ q. ⌜ (q, now (a .exit)) ≡ framesOf p t (now (a .entry)) h r (now (payloads .entry)) ⌝ }
+) -> Replied
+    ensures { λ q. ⌜ (repliedBy t q, now (a .exit)) ≡ framesOf p t (now (a .entry)) h r (now (payloads .entry)) ⌝ }
 {
     let last = t.sender.link.last_time;
     let v = frames_verdict(standing(p, t, a, false), last, h, r.n);
     if number(v) != 0 {
-        return Answer {
-            verdict: v,
-            next: t,
-        };
+        let sender = t.sender;
+        return Replied { verdict: v, sender };
     }
     let sender = hear_frames(p, t.sender, a, h, r, payloads);
-    let messages = t.messages;
-    Answer {
-        verdict: v,
-        next: Station { sender, messages },
-    }
+    Replied { verdict: v, sender }
 }
 
 // Where the bytes of the piece at `off` lie in the work area.

@@ -8,7 +8,10 @@ use lib.Dec.{T, eqb}
 use lib.ListN.{length}
 use Rattle.laws.proofs.Picks.{by}
 use Rattle.config.specs.declared.Profile.{Profile}
+use Rattle.queuing.specs.Station.{withSender, withMessages}
 use Rattle.queuing.specs.declared.Station.{Station}
+use Rattle.record.specs.declared.Sender.{Sender}
+use Rattle.messages.specs.declared.Messages.{Messages}
 use Rattle.replies.specs.declared.Heard.{Heard}
 use Rattle.reception.specs.declared.Reception.{Reception}
 use Rattle.replies.specs.declared.ConnAck.{ConnAck}
@@ -28,7 +31,9 @@ use Rattle.numbered.specs.declared.Message.{Message}
 use Rattle.numbered.specs.declared.Left.{Left}
 use Rattle.numbered.specs.declared.Burst.{Burst}
 use Rattle.numbered.specs.declared.LeftBurst.{LeftBurst}
-use Rattle.numbered.specs.Numbered.{answerNumber, burstNumber}
+use Rattle.numbered.specs.declared.LeftQueue.{LeftQueue}
+use Rattle.numbered.specs.declared.LeftSender.{LeftSender}
+use Rattle.numbered.specs.Numbered.{answerNumber, afterReply, afterQueue, burstNumber}
 use Rattle.card.specs.Card.{profileOf, readRefusal, readOf}
 use Rattle.card.specs.declared.Found.{Found}
 use Rattle.card.specs.declared.CardAnswer.{CardAnswer}
@@ -52,6 +57,20 @@ module _ {A : Type 0} (t : A) (n : ℕ) (next : A) where
   pub keeping2 : T (not (eqb n 0)) → t ≡ kept t n next
   keeping2 = passed-over (eqb n 0) next t
 
+module _ (t : Station) (n : ℕ) (next : Sender) where
+  pub keeping-sender1 : T (eqb n 0) → withSender t next ≡ kept t n (withSender t next)
+  keeping-sender1 = keeping1 t n (withSender t next)
+
+  pub keeping-sender2 : T (not (eqb n 0)) → t ≡ kept t n (withSender t next)
+  keeping-sender2 = keeping2 t n (withSender t next)
+
+module _ (t : Station) (n : ℕ) (m : Messages) (w : ℕ) where
+  pub keeping-queue1 : T (eqb n 0) → withMessages t m w ≡ kept t n (withMessages t m w)
+  keeping-queue1 = keeping1 t n (withMessages t m w)
+
+  pub keeping-queue2 : T (not (eqb n 0)) → t ≡ kept t n (withMessages t m w)
+  keeping-queue2 = keeping2 t n (withMessages t m w)
+
 module _ (t : Station) (n : ℕ) (next : Station) where
   -- THE NEXT RECORD stands there, stored or not, if a refused call answers with the record that it got
   kept-is : (v : Verdict) → n ≡ numberOf v → (passed v ≡ false → next ≡ t) → kept t n next ≡ next
@@ -69,49 +88,49 @@ kept-left t v q e same r b said after k =
     ap (λ (x : Station). (left (r .refusal) x, b)) (k ∙ kept-is t (r .refusal) (r .next) v n (λ f. d ∙ same f)) ∙ said
 
 module _ (p : Profile) (t : Station) (a : List ℕ) where
-  pub queued : (m : Message) (bs : List ℕ) (r : Left) (b : List ℕ)
-      → (r, b) ≡ answerNumber (queueOf p t a (m .class) (m .label) bs) → Unit {0}
-      → (after : Station) → after ≡ kept t (r .refusal) (r .next)
+  pub queued : (m : Message) (bs : List ℕ) (r : LeftQueue) (b : List ℕ)
+      → (afterQueue t r, b) ≡ answerNumber (queueOf p t a (m .class) (m .label) bs) → Unit {0}
+      → (after : Station) → after ≡ kept t (r .refusal) (withMessages t (r .messages) (r .waiting))
       → (left (r .refusal) after, b) ≡ answerNumber (queueOf p t a (m .class) (m .label) bs)
   queued m bs r b said u =
       kept-left t (queueVerdict p t a (m .class) (m .label) (length bs)) (queueOf p t a (m .class) (m .label) bs)
       (queue-verdict p t a (m .class) (m .label) bs)
-      (λ e. ap (λ (x : Answer × List ℕ). x .0 .next) (queue-keeps p t a (m .class) (m .label) bs e)) r b said
+      (λ e. ap (λ (x : Answer × List ℕ). x .0 .next) (queue-keeps p t a (m .class) (m .label) bs e)) (afterQueue t r) b said
 
   module _ (h : Heard) where
-    replied : (c : Reply) (payload : List ℕ) (r : Left) (b : List ℕ) → (r, b) ≡ answerNumber (receiveOf p t a h c payload)
-        → (after : Station) → after ≡ kept t (r .refusal) (r .next)
+    replied : (c : Reply) (payload : List ℕ) (r : LeftSender) (b : List ℕ) → (afterReply t r, b) ≡ answerNumber (receiveOf p t a h c payload)
+        → (after : Station) → after ≡ kept t (r .refusal) (withSender t (r .sender))
         → (left (r .refusal) after, b) ≡ answerNumber (receiveOf p t a h c payload)
-    replied c payload =
+    replied c payload r =
         kept-left t (receiveVerdict p t a h c (length payload)) (receiveOf p t a h c payload) (receive-verdict p t a h c payload)
-        (λ e. ap (λ (x : Answer × List ℕ). x .0 .next) (receive-keeps p t a h c payload e))
+        (λ e. ap (λ (x : Answer × List ℕ). x .0 .next) (receive-keeps p t a h c payload e)) (afterReply t r)
 
-    pub connected : (c : ConnAck) (r : Left) (b : List ℕ) → (r, b) ≡ answerNumber (receiveOf p t a h (R.ConnAck c) []) → Unit {0}
-        → (after : Station) → after ≡ kept t (r .refusal) (r .next)
+    pub connected : (c : ConnAck) (r : LeftSender) (b : List ℕ) → (afterReply t r, b) ≡ answerNumber (receiveOf p t a h (R.ConnAck c) []) → Unit {0}
+        → (after : Station) → after ≡ kept t (r .refusal) (withSender t (r .sender))
         → (left (r .refusal) after, b) ≡ answerNumber (receiveOf p t a h (R.ConnAck c) [])
     connected c r b said u = replied (R.ConnAck c) [] r b said
 
-    pub short : (c : Ack) (r : Left) (b : List ℕ) → (r, b) ≡ answerNumber (receiveOf p t a h (R.Ack c) []) → Unit {0}
-        → (after : Station) → after ≡ kept t (r .refusal) (r .next)
+    pub short : (c : Ack) (r : LeftSender) (b : List ℕ) → (afterReply t r, b) ≡ answerNumber (receiveOf p t a h (R.Ack c) []) → Unit {0}
+        → (after : Station) → after ≡ kept t (r .refusal) (withSender t (r .sender))
         → (left (r .refusal) after, b) ≡ answerNumber (receiveOf p t a h (R.Ack c) [])
     short c r b said u = replied (R.Ack c) [] r b said
 
-    pub long : (c : LongAck) (payload : List ℕ) (r : Left) (b : List ℕ) → (r, b) ≡ answerNumber (receiveOf p t a h (R.LongAck c) payload)
-        → Unit {0} → (after : Station) → after ≡ kept t (r .refusal) (r .next)
+    pub long : (c : LongAck) (payload : List ℕ) (r : LeftSender) (b : List ℕ) → (afterReply t r, b) ≡ answerNumber (receiveOf p t a h (R.LongAck c) payload)
+        → Unit {0} → (after : Station) → after ≡ kept t (r .refusal) (withSender t (r .sender))
         → (left (r .refusal) after, b) ≡ answerNumber (receiveOf p t a h (R.LongAck c) payload)
     long c payload r b said u = replied (R.LongAck c) payload r b said
 
-    pub turned : (c : Turn) (r : Left) (b : List ℕ) → (r, b) ≡ answerNumber (receiveOf p t a h (R.Turn c) []) → Unit {0}
-        → (after : Station) → after ≡ kept t (r .refusal) (r .next)
+    pub turned : (c : Turn) (r : LeftSender) (b : List ℕ) → (afterReply t r, b) ≡ answerNumber (receiveOf p t a h (R.Turn c) []) → Unit {0}
+        → (after : Station) → after ≡ kept t (r .refusal) (withSender t (r .sender))
         → (left (r .refusal) after, b) ≡ answerNumber (receiveOf p t a h (R.Turn c) [])
     turned c r b said u = replied (R.Turn c) [] r b said
 
-    pub frames : (c : Reception) (payloads : List ℕ) (r : Left) (b : List ℕ) → (r, b) ≡ answerNumber (framesOf p t a h c payloads)
-        → Unit {0} → (after : Station) → after ≡ kept t (r .refusal) (r .next)
+    pub frames : (c : Reception) (payloads : List ℕ) (r : LeftSender) (b : List ℕ) → (afterReply t r, b) ≡ answerNumber (framesOf p t a h c payloads)
+        → Unit {0} → (after : Station) → after ≡ kept t (r .refusal) (withSender t (r .sender))
         → (left (r .refusal) after, b) ≡ answerNumber (framesOf p t a h c payloads)
     frames c payloads r b said u =
         kept-left t (framesVerdict p t a h (c .n)) (framesOf p t a h c payloads) (frames-verdict p t a h c payloads)
-        (λ e. ap (λ (x : Answer × List ℕ). x .0 .next) (frames-keeps p t a h c payloads e)) r b said
+        (λ e. ap (λ (x : Answer × List ℕ). x .0 .next) (frames-keeps p t a h c payloads e)) (afterReply t r) b said
 
   pub sent : (out : List ℕ) (r : LeftBurst) (b o : List ℕ) → (r, (b, o)) ≡ burstNumber (burstCall p t a out)
       → (l : Left) → (l .refusal ≡ r .burst .refusal) × (l .next ≡ r .next)

@@ -5,9 +5,8 @@ use adif::Logged;
 use card::CardAnswer;
 use card::Found;
 use config::Profile;
+use messages::Messages;
 use numbered::Burst;
-use numbered::Left;
-use numbered::LeftBurst;
 use numbered::Message;
 use numbered::Place;
 use queuing::Station;
@@ -15,6 +14,7 @@ use reachable::Listing;
 use receiver::Received;
 use receiver::Receiver;
 use reception::Reception;
+use record::Sender;
 use replies::Ack;
 use replies::ConnAck;
 use replies::Heard;
@@ -23,7 +23,7 @@ use replies::Turn;
 use report::ChanClass;
 ghost use mathlib.Core.Path.{_≡_};
 ghost use mathlib.Core.List.{[]};
-ghost use Rattle.queuing.specs.Station.{freshStation};
+ghost use Rattle.queuing.specs.Station.{freshStation, withSender, withMessages};
 ghost use Rattle.sender.specs.Calls.{queueOf, receiveOf, framesOf, findOf, pieceOf, burstCall};
 ghost use Rattle.refusals.specs.declared.Reply.the-variants as R;
 ghost use Rattle.numbered.specs.Numbered.{answerNumber, burstNumber, findNumber};
@@ -40,6 +40,25 @@ fn keep(t: &mut Station, refusal: u8, next: Station)
 {
     if refusal == 0 {
         *t = next;
+    }
+}
+
+// The same of a reply: the messages stay.
+fn keep_sender(t: &mut Station, answer: u8, next: Sender)
+    ensures { λ _. ⌜ now (t .exit) ≡ kept (now (t .entry)) answer (withSender (now (t .entry)) next) ⌝ }
+{
+    if answer == 0 {
+        t.sender = next;
+    }
+}
+
+// The same of a queuing: the rest of the record stays.
+fn keep_queue(t: &mut Station, taken: u8, messages: Messages, waiting: u32)
+    ensures { λ _. ⌜ now (t .exit) ≡ kept (now (t .entry)) taken (withMessages (now (t .entry)) messages waiting) ⌝ }
+{
+    if taken == 0 {
+        t.messages = messages;
+        t.sender.counts.waiting = waiting;
     }
 }
 
@@ -60,21 +79,6 @@ fn card_answer(q: Found) -> CardAnswer
         refusal: q.refusal,
         stretched: q.stretched,
     }
-}
-
-// What a burst leaves, as of the other calls; and the burst.
-fn after_burst(q: LeftBurst) -> Left
-    ensures { λ r. ⌜ (r .refusal ≡ q .burst .refusal) × (r .next ≡ q .next) ⌝ }
-{
-    let refusal = q.burst.refusal;
-    let next = q.next;
-    Left { refusal, next }
-}
-
-fn made(q: LeftBurst) -> Burst
-    ensures { λ r. ⌜ r ≡ q .burst ⌝ }
-{
-    q.burst
 }
 
 // The record of a new station.
@@ -99,7 +103,7 @@ pub extern "C" fn vanitycrow_queue(
         ≡ answerNumber (queueOf (now (p .entry)) (now (t .entry)) (now (a .entry)) (m .class) (m .label) (now (bytes .entry))) ⌝ }
 {
     let q = numbered::queue(*p, *t, a, m, bytes);
-    keep(t, q.refusal, q.next);
+    keep_queue(t, q.refusal, q.messages, q.waiting);
     q.refusal
 }
 
@@ -116,7 +120,7 @@ pub extern "C" fn vanitycrow_connect(
         ≡ answerNumber (receiveOf (now (p .entry)) (now (t .entry)) (now (a .entry)) h (R.ConnAck r) []) ⌝ }
 {
     let q = numbered::connect(*p, *t, a, h, r);
-    keep(t, q.refusal, q.next);
+    keep_sender(t, q.refusal, q.sender);
     q.refusal
 }
 
@@ -133,7 +137,7 @@ pub extern "C" fn vanitycrow_short_ack(
         ≡ answerNumber (receiveOf (now (p .entry)) (now (t .entry)) (now (a .entry)) h (R.Ack r) []) ⌝ }
 {
     let q = numbered::short_ack(*p, *t, a, h, r);
-    keep(t, q.refusal, q.next);
+    keep_sender(t, q.refusal, q.sender);
     q.refusal
 }
 
@@ -151,7 +155,7 @@ pub extern "C" fn vanitycrow_long_ack(
         ≡ answerNumber (receiveOf (now (p .entry)) (now (t .entry)) (now (a .entry)) h (R.LongAck r) (now (payload .entry))) ⌝ }
 {
     let q = numbered::long_ack(*p, *t, a, h, r, payload);
-    keep(t, q.refusal, q.next);
+    keep_sender(t, q.refusal, q.sender);
     q.refusal
 }
 
@@ -168,7 +172,7 @@ pub extern "C" fn vanitycrow_turn(
         ≡ answerNumber (receiveOf (now (p .entry)) (now (t .entry)) (now (a .entry)) h (R.Turn r) []) ⌝ }
 {
     let q = numbered::turn(*p, *t, a, h, r);
-    keep(t, q.refusal, q.next);
+    keep_sender(t, q.refusal, q.sender);
     q.refusal
 }
 
@@ -186,7 +190,7 @@ pub extern "C" fn vanitycrow_frames(
         ≡ answerNumber (framesOf (now (p .entry)) (now (t .entry)) (now (a .entry)) h r (now (payloads .entry))) ⌝ }
 {
     let q = numbered::frames(*p, *t, a, h, r, payloads);
-    keep(t, q.refusal, q.next);
+    keep_sender(t, q.refusal, q.sender);
     q.refusal
 }
 
@@ -202,9 +206,9 @@ pub extern "C" fn vanitycrow_data_burst(
         ≡ burstNumber (burstCall (now (p .entry)) (now (t .entry)) (now (a .entry)) (now (out .entry))) ⌝ }
 {
     let q = numbered::data_burst(*p, *t, a, out);
-    let l = after_burst(q);
+    let l = numbered::after_burst(q);
     keep(t, l.refusal, l.next);
-    made(q)
+    numbered::made(q)
 }
 
 // Where the bytes of the piece at `off` lie in the work area.

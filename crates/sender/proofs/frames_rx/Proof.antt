@@ -59,10 +59,10 @@ same-length c = search needs
 
 returns : tie.Need-returns
 returns c =
-    let v = c .before .before in
+    let v = c .before .before .before in
     let s = S v in
     frames-refused (s .args .p) (s .args .t) (now (s .args .a)) (s .args .h) (s .args .r) (now (s .args .payloads)) _ (asked v)
-    (not-passed _ _ _ (asked v) (c .before .number .ensures) (c .if1 .taken))
+    (not-passed _ _ _ (asked v) (c .before .before .number .ensures) (c .before .if1 .taken))
 
 hear-frames-requires : tie.Need-hear-frames-requires
 hear-frames-requires c κs =
@@ -77,10 +77,10 @@ same-length-2 c = search needs
 
 returns-2 : tie.Need-returns-2
 returns-2 c =
-    let e = c .before .before .before .before .before in
+    let e = c .before .before .before .before in
     let s = S (e .before .before) in
     frames-accepted (s .args .p) (s .args .t) (now (s .args .a)) (s .args .h) (s .args .r) (now (s .args .payloads)) (accepted e) _ _ (asked (e .before .before))
-    (c .before .before .before .hear-frames .ensures)
+    (c .before .before .hear-frames .ensures)
 
 pub frames-rx-spec : {M : Type 1} → statement M
 frames-rx-spec =

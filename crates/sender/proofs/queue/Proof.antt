@@ -5,7 +5,11 @@ use mathlib.Core.Path.{_≡_, sym, ap, _∙_}
 use Prim.Native.Nat.{ℕ}
 use lib.ListN.{length}
 use borrow.Author.Needs.{needs, length-unmapped}
+use Rattle.laws.specs.Bytes.{Bytes}
+use Rattle.messages.specs.SoundCode.{Sized}
 use Rattle.messages.proofs.Kept.{ok-sound}
+use Rattle.queuing.specs.StationCode.{Fit, storeWaiting}
+use Rattle.queuing.proofs.Queuing.{queued-waiting}
 use Rattle.record.proofs.View.{Arrays}
 use Rattle.refusals.specs.declared.Verdict.{Verdict}
 use Rattle.verdicts.specs.Verdicts.{passed, firstOf, roomVerdict, queueVerdict}
@@ -13,7 +17,7 @@ use Rattle.verdicts.proofs.Passed.{is-passed, not-passed, Stands, standing-thre
 use Rattle.sender.proofs.Answered.{queue-refused, queue-accepted, queue-fit}
 use Rattle.sender.proofs.queue.Statement.{statement}
 use Rattle.sender.proofs.queue.Tie as tie
-use Rattle.limits.specs.Limits.{maxSlots}
+use Rattle.limits.specs.Limits.{maxSlots, maxMessages}
 
 arrays : (s : tie.Start) → Arrays (s .args .t .sender)
 arrays s =
@@ -27,12 +31,24 @@ arrays s =
       sentHeld = length-unmapped ℕ (b .held) maxSlots (s .good .1 .0 .1 .1 .0 .1 .1 .1 .1 .1 .1 .0 .1 .1 .1 .1 .0 .1 .0 .1);
     }
 
+sized : (s : tie.Start) → Sized (s .args .t .messages)
+sized s =
+    let m = s .args .t .messages in
+    record {
+      left = length-unmapped ℕ (m .left) maxMessages (s .good .1 .0 .1 .1 .1 .0 .1 .1 .0 .1 .0 .1);
+      class = length-unmapped ℕ (m .class) maxMessages (s .good .1 .0 .1 .1 .1 .0 .1 .1 .1 .0 .1 .0 .1);
+      label = length-unmapped ℕ (m .label) maxMessages (s .good .1 .0 .1 .1 .1 .0 .1 .1 .1 .1 .0 .1 .0 .1);
+    }
+
 -- where the verdict is there
 abbrev Judged : Type 0
 Judged = tie.After-queue-verdict
 
 abbrev S : Judged → tie.Start
 S v = v .before .before .before .before .before
+
+bytes : (v : Judged) → Bytes (now (S v .args .a))
+bytes v = λ k. v .before .before .before .before .slice-known .given k .fits
 
 abbrev verdict : tie.Start → Verdict
 verdict s = queueVerdict (s .args .p) (s .args .t) (now (s .args .a)) (s .args .class) (s .args .label) (length (now (s .args .bytes)))
@@ -65,23 +81,32 @@ same-length c = search needs
 
 returns : tie.Need-returns
 returns c =
-    let v = c .before .before in
+    let v = c .before .before .before in
     let s = S v in
-    queue-refused (s .args .p) (s .args .t) (now (s .args .a)) (s .args .class) (s .args .label) (now (s .args .bytes)) _ (asked v) (not-passed _ _ _ (asked v) (c .before .number .ensures) (c .if1 .taken))
+    queue-refused (s .args .p) (s .args .t) (now (s .args .a)) (s .args .class) (s .args .label) (now (s .args .bytes)) _ (asked v)
+    (not-passed _ _ _ (asked v) (c .before .before .number .ensures) (c .before .if1 .taken))
+
+fit : (c : tie.Else1) → let a = S (c .before .before) .args in Fit (a .t) (now (a .a)) (a .label) (length (now (a .bytes)))
+fit c =
+    let s = S (c .before .before) in
+    queue-fit (s .args .p) (s .args .t) (now (s .args .a)) (s .args .class) (s .args .label) (now (s .args .bytes)) (arrays s) (accepted c)
 
 enqueue-requires : tie.Need-enqueue-requires
-enqueue-requires c κs =
-    let s = S (c .before .before .before) in
-    queue-fit (s .args .p) (s .args .t) (now (s .args .a)) (s .args .class) (s .args .label) (now (s .args .bytes)) (arrays s) (accepted (c .before))
+enqueue-requires c κs = fit (c .before .before) .space
 
 same-length-2 : tie.Need-same-length-2
 same-length-2 c = search needs
 
 returns-2 : tie.Need-returns-2
 returns-2 c =
-    let e = c .before .before .before .before in
-    let s = S (e .before .before) in
-    queue-accepted (s .args .p) (s .args .t) (now (s .args .a)) (s .args .class) (s .args .label) (now (s .args .bytes)) _ _ (asked (e .before .before)) (accepted e) (c .before .before .enqueue .ensures)
+    let e = c .before .before .before .before .before .before in
+    let v = e .before .before in
+    let s = S v in
+    let t = s .args .t in
+    let bs = now (s .args .bytes) in
+    queue-accepted (s .args .p) t (now (s .args .a)) (s .args .class) (s .args .label) bs _ _ (asked v) (accepted e)
+    (ap (storeWaiting t) (c .before .before .before .enqueue .ensures)
+    ∙ queued-waiting t (now (s .args .a)) (arrays s) (bytes v) (sized s) (s .args .class) (s .args .label) bs (fit e))
 
 pub queue-spec : {M : Type 1} → statement M
 queue-spec =

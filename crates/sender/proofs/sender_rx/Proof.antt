@@ -65,10 +65,10 @@ same-length c = search needs
 
 returns : tie.Need-returns
 returns c =
-    let v = c .before .before in
+    let v = c .before .before .before in
     let s = S v in
     receive-refused (s .args .p) (s .args .t) (now (s .args .a)) (s .args .h) (s .args .r) (now (s .args .payload)) _ (asked v)
-    (not-passed _ _ _ (asked v) (c .before .number .ensures) (c .if1 .taken))
+    (not-passed _ _ _ (asked v) (c .before .before .number .ensures) (c .before .if1 .taken))
 
 answer-requires : tie.Need-answer-requires
 answer-requires c κs =
@@ -86,10 +86,10 @@ same-length-2 c = search needs
 
 returns-2 : tie.Need-returns-2
 returns-2 c =
-    let e = c .before .before .before .before .before in
+    let e = c .before .before .before .before in
     let s = S (e .before .before) in
     receive-accepted (s .args .p) (s .args .t) (now (s .args .a)) (s .args .h) (s .args .r) (now (s .args .payload)) (accepted e) _ _ (asked (e .before .before))
-    (c .before .before .before .answer .ensures)
+    (c .before .before .answer .ensures)
 
 pub sender-rx-spec : {M : Type 1} → statement M
 sender-rx-spec =

@@ -1,9 +1,5 @@
--- `piece`: by whether its line is right. Assumes nothing.
+-- `piece`: the question, and its answer. Assumes nothing.
 use borrow.Author.Needs.{needs}
-use borrow.Author.Tests.{not-true, not-false}
-use Rattle.laws.proofs.Picks.{told-yes, told-no}
-use Rattle.list_calls.specs.Answers.{pieceSaid}
-use Rattle.list_calls.proofs.Laws.{piece-said}
 use Rattle.list_calls.proofs.answers.piece.Statement.{statement}
 use Rattle.list_calls.proofs.answers.piece.Tie as tie
 
@@ -13,29 +9,30 @@ whole-requires c κs = search needs
 done-requires : tie.Need-done-requires
 done-requires c κs = search needs
 
-wrong-requires : tie.Need-wrong-requires
-wrong-requires c κs = search needs
+cast-off : tie.Need-cast-off
+cast-off c = search needs
 
-returns : tie.Need-returns
-unfolding pieceSaid
-returns c = rw (
-  ← c .before .before .before .whole .ensures,
-  told-no _ _ (c .before .before .done .ensures) (not-true _ (c .before .if1 .taken)),
-  c .wrong .ensures,
-)
+piece-requires : tie.Need-piece-requires
+piece-requires c κs = search needs
 
-piece-text-requires : tie.Need-piece-text-requires
-piece-text-requires c κs = search needs
+find-requires : tie.Need-find-requires
+find-requires c κs = search needs
+
+piece-wrote-requires : tie.Need-piece-wrote-requires
+piece-wrote-requires c κs = search needs
 
 same-length : tie.Need-same-length
 same-length c = search needs
 
-returns-2 : tie.Need-returns-2
-unfolding pieceSaid
-returns-2 c =
+returns : tie.Need-returns
+returns c =
     let d = c .before .before .before .before .before in
-    rw (← d .before .whole .ensures, told-yes _ _ (d .done .ensures) (not-false _ (c .before .before .before .before .if1 .left)))
-    (piece-said (c .before .before .piece-text .ensures))
+    rw (
+      ← d .before .before .before .whole .ensures,
+      ← d .before .before .done .ensures,
+      ← c .before .before .before .find .ensures,
+      ← d .piece .ensures,
+    ) (c .before .before .piece-wrote .ensures)
 
 pub piece-spec : {M : Type 1} → statement M
 piece-spec =
@@ -43,8 +40,9 @@ piece-spec =
     (tie.spec
     whole-requires
     done-requires
-    wrong-requires
-    returns
-    piece-text-requires
+    cast-off
+    piece-requires
+    find-requires
+    piece-wrote-requires
     same-length
-    returns-2)
+    returns)

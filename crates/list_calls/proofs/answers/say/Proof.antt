@@ -3,9 +3,12 @@ use borrow.Author.Needs.{needs}
 use borrow.Author.Tests.{eq-eqb, ne-eqb}
 use Rattle.laws.proofs.Picks.{cond-yes, cond-no}
 use Rattle.list_calls.specs.Answers.{saidOf}
-use Rattle.list_calls.proofs.Laws.{kept, kept-both}
+use Rattle.list_calls.proofs.Laws.{kept, kept-all}
 use Rattle.list_calls.proofs.answers.say.Statement.{statement}
 use Rattle.list_calls.proofs.answers.say.Tie as tie
+
+done-requires : tie.Need-done-requires
+done-requires c κs = search needs
 
 burst-requires : tie.Need-burst-requires
 burst-requires c κs = search needs
@@ -22,8 +25,9 @@ same-length-3 c = search needs
 returns : tie.Need-returns
 unfolding saidOf
 returns c =
-    cond-yes _ _ _ _ (eq-eqb _ _ (c .before .before .before .before .before .before .before .before .before .before .if1 .taken))
-    (c .before .before .before .before .before .before .burst .ensures)
+    let q = c .before .before .before .before .before .before in
+    let d = q .before .before .before .before in
+    rw (← d .before .done .ensures, d .if1 .taken) (q .burst .ensures)
 
 piece-requires : tie.Need-piece-requires
 piece-requires c κs = search needs
@@ -37,8 +41,10 @@ same-length-5 c = search needs
 returns-2 : tie.Need-returns-2
 unfolding saidOf
 returns-2 c =
-    cond-no _ _ _ _ (ne-eqb _ _ (c .before .before .before .before .before .before .before .if1 .left))
-    (cond-yes _ _ _ _ (eq-eqb _ _ (c .before .before .before .before .before .if2 .taken)) (kept-both (c .before .before .piece .ensures)))
+    let k = c .before .before .before .before .before in
+    let d = k .before .before in
+    rw (← d .before .done .ensures, d .if1 .left)
+    (cond-yes _ _ _ _ (eq-eqb _ _ (k .if2 .taken)) (kept-all (c .before .before .piece .ensures)))
 
 asked-requires : tie.Need-asked-requires
 asked-requires c κs = search needs
@@ -52,14 +58,16 @@ same-length-7 c = search needs
 returns-3 : tie.Need-returns-3
 unfolding saidOf
 returns-3 c =
-    cond-no _ _ _ _ (ne-eqb _ _ (c .before .before .before .before .before .before .before .before .before .if1 .left))
-    (cond-no _ _ _ _ (ne-eqb _ _ (c .before .before .before .before .before .before .before .if2 .left))
-    (kept (c .before .before .before .before .asked .ensures)))
+    let q = c .before .before .before .before in
+    let k = q .before .before .before in
+    let d = k .before .before in
+    rw (← d .before .done .ensures, d .if1 .left) (cond-no _ _ _ _ (ne-eqb _ _ (k .if2 .left)) (kept (q .asked .ensures)))
 
 pub say-spec : {M : Type 1} → statement M
 say-spec =
     tie.close
     (tie.spec
+    done-requires
     burst-requires
     same-length
     same-length-2

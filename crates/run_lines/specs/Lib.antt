@@ -1,0 +1,2 @@
+pub mod RunLinesCode
+pub mod RunLines
