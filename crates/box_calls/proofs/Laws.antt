@@ -13,7 +13,7 @@ use Rattle.box_lines.specs.BoxLines.{receivedLine}
 use Rattle.receiver.specs.declared.Listened.{Listened}
 use Rattle.box_calls.specs.declared.Box.{Box}
 use Rattle.box_calls.specs.declared.BoxLeft.{BoxLeft}
-use Rattle.box_calls.specs.BoxCalls.{boxLeft, after, keeping}
+use Rattle.box_calls.specs.BoxCalls.{boxLeft, afterReception, windowKept}
 
 -- ---- tests
 
@@ -63,10 +63,10 @@ module _ (name : List ℕ) (heard : Bool) (b : Box) (t : ℕ × List ℕ) where
   words q out = receivedLine name (q .answer) (take (q .answer .handed) out)
 
   abbrev taking : Listened × Pair → BoxLeft × Pair
-  taking x = let u : ℕ × List ℕ = appended t (words (x .0) (x .1 .1)) in (boxLeft true (u .0) (after heard (x .0) b), (x .1 .0, u .1))
+  taking x = let u : ℕ × List ℕ = appended t (words (x .0) (x .1 .1)) in (boxLeft true (u .0) (afterReception heard (x .0) b), (x .1 .0, u .1))
 
   pub taken-said : {q : Listened} {w₁ out₁ t₁ : List ℕ} {k : ℕ} {next : Box} {x : Listened × Pair} → (q, (w₁, out₁)) ≡ x
-      → (k, t₁) ≡ appended t (words q out₁) → next ≡ after heard q b → hearing (next, w₁) (k, t₁) ≡ taking x
+      → (k, t₁) ≡ appended t (words q out₁) → next ≡ afterReception heard q b → hearing (next, w₁) (k, t₁) ≡ taking x
   taken-said {q} {w₁} e f g = ap₂ (λ (n : Box) (u : ℕ × List ℕ). hearing (n, w₁) u) g f ∙ ap taking e
 
 -- what is behind the places lent
@@ -85,8 +85,8 @@ keepsWindow w m = (m .0, (w, m .1))
 pub window-kept : {q : BoxLeft} {w h₁ t₁ : List ℕ} {m : BoxLeft × Pair} → (q, (h₁, t₁)) ≡ m → keepsWindow w (q, (h₁, t₁)) ≡ keepsWindow w m
 window-kept {q} {w} e = ap (keepsWindow w) e
 
-pub kept : {q : BoxLeft} {w t₁ : List ℕ} {m : BoxLeft × List ℕ} → (q, t₁) ≡ m → keeping w (q, t₁) ≡ keeping w m
-kept {q} {w} e = ap (keeping w) e
+pub kept : {q : BoxLeft} {w t₁ : List ℕ} {m : BoxLeft × List ℕ} → (q, t₁) ≡ m → windowKept w (q, t₁) ≡ windowKept w m
+kept {q} {w} e = ap (windowKept w) e
 
 abbrev keepsHeard : List ℕ → BoxLeft × Pair → BoxLeft × (List ℕ × Pair)
 keepsHeard h m = (m .0, (m .1 .0, (h, m .1 .1)))

@@ -33,8 +33,8 @@ abbrev pub mostBytes : ℕ
 mostBytes = 513
 
 -- bytes that a frame of a burst has at most, and the places that a line may name
-abbrev pub frameBytes : ℕ
-frameBytes = 512
+abbrev pub burstFrameBytes : ℕ
+burstFrameBytes = 512
 
 abbrev pub mostPlaces : ℕ
 mostPlaces = 1024
@@ -103,8 +103,8 @@ heardSaid chars r b h t =
 
 -- what a reception leaves: its record and its answer; "A refused `receive` keeps the frames heard, and `arrive` neither takes nor clears
 -- them"
-unfoldable pub after : Bool → Listened → Box → Box
-after heard q b =
+unfoldable pub afterReception : Bool → Listened → Box → Box
+afterReception heard q b =
     cond (eqb (q .answer .refusal) 0)
     (record {
       receiver = q .next;
@@ -127,7 +127,7 @@ module _ (name : List ℕ) (heard : Bool) (number db : ℕ) (bytes sizes slots :
   takenIn w out t =
       let x : Listened × (List ℕ × List ℕ) = receptionOf (b .receiver) w number bytes sizes slots db out in
       let u : ℕ × List ℕ = appended t (receivedLine name (x .0 .answer) (take (x .0 .answer .handed) (x .1 .1))) in
-      (boxLeft true (u .0) (after heard (x .0) b), (x .1 .0, u .1))
+      (boxLeft true (u .0) (afterReception heard (x .0) b), (x .1 .0, u .1))
 
   -- most: the output that is lent, of 32,768 zeros
   unfoldable pub takenSaid : ℕ → List ℕ → ℕ × List ℕ → BoxLeft × (List ℕ × List ℕ)
@@ -148,11 +148,11 @@ framesAt size sent (place ∷ places) = take size (drop (place * size) sent) ++ 
 
 -- room for the frames at so many places
 unfoldable pub framesRoom : List ℕ
-framesRoom = replicate (frameBytes * mostPlaces) 0
+framesRoom = replicate (burstFrameBytes * mostPlaces) 0
 
 unfoldable pub arrivingSaid : ℕ → List ℕ → Box → ℕ → List ℕ → List ℕ → ℕ × List ℕ → BoxLeft × (List ℕ × List ℕ)
 arrivingSaid db places b most w sent t =
-    let bytes : List ℕ = overwrite framesRoom 0 (framesAt (min (b .size) frameBytes) sent places) in
+    let bytes : List ℕ = overwrite framesRoom 0 (framesAt (min (b .size) burstFrameBytes) sent places) in
     takenSaid (text "arrive") false (b .number) db bytes (replicate mostPlaces (b .size)) places b most w t
 
 unfoldable pub arriveSaid : List ℕ → Read → Box → ℕ → List ℕ → List ℕ → ℕ × List ℕ → BoxLeft × (List ℕ × List ℕ)
@@ -195,8 +195,8 @@ showSaid chars r b w t =
 -- ---- the lines
 
 -- the window stays as it was
-abbrev pub keeping : List ℕ → BoxLeft × List ℕ → BoxLeft × (List ℕ × List ℕ)
-keeping w x = (x .0, (w, x .1))
+abbrev pub windowKept : List ℕ → BoxLeft × List ℕ → BoxLeft × (List ℕ × List ℕ)
+windowKept w x = (x .0, (w, x .1))
 
 unfoldable pub receptionsSaid : List ℕ → Box → ℕ → List ℕ → List ℕ → List ℕ → ℕ × List ℕ → BoxLeft × (List ℕ × List ℕ)
 receptionsSaid chars b most w h sent t =
@@ -209,8 +209,8 @@ unfoldable pub otherSaid : List ℕ → Box → ℕ → List ℕ → List ℕ �
 otherSaid chars b most w h sent t =
     let lends : Read = begun chars (text "window") in
     let shows : Read = begun chars (text "box") in
-    cond (lends .ok) (keeping w (windowSaid chars lends b t))
-    (cond (shows .ok) (keeping w (showSaid chars shows b w t)) (receptionsSaid chars b most w h sent t))
+    cond (lends .ok) (windowKept w (windowSaid chars lends b t))
+    (cond (shows .ok) (windowKept w (showSaid chars shows b w t)) (receptionsSaid chars b most w h sent t))
 
 -- the window, the bytes of the frames heard, and the buffer after it
 unfoldable pub listenSaid : List ℕ → Box → ℕ → List ℕ → List ℕ → List ℕ → ℕ × List ℕ → BoxLeft × (List ℕ × (List ℕ × List ℕ))
@@ -243,5 +243,5 @@ burstSent number frames size out x =
     )
 
 -- `reply` is a long ack whose payload is the box's last answer: the line's characters, and none where it has not answered
-unfoldable pub replyLine : List ℕ → Box → List ℕ → ℕ × List ℕ
-replyLine chars b l = cond (b .answered) (appended (0, l) (chars ++ hex (b .answer))) (0, l)
+unfoldable pub longAckLine : List ℕ → Box → List ℕ → ℕ × List ℕ
+longAckLine chars b l = cond (b .answered) (appended (0, l) (chars ++ hex (b .answer))) (0, l)

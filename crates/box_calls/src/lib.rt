@@ -22,10 +22,10 @@ ghost use Prim.Native.Nat.{_+_, _*_, _≤_, _<_, min};
 ghost use lib.Dec.{leb};
 ghost use lib.ListN.{length, take};
 ghost use Rattle.laws.specs.Bytes.{overwrite};
-ghost use Rattle.box_calls.specs.BoxCalls.{mostHeard, mostBytes, frameBytes, mostPlaces, freshBox, boxLeft, keepFrame};
-ghost use Rattle.box_calls.specs.BoxCalls.{frameSaid, heardSaid, after, takenIn, takenSaid, receiveSaid, framesRoom, framesAt};
+ghost use Rattle.box_calls.specs.BoxCalls.{mostHeard, mostBytes, burstFrameBytes, mostPlaces, freshBox, boxLeft, keepFrame};
+ghost use Rattle.box_calls.specs.BoxCalls.{frameSaid, heardSaid, afterReception, takenIn, takenSaid, receiveSaid, framesRoom, framesAt};
 ghost use Rattle.box_calls.specs.BoxCalls.{arrivingSaid, arriveSaid, windowSaid, showSaid, receptionsSaid, otherSaid};
-ghost use Rattle.box_calls.specs.BoxCalls.{listenSaid, burstSent, replyLine};
+ghost use Rattle.box_calls.specs.BoxCalls.{listenSaid, burstSent, longAckLine};
 
 // Frames that may be heard before a reception, and the bytes of one that are kept: one of 513 is left out by its length.
 const MOST_HEARD: usize = 128;
@@ -166,7 +166,7 @@ fn hear(line: &[u8], r: Read, b: Box, h: &mut [u8], t: &mut [u8], n: usize) -> B
 
 // What a reception leaves: its record and its answer, where it was not refused. heard: it took the frames heard.
 fn after(b: Box, q: Listened, heard: bool) -> Box
-    ensures { λ r. ⌜ r ≡ after heard q b ⌝ }
+    ensures { λ r. ⌜ r ≡ afterReception heard q b ⌝ }
 {
     let a = q.answer;
     if a.refusal != 0 {
@@ -302,7 +302,7 @@ fn receive(
 
 // A frame's size, as far as there is room for frames.
 fn frame_size(size: u16) -> usize
-    ensures { λ r. ⌜ r ≡ min size frameBytes ⌝ }
+    ensures { λ r. ⌜ r ≡ min size burstFrameBytes ⌝ }
 {
     if size < FRAME_BYTES {
         return size as usize;
@@ -312,7 +312,7 @@ fn frame_size(size: u16) -> usize
 
 // The last burst's frames at these places, one after the other.
 fn frames_at(sent: &[u8], places: &[u8], size: usize, bytes: &mut [u8])
-    requires { ⌜ (size ≤ frameBytes) × (length (now places) ≤ mostPlaces) × (frameBytes * mostPlaces ≤ length (now bytes)) ⌝ }
+    requires { ⌜ (size ≤ burstFrameBytes) × (length (now places) ≤ mostPlaces) × (burstFrameBytes * mostPlaces ≤ length (now bytes)) ⌝ }
     ensures { λ _. ⌜ now (bytes .exit) ≡ overwrite (now (bytes .entry)) 0 (framesAt size (now (sent .entry)) (now (places .entry))) ⌝ }
 {
     let n = places.len();
@@ -513,7 +513,7 @@ pub fn burst_sent(b: Box, number: u8, frames: u8, size: u16, out: &[u8], sent: &
 
 // A line `reply` as one of a long ack, in `l`: how many characters it has, none where the box has not answered.
 pub fn reply_line(line: &[u8], b: Box, l: &mut [u8]) -> usize
-    ensures { λ r. ⌜ (r, now (l .exit)) ≡ replyLine (now (line .entry)) b (now (l .entry)) ⌝ }
+    ensures { λ r. ⌜ (r, now (l .exit)) ≡ longAckLine (now (line .entry)) b (now (l .entry)) ⌝ }
 {
     if !b.answered {
         return 0;

@@ -9,7 +9,7 @@ use Rattle.laws.specs.Bytes.{overwrite}
 use Rattle.run_lines.specs.declared.Run.{Run}
 use Rattle.run_lines.specs.declared.Told.{Told}
 use Rattle.run_lines.specs.RunLinesCode.{withStage, withFile, withTodo, withText}
-use Rattle.run_lines.specs.RunLines.{todoAnew, wroteTo, ended, begins, zeros, loaded, fileTaken, lent}
+use Rattle.run_lines.specs.RunLines.{todoAnew, wroteTo, ended, profileBegun, zeros, loaded, fileTaken, lent}
 
 -- what there is no room for is left out
 pub over-cut : (l bs : List ℕ) → overwrite l 0 (take (length l) bs) ≡ overwrite l 0 bs
@@ -35,10 +35,10 @@ pair e f = ap₂ (λ x z. (x, z)) e f
 abbrev beginning : Run → ℕ × List ℕ → Run × List ℕ
 beginning run u = (withStage 0 (withTodo todoAnew (withText (u .0) run)), u .1)
 
-pub begins-by : (run : Run) (s : Told) (t : List ℕ) {k : ℕ} {t₁ : List ℕ} → (k, t₁) ≡ ended run s t
-    → beginning run (k, t₁) ≡ begins run s t
-unfolding begins
-begins-by run s t e = ap (beginning run) e
+pub begun-by : (run : Run) (s : Told) (t : List ℕ) {k : ℕ} {t₁ : List ℕ} → (k, t₁) ≡ ended run s t
+    → beginning run (k, t₁) ≡ profileBegun run s t
+unfolding profileBegun
+begun-by run s t e = ap (beginning run) e
 
 -- a file of n bytes stands for the profile
 abbrev standing : ℕ → Run → List ℕ → ℕ × List ℕ → Run × (List ℕ × List ℕ)
@@ -70,7 +70,7 @@ abbrev keeping : List ℕ → Run × (List ℕ × List ℕ) → Run × (List ℕ
 keeping file q = (q .0, (q .1 .0, (q .1 .1, file)))
 
 pub taken-by : {p q : Run} {a₁ t₁ t₂ f₁ : List ℕ} (run : Run) (s : Told) (b : List ℕ) (stretched : Bool) (area t file : List ℕ)
-    → (p, t₁) ≡ begins run s t → (q, (a₁, t₂)) ≡ loaded p (length b) stretched area t₁ → f₁ ≡ overwrite file 0 b
+    → (p, t₁) ≡ profileBegun run s t → (q, (a₁, t₂)) ≡ loaded p (length b) stretched area t₁ → f₁ ≡ overwrite file 0 b
     → (q, (a₁, (t₂, f₁))) ≡ fileTaken run s b stretched area t file
 unfolding fileTaken
 taken-by run s b stretched area t file e f g =

@@ -28,7 +28,7 @@ use Rattle.transcript.specs.Answers.{answerLine, loadLine}
 use Rattle.run_lines.specs.declared.Run.{Run}
 use Rattle.run_lines.specs.declared.Told.{Told}
 use Rattle.run_lines.specs.RunLinesCode.{runOf, withStage, withFile, withOk, withAnew, withTodo, withLen, withArea, withOut}
-use Rattle.run_lines.specs.RunLinesCode.{withText, withNumber, withSize}
+use Rattle.run_lines.specs.RunLinesCode.{withText, withLastNumber, withSize}
 
 -- ---- the run
 
@@ -66,7 +66,7 @@ noneYet = runOf 1000 0 true true todoDone 0 0 0 0 0 0
 
 -- before a line: no box is to start any more, and the last burst's number is known
 abbrev pub lookedAt : Run → ℕ → Run
-lookedAt run number = withAnew false (withNumber number (withTodo todoNew run))
+lookedAt run number = withAnew false (withLastNumber number (withTodo todoNew run))
 
 -- after a line: whether it was right, and what is used of the transcript's buffer
 abbrev pub leftBy : Run → Bool → ℕ → Run
@@ -77,8 +77,8 @@ unfoldable pub wroteTo : Run → ℕ → Run
 wroteTo run n = withText n (withTodo todoDone run)
 
 -- after one that "breaks these rules"
-abbrev pub failed : Run → Run
-failed run = withOk false (withTodo todoDone run)
+abbrev pub brokenRun : Run → Run
+brokenRun run = withOk false (withTodo todoDone run)
 
 -- a line of n characters is to ask
 abbrev pub toAsk : Run → ℕ → ℕ → Run
@@ -114,8 +114,8 @@ unfoldable pub ended : Run → Told → List ℕ → ℕ × List ℕ
 ended run s t = cond (eqb (run .stage) profileLines) (appended (run .text, t) (endLine (s .counts) (s .withdrawn))) (run .text, t)
 
 -- `profile`: the sender before it ends, and a fresh one is there while the profile's lines follow
-unfoldable pub begins : Run → Told → List ℕ → Run × List ℕ
-begins run s t = let u : ℕ × List ℕ = ended run s t in (withStage 0 (withTodo todoAnew (withText (u .0) run)), u .1)
+unfoldable pub profileBegun : Run → Told → List ℕ → Run × List ℕ
+profileBegun run s t = let u : ℕ × List ℕ = ended run s t in (withStage 0 (withTodo todoAnew (withText (u .0) run)), u .1)
 
 -- "`profile` starts a fresh sender, a work area of 65,536 zeros of which 49,152 are lent, and an output of 32,768 zeros, all lent":
 -- so it stands at the last of the profile's lines
@@ -132,7 +132,7 @@ nextLine chars run area v =
     let w : List ℕ = lineRead chars (lineAt k) v .1 in
     cond (lineOk chars (lineAt k) v)
     (cond (leb 32 k) (started run, (zeros area, w)) (withStage (k + 1) (withTodo todoAnew run), (area, w)))
-    (failed run, (area, w))
+    (brokenRun run, (area, w))
 
 -- with the buffer as it was, with work area and numbers as they were
 abbrev pub bufferKept : List ℕ → Run × (List ℕ × List ℕ) → Run × (List ℕ × (List ℕ × List ℕ))
@@ -146,7 +146,7 @@ unfoldable pub profilePart : List ℕ → Run → Told → List ℕ → List ℕ
 profilePart chars run s area t v =
     cond (passedOver chars) (withTodo todoDone run, (area, (t, v)))
     (cond (ltb (run .stage) profileLines) (bufferKept t (nextLine chars run area v))
-    (cond (isProfile chars) (areaKept area v (begins run s t)) (failed run, (area, (t, v)))))
+    (cond (isProfile chars) (areaKept area v (profileBegun run s t)) (brokenRun run, (area, (t, v)))))
 
 -- `load ok`: the file of n bytes stands for the profile, "all else as after `profile`"
 unfoldable pub loaded : Run → ℕ → Bool → List ℕ → List ℕ → Run × (List ℕ × List ℕ)
@@ -157,7 +157,7 @@ loaded run n stretched area t =
 -- "where a sender was there before, its `end` line stands before"; the file is kept: run, work area, buffer and file
 unfoldable pub fileTaken : Run → Told → List ℕ → Bool → List ℕ → List ℕ → List ℕ → Run × (List ℕ × (List ℕ × List ℕ))
 fileTaken run s b stretched area t file =
-    let p : Run × List ℕ = begins run s t in
+    let p : Run × List ℕ = profileBegun run s t in
     let q : Run × (List ℕ × List ℕ) = loaded (p .0) (length b) stretched area (p .1) in
     (q .0, (q .1 .0, (q .1 .1, overwrite file 0 b)))
 
@@ -169,7 +169,7 @@ loads chars run s area t v file =
     cond (q .ok)
     (cond (eqb (q .refusal) 0) (fileTaken run s (take (q .len) (fileIn hexRoom chars)) (q .stretched) area t file)
     (wroteTo run (u .0), (area, (u .1, file))))
-    (failed run, (area, (t, file)))
+    (brokenRun run, (area, (t, file)))
 
 -- the profile, by its lines or by its file
 unfoldable pub profileNow : Run → List ℕ → List ℕ → Profile
@@ -198,7 +198,7 @@ unfoldable pub lends : Named → List ℕ → Run → List ℕ → Run × List �
 lends n chars run t =
     let a : Number = lengthOf chars (n .read) (mostLent (n .call)) in
     let u : ℕ × List ℕ = appended (run .text, t) (lentText (n .call)) in
-    cond (a .ok) (lent (n .call) (wroteTo run (u .0)) (a .value), u .1) (failed run, t)
+    cond (a .ok) (lent (n .call) (wroteTo run (u .0)) (a .value), u .1) (brokenRun run, t)
 
 -- the size of a frame: `frame_bytes` short, up to level 4, or long
 unfoldable pub sizeAt : ℕ → ℕ → ℕ → ℕ
@@ -234,21 +234,21 @@ called n chars run level t v file l =
 
 -- ---- any line but the box's: run, work area, buffer, numbers, file and the line that is to ask
 
-abbrev pub Left : Type 0
-Left = Run × (List ℕ × (List ℕ × (List ℕ × (List ℕ × List ℕ))))
+abbrev pub RunLeft : Type 0
+RunLeft = Run × (List ℕ × (List ℕ × (List ℕ × (List ℕ × List ℕ))))
 
 -- after `load`, after a call, after a line of a profile, with the rest as it was
-abbrev pub afterLoad : List ℕ → List ℕ → Run × (List ℕ × (List ℕ × List ℕ)) → Left
+abbrev pub afterLoad : List ℕ → List ℕ → Run × (List ℕ × (List ℕ × List ℕ)) → RunLeft
 afterLoad v l (q, (area, (t, file))) = (q, (area, (t, (v, (file, l)))))
 
-abbrev pub afterCall : List ℕ → List ℕ → List ℕ → Run × (List ℕ × List ℕ) → Left
+abbrev pub afterCall : List ℕ → List ℕ → List ℕ → Run × (List ℕ × List ℕ) → RunLeft
 afterCall area v file (q, (t, l)) = (q, (area, (t, (v, (file, l)))))
 
-abbrev pub afterPart : List ℕ → List ℕ → Run × (List ℕ × (List ℕ × List ℕ)) → Left
+abbrev pub afterPart : List ℕ → List ℕ → Run × (List ℕ × (List ℕ × List ℕ)) → RunLeft
 afterPart file l (q, (area, (t, v))) = (q, (area, (t, (v, (file, l)))))
 
 -- one that was looked at is left alone
-unfoldable pub quietLine : List ℕ → Run → Told → List ℕ → List ℕ → List ℕ → List ℕ → List ℕ → Left
+unfoldable pub quietLine : List ℕ → Run → Told → List ℕ → List ℕ → List ℕ → List ℕ → List ℕ → RunLeft
 quietLine chars run s area t v file l =
     cond (not (eqb (run .todo) todoNew)) (run, (area, (t, (v, (file, l)))))
     (cond (isLoad chars run) (afterLoad v l (loads chars run s area t v file))

@@ -55,8 +55,8 @@ abbrev pub withText : ℕ → Run → Run
 withText x r =
     runOf (r .stage) (r .file) (r .ok) (r .anew) (r .todo) (r .len) (r .area) (r .out) x (r .number) (r .size)
 
-abbrev pub withNumber : ℕ → Run → Run
-withNumber x r =
+abbrev pub withLastNumber : ℕ → Run → Run
+withLastNumber x r =
     runOf (r .stage) (r .file) (r .ok) (r .anew) (r .todo) (r .len) (r .area) (r .out) (r .text) x (r .size)
 
 abbrev pub withSize : ℕ → Run → Run

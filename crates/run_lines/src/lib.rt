@@ -30,8 +30,8 @@ ghost use Rattle.text.specs.Buffer.{appended};
 ghost use Rattle.profile_table.specs.Table.{profileOf};
 ghost use Rattle.look_lines.specs.Looks.{fileIn, loadOf};
 ghost use Rattle.run_lines.specs.RunLinesCode.{withTodo};
-ghost use Rattle.run_lines.specs.RunLines.{noneYet, lookedAt, leftBy, wroteTo, failed, toAsk, passedOver, isCall, isLoad, isBox};
-ghost use Rattle.run_lines.specs.RunLines.{ended, begins, started, zeros, nextLine, profilePart, loaded, fileTaken, loads};
+ghost use Rattle.run_lines.specs.RunLines.{noneYet, lookedAt, leftBy, wroteTo, brokenRun, toAsk, passedOver, isCall, isLoad, isBox};
+ghost use Rattle.run_lines.specs.RunLines.{ended, profileBegun, started, zeros, nextLine, profilePart, loaded, fileTaken, loads};
 ghost use Rattle.run_lines.specs.RunLines.{profileNow, lengthOf, mostLent, lent, lentText, lends, sizeAt, sizeNow, sizeAfter};
 ghost use Rattle.run_lines.specs.RunLines.{todoOf, asks, called, quietLine};
 
@@ -112,7 +112,7 @@ fn with_text(mut run: Run, n: usize) -> Run
 }
 
 fn failed(mut run: Run) -> Run
-    ensures { λ r. ⌜ r ≡ failed run ⌝ }
+    ensures { λ r. ⌜ r ≡ brokenRun run ⌝ }
 {
     run.ok = false;
     run.todo = DONE;
@@ -193,7 +193,7 @@ fn ended(run: Run, s: Told, t: &mut [u8]) -> usize
 
 // `profile`: the sender before it ends, and a fresh one is there while the profile's lines follow.
 fn begin(run: Run, s: Told, t: &mut [u8]) -> Run
-    ensures { λ q. ⌜ (q, now (t .exit)) ≡ begins run s (now (t .entry)) ⌝ }
+    ensures { λ q. ⌜ (q, now (t .exit)) ≡ profileBegun run s (now (t .entry)) ⌝ }
 {
     let mut after = run;
     after.text = ended(run, s, t);

@@ -3,12 +3,12 @@ use borrow.Author.Needs.{needs}
 use mathlib.Core.Path.{refl}
 use borrow.Author.Tests.{not-true, not-false}
 use Rattle.laws.proofs.Picks.{cond-yes, cond-no}
-use Rattle.box_calls.specs.BoxCalls.{replyLine}
+use Rattle.box_calls.specs.BoxCalls.{longAckLine}
 use Rattle.box_calls.proofs.reply_line.Statement.{statement}
 use Rattle.box_calls.proofs.reply_line.Tie as tie
 
 returns : tie.Need-returns
-unfolding replyLine
+unfolding longAckLine
 returns c =
     let p1 = c .before .before .before .before in
     let b = p1 .args .b in
@@ -24,7 +24,7 @@ same-length : tie.Need-same-length
 same-length c = search needs
 
 returns-2 : tie.Need-returns-2
-unfolding replyLine
+unfolding longAckLine
 returns-2 c =
     let p1 = c .before .before in
     let p2 = p1 .before .before .before .before in

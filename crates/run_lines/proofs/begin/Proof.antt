@@ -1,6 +1,6 @@
 -- `begin`: the sender before it ends. Assumes nothing.
 use borrow.Author.Needs.{needs}
-use Rattle.run_lines.proofs.Laws.{begins-by}
+use Rattle.run_lines.proofs.Laws.{begun-by}
 use Rattle.run_lines.proofs.begin.Statement.{statement}
 use Rattle.run_lines.proofs.begin.Tie as tie
 
@@ -11,7 +11,7 @@ same-length : tie.Need-same-length
 same-length c = search needs
 
 returns : tie.Need-returns
-returns c = begins-by _ _ _ (c .before .before .ended .ensures)
+returns c = begun-by _ _ _ (c .before .before .ended .ensures)
 
 pub begin-spec : {M : Type 1} → statement M
 begin-spec = tie.close (tie.spec ended-requires same-length returns)
