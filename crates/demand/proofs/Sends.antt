@@ -45,8 +45,7 @@ use Rattle.invariant.proofs.Bursts.{burst-kept, choice-fits, choice-keeps-air}
 use Rattle.data_burst.proofs.burst.Sends.{frame-least}
 use Rattle.verdicts.specs.Verdicts.{passed, burstVerdict}
 use Rattle.verdicts.proofs.Passed.{burst-passed}
-use Rattle.sender.specs.declared.Bursted.{Bursted}
-use Rattle.sender.specs.Calls.{burstCall}
+use Rattle.sender.specs.Calls.{Bursted, burstCall}
 use Rattle.demand.specs.Lists.{Call, bursts, shown, framesAnswered, next, told}
 use Rattle.demand.specs.Page.{byOffset, Taken, framesOfTaken, sumOf, onAir, allowance, anyIncrement, messages, bytes, c, s, t, answer, leaves, Sends}
 use Rattle.demand.proofs.Answers.{burst-is, burst-told, burst-verdict}

@@ -57,9 +57,7 @@ use Rattle.reception.specs.declared.Reception.{Reception}
 use Rattle.outgoing.specs.Outgoing.{burstOf}
 use Rattle.outgoing.specs.declared.Outgoing.{Outgoing}
 use Rattle.sender.specs.Base.{standingBase, queueVerdictBase, queueBase, receiveBase, framesBase, burstBase}
-use Rattle.sender.specs.Calls.{queueOf, receiveOf, framesOf, noBurst, burstCall}
-use Rattle.sender.specs.declared.Answer.{Answer}
-use Rattle.sender.specs.declared.Bursted.{Bursted}
+use Rattle.sender.specs.Calls.{Answer, Bursted, queueOf, receiveOf, framesOf, noBurst, burstCall}
 use Rattle.demand.specs.Lists.{Call, queues, hears, receives, bursts, State, Given, freshStart, shown, next}
 use Rattle.demand.specs.Single.{BaseCall, plain, Said, justVerdict, BaseState, nextBase, saidBase, allSaidBase, said, tooMany, erased, allSaid, OneClass, SingleClass}
 use Rattle.laws.specs.Bytes.{Bytes}

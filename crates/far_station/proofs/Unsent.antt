@@ -17,8 +17,7 @@ use Rattle.ledger.specs.ClaimCode.{Carry}
 use Rattle.ledger.specs.Ledger.{Frame, Piece, len, find}
 use Rattle.ledger.specs.Tally.{Tally, Event, silent, went, Flown, start, within, feed, framesTold}
 use Rattle.ledger.proofs.PerOffset.{acked-exactly}
-use Rattle.sender.specs.declared.Bursted.{Bursted}
-use Rattle.sender.specs.Calls.{burstCall}
+use Rattle.sender.specs.Calls.{Bursted, burstCall}
 use Rattle.verdicts.specs.Verdicts.{passed}
 use Rattle.demand.specs.Lists.{Call, bursts, State, Given, freshStart, shown, framesAnswered, next, told}
 use Rattle.demand.specs.Page.{c as reached, t as tallied, answer}

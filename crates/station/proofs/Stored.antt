@@ -23,17 +23,15 @@ use Rattle.refusals.specs.declared.Reply.the-variants as R
 use Rattle.refusals.specs.declared.Verdict.{Verdict}
 use Rattle.refusals.specs.Refusals.{numberOf}
 use Rattle.verdicts.specs.Verdicts.{passed, queueVerdict, receiveVerdict, framesVerdict, burstVerdict}
-use Rattle.sender.specs.declared.Answer.{Answer}
-use Rattle.sender.specs.declared.Bursted.{Bursted}
-use Rattle.sender.specs.Calls.{queueOf, receiveOf, framesOf, burstCall}
+use Rattle.sender.specs.Calls.{Answer, Bursted, queueOf, receiveOf, framesOf, burstCall}
 use Rattle.sender.proofs.Refused.{queue-verdict, receive-verdict, frames-verdict, burst-verdict, queue-keeps, receive-keeps, frames-keeps, burst-keeps}
-use Rattle.numbered.specs.declared.Message.{Message}
-use Rattle.numbered.specs.declared.Left.{Left}
-use Rattle.numbered.specs.declared.Burst.{Burst}
-use Rattle.numbered.specs.declared.LeftBurst.{LeftBurst}
-use Rattle.numbered.specs.declared.LeftQueue.{LeftQueue}
-use Rattle.numbered.specs.declared.LeftSender.{LeftSender}
-use Rattle.numbered.specs.Numbered.{answerNumber, afterReply, afterQueue, burstNumber}
+use Rattle.sender.specs.declared.Message.{Message}
+use Rattle.sender.specs.declared.Left.{Left}
+use Rattle.sender.specs.declared.Burst.{Burst}
+use Rattle.sender.specs.declared.LeftBurst.{LeftBurst}
+use Rattle.sender.specs.declared.LeftQueue.{LeftQueue}
+use Rattle.sender.specs.declared.LeftSender.{LeftSender}
+use Rattle.sender.specs.Numbered.{answerNumber, afterReply, afterQueue, burstNumber}
 use Rattle.card.specs.Card.{profileOf, readRefusal, readOf}
 use Rattle.card.specs.declared.Found.{Found}
 use Rattle.card.specs.declared.CardAnswer.{CardAnswer}

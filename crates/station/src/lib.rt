@@ -6,9 +6,6 @@ use card::CardAnswer;
 use card::Found;
 use config::Profile;
 use messages::Messages;
-use numbered::Burst;
-use numbered::Message;
-use numbered::Place;
 use queuing::Station;
 use reachable::Listing;
 use receiver::Received;
@@ -21,12 +18,15 @@ use replies::Heard;
 use replies::LongAck;
 use replies::Turn;
 use report::ChanClass;
+use sender::Burst;
+use sender::Message;
+use sender::Place;
 ghost use mathlib.Core.Path.{_≡_};
 ghost use mathlib.Core.List.{[]};
 ghost use Rattle.queuing.specs.Station.{freshStation, withSender, withMessages};
 ghost use Rattle.sender.specs.Calls.{queueOf, receiveOf, framesOf, findOf, pieceOf, burstCall};
 ghost use Rattle.refusals.specs.declared.Reply.the-variants as R;
-ghost use Rattle.numbered.specs.Numbered.{answerNumber, burstNumber, findNumber};
+ghost use Rattle.sender.specs.Numbered.{answerNumber, burstNumber, findNumber};
 ghost use Rattle.adif.specs.Adif.{logOf};
 ghost use Rattle.reachable.specs.Reachable.{listingUnder};
 ghost use Rattle.card.specs.Card.{writeOf, readOf};
@@ -102,7 +102,7 @@ pub extern "C" fn vanitycrow_queue(
     ensures { λ r. ⌜ (left r (now (t .exit)), now (a .exit))
         ≡ answerNumber (queueOf (now (p .entry)) (now (t .entry)) (now (a .entry)) (m .class) (m .label) (now (bytes .entry))) ⌝ }
 {
-    let q = numbered::queue(*p, *t, a, m, bytes);
+    let q = sender::queue(*p, *t, a, m, bytes);
     keep_queue(t, q.refusal, q.messages, q.waiting);
     q.refusal
 }
@@ -119,7 +119,7 @@ pub extern "C" fn vanitycrow_connect(
     ensures { λ q. ⌜ (left q (now (t .exit)), now (a .exit))
         ≡ answerNumber (receiveOf (now (p .entry)) (now (t .entry)) (now (a .entry)) h (R.ConnAck r) []) ⌝ }
 {
-    let q = numbered::connect(*p, *t, a, h, r);
+    let q = sender::connect(*p, *t, a, h, r);
     keep_sender(t, q.refusal, q.sender);
     q.refusal
 }
@@ -136,7 +136,7 @@ pub extern "C" fn vanitycrow_short_ack(
     ensures { λ q. ⌜ (left q (now (t .exit)), now (a .exit))
         ≡ answerNumber (receiveOf (now (p .entry)) (now (t .entry)) (now (a .entry)) h (R.Ack r) []) ⌝ }
 {
-    let q = numbered::short_ack(*p, *t, a, h, r);
+    let q = sender::short_ack(*p, *t, a, h, r);
     keep_sender(t, q.refusal, q.sender);
     q.refusal
 }
@@ -154,7 +154,7 @@ pub extern "C" fn vanitycrow_long_ack(
     ensures { λ q. ⌜ (left q (now (t .exit)), now (a .exit))
         ≡ answerNumber (receiveOf (now (p .entry)) (now (t .entry)) (now (a .entry)) h (R.LongAck r) (now (payload .entry))) ⌝ }
 {
-    let q = numbered::long_ack(*p, *t, a, h, r, payload);
+    let q = sender::long_ack(*p, *t, a, h, r, payload);
     keep_sender(t, q.refusal, q.sender);
     q.refusal
 }
@@ -171,7 +171,7 @@ pub extern "C" fn vanitycrow_turn(
     ensures { λ q. ⌜ (left q (now (t .exit)), now (a .exit))
         ≡ answerNumber (receiveOf (now (p .entry)) (now (t .entry)) (now (a .entry)) h (R.Turn r) []) ⌝ }
 {
-    let q = numbered::turn(*p, *t, a, h, r);
+    let q = sender::turn(*p, *t, a, h, r);
     keep_sender(t, q.refusal, q.sender);
     q.refusal
 }
@@ -189,7 +189,7 @@ pub extern "C" fn vanitycrow_frames(
     ensures { λ q. ⌜ (left q (now (t .exit)), now (a .exit))
         ≡ answerNumber (framesOf (now (p .entry)) (now (t .entry)) (now (a .entry)) h r (now (payloads .entry))) ⌝ }
 {
-    let q = numbered::frames(*p, *t, a, h, r, payloads);
+    let q = sender::frames_rx(*p, *t, a, h, r, payloads);
     keep_sender(t, q.refusal, q.sender);
     q.refusal
 }
@@ -205,10 +205,10 @@ pub extern "C" fn vanitycrow_data_burst(
     ensures { λ r. ⌜ (leftBurst r (now (t .exit)), (now (a .exit), now (out .exit)))
         ≡ burstNumber (burstCall (now (p .entry)) (now (t .entry)) (now (a .entry)) (now (out .entry))) ⌝ }
 {
-    let q = numbered::data_burst(*p, *t, a, out);
-    let l = numbered::after_burst(q);
+    let q = sender::data_burst(*p, *t, a, out);
+    let l = sender::after_burst(q);
     keep(t, l.refusal, l.next);
-    numbered::made(q)
+    sender::made(q)
 }
 
 // Where the bytes of the piece at `off` lie in the work area.
@@ -216,7 +216,7 @@ pub extern "C" fn vanitycrow_data_burst(
 pub extern "C" fn vanitycrow_find(p: &Profile, t: &Station, a: &[u8], off: u32) -> Place
     ensures { λ r. ⌜ r ≡ findNumber (findOf (now (p .entry)) (now (t .entry)) (now (a .entry)) off) ⌝ }
 {
-    numbered::find(*p, *t, a, off)
+    sender::find(*p, *t, a, off)
 }
 
 // The bytes of the piece at `off`: the part of the work area that holds them. Empty where refused or not found. No reference is handed to C.

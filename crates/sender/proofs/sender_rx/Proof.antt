@@ -10,7 +10,8 @@ use Rattle.record.proofs.View.{Arrays}
 use Rattle.refusals.specs.declared.Verdict.{Verdict}
 use Rattle.verdicts.specs.Verdicts.{passed, firstOf, standing, replyVerdict, receiveVerdict}
 use Rattle.verdicts.proofs.Passed.{is-passed, not-passed}
-use Rattle.sender.proofs.Answered.{receive-refused, answer-ranged, answerable, in-a-wave, receive-accepted}
+use Rattle.sender.proofs.Accepted.{receive-refused, answer-ranged, answerable, in-a-wave, receive-accepted}
+use Rattle.sender.proofs.Numbers.{answer-numbered}
 use Rattle.sender.proofs.sender_rx.Statement.{statement}
 use Rattle.sender.proofs.sender_rx.Tie as tie
 use Rattle.limits.specs.Limits.{maxSlots}
@@ -67,8 +68,10 @@ returns : tie.Need-returns
 returns c =
     let v = c .before .before .before in
     let s = S v in
-    receive-refused (s .args .p) (s .args .t) (now (s .args .a)) (s .args .h) (s .args .r) (now (s .args .payload)) _ (asked v)
-    (not-passed _ _ _ (asked v) (c .before .before .number .ensures) (c .before .if1 .taken))
+    answer-numbered _ _ _ _
+    (receive-refused (s .args .p) (s .args .t) (now (s .args .a)) (s .args .h) (s .args .r) (now (s .args .payload)) _ (asked v)
+    (not-passed _ _ _ (asked v) (c .before .before .number .ensures) (c .before .if1 .taken)))
+    (c .before .before .number .ensures)
 
 answer-requires : tie.Need-answer-requires
 answer-requires c κs =
@@ -88,8 +91,10 @@ returns-2 : tie.Need-returns-2
 returns-2 c =
     let e = c .before .before .before .before in
     let s = S (e .before .before) in
-    receive-accepted (s .args .p) (s .args .t) (now (s .args .a)) (s .args .h) (s .args .r) (now (s .args .payload)) (accepted e) _ _ (asked (e .before .before))
-    (c .before .before .answer .ensures)
+    answer-numbered _ _ _ _
+    (receive-accepted (s .args .p) (s .args .t) (now (s .args .a)) (s .args .h) (s .args .r) (now (s .args .payload)) (accepted e) _ _ (asked (e .before .before))
+    (c .before .before .answer .ensures))
+    (e .before .number .ensures)
 
 pub sender-rx-spec : {M : Type 1} → statement M
 sender-rx-spec =

@@ -14,31 +14,31 @@ use Rattle.config.proofs.Profile.Laws as T0′
 use Rattle.queuing.specs.declared.Station.{Station}
 use Rattle.queuing.proofs.Station as T1
 use Rattle.queuing.proofs.Station.Laws as T1′
-use Rattle.numbered.specs.declared.Burst.{Burst}
-use Rattle.numbered.proofs.Burst as T2
-use Rattle.numbered.proofs.Burst.Laws as T2′
-use Rattle.numbered.specs.declared.LeftBurst.{LeftBurst}
-use Rattle.numbered.proofs.LeftBurst as T3
-use Rattle.numbered.proofs.LeftBurst.Laws as T3′
-use Rattle.numbered.specs.declared.Left.{Left}
-use Rattle.numbered.proofs.Left as T4
-use Rattle.numbered.proofs.Left.Laws as T4′
-use Rattle.numbered.proofs.data_burst as g0
-use Rattle.numbered.proofs.data_burst.Symbol as g0-def
-use Rattle.numbered.proofs.data_burst.Symbol.{name as #g0}
-use Rattle.numbered.proofs.data_burst.Met as g0-thm
-use Rattle.numbered.proofs.after_burst as g1
-use Rattle.numbered.proofs.after_burst.Symbol as g1-def
-use Rattle.numbered.proofs.after_burst.Symbol.{name as #g1}
-use Rattle.numbered.proofs.after_burst.Met as g1-thm
+use Rattle.sender.specs.declared.Burst.{Burst}
+use Rattle.sender.proofs.Burst as T2
+use Rattle.sender.proofs.Burst.Laws as T2′
+use Rattle.sender.specs.declared.LeftBurst.{LeftBurst}
+use Rattle.sender.proofs.LeftBurst as T3
+use Rattle.sender.proofs.LeftBurst.Laws as T3′
+use Rattle.sender.specs.declared.Left.{Left}
+use Rattle.sender.proofs.Left as T4
+use Rattle.sender.proofs.Left.Laws as T4′
+use Rattle.sender.proofs.data_burst as g0
+use Rattle.sender.proofs.data_burst.Symbol as g0-def
+use Rattle.sender.proofs.data_burst.Symbol.{name as #g0}
+use Rattle.sender.proofs.data_burst.Met as g0-thm
+use Rattle.sender.proofs.after_burst as g1
+use Rattle.sender.proofs.after_burst.Symbol as g1-def
+use Rattle.sender.proofs.after_burst.Symbol.{name as #g1}
+use Rattle.sender.proofs.after_burst.Met as g1-thm
 use Rattle.station.proofs.keep as g2
 use Rattle.station.proofs.keep.Symbol as g2-def
 use Rattle.station.proofs.keep.Symbol.{name as #g2}
 use Rattle.station.proofs.keep.Met as g2-thm
-use Rattle.numbered.proofs.made as g3
-use Rattle.numbered.proofs.made.Symbol as g3-def
-use Rattle.numbered.proofs.made.Symbol.{name as #g3}
-use Rattle.numbered.proofs.made.Met as g3-thm
+use Rattle.sender.proofs.made as g3
+use Rattle.sender.proofs.made.Symbol as g3-def
+use Rattle.sender.proofs.made.Symbol.{name as #g3}
+use Rattle.sender.proofs.made.Met as g3-thm
 use Rattle.station.proofs.vanitycrow_data_burst.Key.{name as #f}
 use Rattle.station.proofs.vanitycrow_data_burst as f
 use Rattle.station.proofs.vanitycrow_data_burst.Statement as stated

@@ -12,13 +12,13 @@ use Rattle.config.proofs.Profile.Laws as T0′
 use Rattle.queuing.specs.declared.Station.{Station}
 use Rattle.queuing.proofs.Station as T1
 use Rattle.queuing.proofs.Station.Laws as T1′
-use Rattle.numbered.specs.declared.Place.{Place}
-use Rattle.numbered.proofs.Place as T2
-use Rattle.numbered.proofs.Place.Laws as T2′
-use Rattle.numbered.proofs.find as g0
-use Rattle.numbered.proofs.find.Symbol as g0-def
-use Rattle.numbered.proofs.find.Symbol.{name as #g0}
-use Rattle.numbered.proofs.find.Met as g0-thm
+use Rattle.sender.specs.declared.Place.{Place}
+use Rattle.sender.proofs.Place as T2
+use Rattle.sender.proofs.Place.Laws as T2′
+use Rattle.sender.proofs.find as g0
+use Rattle.sender.proofs.find.Symbol as g0-def
+use Rattle.sender.proofs.find.Symbol.{name as #g0}
+use Rattle.sender.proofs.find.Met as g0-thm
 use Rattle.station.proofs.vanitycrow_find.Key.{name as #f}
 use Rattle.station.proofs.vanitycrow_find as f
 use Rattle.station.proofs.vanitycrow_find.Statement as stated

@@ -14,18 +14,18 @@ use Rattle.config.proofs.Profile.Laws as T0′
 use Rattle.queuing.specs.declared.Station.{Station}
 use Rattle.queuing.proofs.Station as T1
 use Rattle.queuing.proofs.Station.Laws as T1′
-use Rattle.numbered.specs.declared.Message.{Message}
-use Rattle.numbered.proofs.Message as T2
-use Rattle.numbered.proofs.Message.Laws as T2′
-use Rattle.numbered.specs.declared.LeftQueue.{LeftQueue}
-use Rattle.numbered.proofs.LeftQueue as T3
-use Rattle.numbered.proofs.LeftQueue.Laws as T3′
+use Rattle.sender.specs.declared.Message.{Message}
+use Rattle.sender.proofs.Message as T2
+use Rattle.sender.proofs.Message.Laws as T2′
+use Rattle.sender.specs.declared.LeftQueue.{LeftQueue}
+use Rattle.sender.proofs.LeftQueue as T3
+use Rattle.sender.proofs.LeftQueue.Laws as T3′
 use Rattle.messages.proofs.Messages as T4
 use Rattle.messages.proofs.Messages.Laws as T4′
-use Rattle.numbered.proofs.queue as g0
-use Rattle.numbered.proofs.queue.Symbol as g0-def
-use Rattle.numbered.proofs.queue.Symbol.{name as #g0}
-use Rattle.numbered.proofs.queue.Met as g0-thm
+use Rattle.sender.proofs.queue as g0
+use Rattle.sender.proofs.queue.Symbol as g0-def
+use Rattle.sender.proofs.queue.Symbol.{name as #g0}
+use Rattle.sender.proofs.queue.Met as g0-thm
 use Rattle.station.proofs.keep_queue as g1
 use Rattle.station.proofs.keep_queue.Symbol as g1-def
 use Rattle.station.proofs.keep_queue.Symbol.{name as #g1}

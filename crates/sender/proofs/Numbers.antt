@@ -3,13 +3,11 @@ use Prim.Native.Nat.{ℕ}
 use mathlib.Core.List.{List}
 use mathlib.Core.Path.{_≡_, ap, _∙_}
 use Rattle.refusals.specs.Refusals.{numberOf}
-use Rattle.sender.specs.declared.Answer.{Answer}
-use Rattle.sender.specs.declared.Bursted.{Bursted}
-use Rattle.sender.specs.declared.Finding.{Finding}
-use Rattle.numbered.specs.declared.Left.{Left}
-use Rattle.numbered.specs.declared.LeftBurst.{LeftBurst}
-use Rattle.numbered.specs.declared.Place.{Place}
-use Rattle.numbered.specs.Numbered.{answerNumber, burstNumber, findNumber}
+use Rattle.sender.specs.Calls.{Answer, Bursted, Finding}
+use Rattle.sender.specs.declared.Left.{Left}
+use Rattle.sender.specs.declared.LeftBurst.{LeftBurst}
+use Rattle.sender.specs.declared.Place.{Place}
+use Rattle.sender.specs.Numbered.{answerNumber, burstNumber, findNumber}
 
 pub answer-numbered : (q : Answer) (a : List ℕ) (x : Answer × List ℕ) (n : ℕ) → (q, a) ≡ x → n ≡ numberOf (q .verdict)
     → (record { refusal = n; next = q .next }, a) ≡ answerNumber x

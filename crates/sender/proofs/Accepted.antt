@@ -26,13 +26,11 @@ use Rattle.replies.specs.declared.Heard.{Heard}
 use Rattle.refusals.specs.declared.Verdict.{Verdict}
 use Rattle.refusals.specs.declared.Reply.{Reply}
 use Rattle.refusals.specs.Refusals.{maxReceived, heardOk}
-use Rattle.sender.specs.declared.Answer.{Answer}
-use Rattle.sender.specs.declared.Finding.{Finding}
 use Rattle.verdicts.specs.Verdicts.{passed, standing, queueVerdict, receiveVerdict, framesVerdict}
 use Rattle.receive.specs.Accepted.{acceptedReply}
 use Rattle.reception.specs.Reception.{decodedIn, framesHeard}
 use Rattle.reception.specs.declared.Reception.{Reception}
-use Rattle.sender.specs.Calls.{queueOf, receiveOf, framesOf, findOf, pieceOf}
+use Rattle.sender.specs.Calls.{Answer, Finding, queueOf, receiveOf, framesOf, findOf, pieceOf}
 use Rattle.verdicts.proofs.Passed.{queue-passed, queue-room, receive-three, reply-passed, frames-passed}
 use Rattle.area.specs.FindCode.{bytesAt}
 use Rattle.replies.specs.RepliesCode.{ReplyReady}

@@ -4,14 +4,12 @@ use Prim.Native.Nat.{ℕ}
 use Rattle.queuing.specs.Station.{withSender, withMessages}
 use Rattle.queuing.specs.declared.Station.{Station}
 use Rattle.refusals.specs.Refusals.{numberOf}
-use Rattle.sender.specs.declared.Answer.{Answer}
-use Rattle.sender.specs.declared.Bursted.{Bursted}
-use Rattle.sender.specs.declared.Finding.{Finding}
-use Rattle.numbered.specs.declared.Left.{Left}
-use Rattle.numbered.specs.declared.LeftBurst.{LeftBurst}
-use Rattle.numbered.specs.declared.LeftQueue.{LeftQueue}
-use Rattle.numbered.specs.declared.LeftSender.{LeftSender}
-use Rattle.numbered.specs.declared.Place.{Place}
+use Rattle.sender.specs.Calls.{Answer, Bursted, Finding}
+use Rattle.sender.specs.declared.Left.{Left}
+use Rattle.sender.specs.declared.LeftBurst.{LeftBurst}
+use Rattle.sender.specs.declared.LeftQueue.{LeftQueue}
+use Rattle.sender.specs.declared.LeftSender.{LeftSender}
+use Rattle.sender.specs.declared.Place.{Place}
 
 -- with the work area after the call
 abbrev pub answerNumber : Answer × List ℕ → Left × List ℕ
