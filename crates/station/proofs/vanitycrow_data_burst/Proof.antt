@@ -92,14 +92,14 @@ module _ {M : Type 1} (𝓤 : URA M) (H : Heap 𝓤) (A : Atoms 𝓤) (W : Given
       assigns ! (agg ! (and-then ! (load ! (from ! (stop !)) (look ! 18 refl)) (and-then ! (load ! (from ! (fld ! refl (stop !))) (look-in ! 30 (sub ! 1 refl (whole !)))) (no-more !)))) (from ! (stop !)) (init ! 16 refl (mut-slice-lawful 𝓤 H A W erased κ2 u8 .typed x3 _ is3 .0)) $
       assigns ! (addr ! (from ! (fld ! refl (hop ! (look-in ! 28 (sub ! 0 refl (whole !))) (stop !))))) (from ! (stop !)) (init ! 14 refl (tt, tt)) $
       assigns ! (agg ! (and-then ! (load ! (from ! (stop !)) (look ! 14 refl)) (and-then ! (load ! (from ! (fld ! refl (stop !))) (look-in ! 28 (sub ! 1 refl (whole !)))) (no-more !)))) (from ! (stop !)) (init ! 12 refl (mut-slice-lawful 𝓤 H A W erased κ3 u8 .typed x4 _ is4 .0)) $
-      -- `numbered::data_burst`
+      -- `sender::data_burst`
       nothing ! $ move ! (39 ∷ 0 ∷ []) $ fjoin ! $ move ! (39 ∷ 0 ∷ []) $ fjoin ! $ owned ! T1.the-row (Is T1.the-row) (LL.makes T1.the-type T1′.the-plain 𝓤 H A) h2 ((LL.vals T1.the-type T1′.the-laws) h2) was2 $ fjoin ! $ owned ! T0.the-row (Is T0.the-row) (LL.makes T0.the-type T0′.the-plain 𝓤 H A) h1 ((LL.vals T0.the-type T0′.the-laws) h1) was1 $ fjoin ! $ nothing ! $ move ! (40 ∷ 0 ∷ []) $ join ! $ move ! (40 ∷ 0 ∷ []) $ join ! $ join ! $
       use1 W (raw (Callee-g0 𝓤 H A at-mem run .pre (((κ2, (κ3, tt)), (q2, (q3, tt)), tt, (h1, (h2, (x3, (x4, tt)))), ((LL.vals T0.the-type T0′.the-laws) h1, ((LL.vals T1.the-type T1′.the-laws) h2, (slice-vals x3, (slice-vals x4, tt))))), tt))) (asks 𝓤 _) $
       calls-at ! fm (Callee-g0 𝓤 H A at-mem run) known-g0 (((κ2, (κ3, tt)), (q2, (q3, tt)), tt, (h1, (h2, (x3, (x4, tt)))), ((LL.vals T0.the-type T0′.the-laws) h1, ((LL.vals T1.the-type T1′.the-laws) h2, (slice-vals x3, (slice-vals x4, tt))))), tt) (and-then ! (load ! (from ! (stop !)) (look ! 23 {τ = T0′.mir} {v = only ((LL.vals T0.the-type T0′.the-laws) h1)} refl)) (and-then ! (load ! (from ! (stop !)) (look ! 21 {τ = T1′.mir} {v = only ((LL.vals T1.the-type T1′.the-laws) h2)} refl)) (and-then ! (load ! (from ! (stop !)) (look ! 17 refl)) (and-then ! (load ! (from ! (stop !)) (look ! 13 refl)) (no-more !))))) (λ v1.
       use1 W (later (some (λ (r : LeftBurst). ((‵ (flft κ2 q2) ⊛ (‵ (flft κ3 q3) ⊛ ‵ ftrue)) ⊛ ‵ (T3.the-row .own r (v1 ∷ []))) ⊛ raw (ensured 𝓤 H A g0.ended (g0.clauses 𝓤 H A at-mem run) (κ2, (κ3, tt)) (h1, (h2, (x3, (x4, tt)))) tt r)))) (id⊢ 𝓤 _) $ await ! tt $ pick ! (λ r1. split ! $ move ! (1 ∷ []) $
       use1 W (some (λ (ws : Lasts g0.ended (κ2, (κ3, tt)) (h1, (h2, (x3, (x4, tt))))). ‵ (lasts g0.ended (κ2, (κ3, tt)) (h1, (h2, (x3, (x4, tt)))) ws) ⊛ raw (g0.clauses 𝓤 H A at-mem run (κ2, (κ3, tt)) (h1, (h2, (x3, (x4, tt)))) .ensures tt r1 (atExit g0.ended (κ2, (κ3, tt)) (h1, (h2, (x3, (x4, tt)))) ws)))) (id⊢ 𝓤 _) $ pick ! (λ ws1. split ! $ move ! (1 ∷ []) $ heard ! _ (λ e1. fsplit ! $ drop ! $ fsplit ! $ drop ! $ fsplit ! $ move ! (1 ∷ []) $ fsplit ! $ move ! (1 ∷ []) $ drop ! $ move ! (2 ∷ []) $ split ! $ split ! $ move ! (1 ∷ []) $ split ! $ move ! (1 ∷ []) $ drop ! $ move ! (2 ∷ []) $ peeks ! T3.the-row (Is T3.the-row) (shows 𝓤 H A T3.the-row) r1 (v1 ∷ []) (λ isv1. drop ! $
       land ! (from ! (stop !)) (init ! 30 {τ = T3′.mir} {v = v1} refl (LL.lawful T3.the-type T3′.the-laws 𝓤 H A W .typed r1 (v1 ∷ []) isv1 .0)) $ rewrite ! 30 (λ (u : Val). ‵ (fat fullShare T3′.mir l5 0 u)) (ap only ((LL.tells T3.the-type T3′.the-laws) r1 _ isv1)) refl $
-      -- `numbered::after_burst`
+      -- `sender::after_burst`
       nothing ! $ owned ! T3.the-row (Is T3.the-row) (LL.makes T3.the-type T3′.the-plain 𝓤 H A) r1 ((LL.vals T3.the-type T3′.the-laws) r1) (subst (Is T3.the-row r1) ((LL.tells T3.the-type T3′.the-laws) r1 _ isv1) isv1) $ fjoin ! $ nothing ! $ join ! $
       use1 W (raw (Callee-g1 𝓤 H A at-mem run .pre ((tt, tt, tt, (r1, tt), ((LL.vals T3.the-type T3′.the-laws) r1, tt)), tt))) (asks 𝓤 _) $
       calls-at ! fm (Callee-g1 𝓤 H A at-mem run) known-g1 ((tt, tt, tt, (r1, tt), ((LL.vals T3.the-type T3′.the-laws) r1, tt)), tt) (and-then ! (load ! (from ! (stop !)) (look ! 31 {τ = T3′.mir} {v = only ((LL.vals T3.the-type T3′.the-laws) r1)} refl)) (no-more !)) (λ v2.
@@ -117,7 +117,7 @@ module _ {M : Type 1} (𝓤 : URA M) (H : Heap 𝓤) (A : Atoms 𝓤) (W : Given
       use1 W (some (λ (ws : Lasts g2.ended ((ν3·0 ∷ []), tt) (record { ptr = (b2, o2); name = δ3·0; now = h2 }, (r2 .refusal, (r2 .next, tt)))). ‵ (lasts g2.ended ((ν3·0 ∷ []), tt) (record { ptr = (b2, o2); name = δ3·0; now = h2 }, (r2 .refusal, (r2 .next, tt))) ws) ⊛ raw (g2.clauses 𝓤 H A at-mem run ((ν3·0 ∷ []), tt) (record { ptr = (b2, o2); name = δ3·0; now = h2 }, (r2 .refusal, (r2 .next, tt))) .ensures tt r3 (atExit g2.ended ((ν3·0 ∷ []), tt) (record { ptr = (b2, o2); name = δ3·0; now = h2 }, (r2 .refusal, (r2 .next, tt))) ws)))) (id⊢ 𝓤 _) $ pick ! (λ ws3. split ! $ move ! (1 ∷ []) $ heard ! _ (λ e3. fsplit ! $ move ! (1 ∷ []) $ fsplit ! $ drop ! $ fsplit ! $ drop ! $ drop ! $ move ! (1 ∷ []) $ split ! $ split ! $ move ! (1 ∷ []) $ drop ! $ move ! (1 ∷ []) $ peeks ! unit (Is unit) (shows 𝓤 H A unit) r3 (v3 ∷ []) (λ isv3. drop ! $
       lft-end ! tt $ move ! (0 ∷ 2 ∷ 1 ∷ []) $ use3 W (later (‵ (MutRef (named 1) κ1 T1.the-row .own (record { ptr = (b2, o2); name = γ2; now = ws3 .0 }) (vptr b2 o2 ∷ [])) ⊛ ‵ (flft κ1 q1))) (ref-comes-back 𝓤 H A W T1.the-row (named 1) κ1 (ν3·0 ∷ []) q1 γ2 b2 o2 δ3·0 h2 (ws3 .0)) $ await ! tt $ split ! $
       land ! (from ! (stop !)) (init ! 12 refl (nothing-lawful 𝓤 H A W .typed r3 _ isv3 .0)) $ rewrite ! 12 (λ (u : Val). ‵ (fat fullShare tyUnit l13 0 u)) (ap only (nothing-tells r3 _ isv3)) refl $
-      -- `numbered::made`
+      -- `sender::made`
       nothing ! $ owned ! T3.the-row (Is T3.the-row) (LL.makes T3.the-type T3′.the-plain 𝓤 H A) r1 ((LL.vals T3.the-type T3′.the-laws) r1) (subst (Is T3.the-row r1) ((LL.tells T3.the-type T3′.the-laws) r1 _ isv1) isv1) $ fjoin ! $ nothing ! $ join ! $
       use1 W (raw (Callee-g3 𝓤 H A at-mem run .pre ((tt, tt, tt, (r1, tt), ((LL.vals T3.the-type T3′.the-laws) r1, tt)), tt))) (asks 𝓤 _) $
       calls-at ! fm (Callee-g3 𝓤 H A at-mem run) known-g3 ((tt, tt, tt, (r1, tt), ((LL.vals T3.the-type T3′.the-laws) r1, tt)), tt) (and-then ! (load ! (from ! (stop !)) (look ! 29 {τ = T3′.mir} {v = only ((LL.vals T3.the-type T3′.the-laws) r1)} refl)) (no-more !)) (λ v4.
@@ -148,7 +148,7 @@ vanitycrow-data-burst-spec 𝓤 H 𝓜 𝓖 𝓡 =
     entered 𝓤 H (tripleOf 𝓤 H (𝓖 .A) f.signature (f.spec 𝓤 H (𝓖 .A) (𝓜 .mem) (𝓡 .run)))
     (tables 𝓤 H 𝓜 𝓡 code.env .C) (tables 𝓤 H 𝓜 𝓡 code.env .Λ) #f code.function (code.unfolded 𝓤 H 𝓜 𝓡)
     (f-meets 𝓤 H (𝓖 .A) (givenOf 𝓤 H 𝓜 𝓖) (𝓜 .mem) (𝓡 .run) (tablesOf 𝓤 H 𝓜 (tables 𝓤 H 𝓜 𝓡 code.env))
-    (cited 𝓤 H (Callee-g0 𝓤 H (𝓖 .A) (𝓜 .mem) (𝓡 .run)) 𝓜 𝓡 code.env #g0 g0-def.routine code.calls-numbered·data-burst (g0-thm.met 𝓤 H 𝓜 𝓖 𝓡))
-    (cited 𝓤 H (Callee-g1 𝓤 H (𝓖 .A) (𝓜 .mem) (𝓡 .run)) 𝓜 𝓡 code.env #g1 g1-def.routine code.calls-numbered·after-burst (g1-thm.met 𝓤 H 𝓜 𝓖 𝓡))
+    (cited 𝓤 H (Callee-g0 𝓤 H (𝓖 .A) (𝓜 .mem) (𝓡 .run)) 𝓜 𝓡 code.env #g0 g0-def.routine code.calls-sender·data-burst (g0-thm.met 𝓤 H 𝓜 𝓖 𝓡))
+    (cited 𝓤 H (Callee-g1 𝓤 H (𝓖 .A) (𝓜 .mem) (𝓡 .run)) 𝓜 𝓡 code.env #g1 g1-def.routine code.calls-sender·after-burst (g1-thm.met 𝓤 H 𝓜 𝓖 𝓡))
     (cited 𝓤 H (Callee-g2 𝓤 H (𝓖 .A) (𝓜 .mem) (𝓡 .run)) 𝓜 𝓡 code.env #g2 g2-def.routine code.calls-station·keep (g2-thm.met 𝓤 H 𝓜 𝓖 𝓡))
-    (cited 𝓤 H (Callee-g3 𝓤 H (𝓖 .A) (𝓜 .mem) (𝓡 .run)) 𝓜 𝓡 code.env #g3 g3-def.routine code.calls-numbered·made (g3-thm.met 𝓤 H 𝓜 𝓖 𝓡)))
+    (cited 𝓤 H (Callee-g3 𝓤 H (𝓖 .A) (𝓜 .mem) (𝓡 .run)) 𝓜 𝓡 code.env #g3 g3-def.routine code.calls-sender·made (g3-thm.met 𝓤 H 𝓜 𝓖 𝓡)))

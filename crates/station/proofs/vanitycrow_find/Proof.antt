@@ -59,7 +59,7 @@ module _ {M : Type 1} (𝓤 : URA M) (H : Heap 𝓤) (A : Atoms 𝓤) (W : Given
       move ! (19 ∷ []) $ fsplit3 ! $ drop ! $ move ! (1 ∷ 22 ∷ []) $ looks ! tt T1.the-row (Is T1.the-row) (shows 𝓤 H A T1.the-row) (LL.vals T1.the-type T1′.the-laws) (LL.tells T1.the-type T1′.the-laws) (LL.copy T1.the-type T1′.the-copy 𝓤 H A W) h2 b2 o2 (λ sh2 vs2. spelt ! T1.the-row (Is T1.the-row) (shows 𝓤 H A T1.the-row) (LL.vals T1.the-type T1′.the-laws) (LL.tells T1.the-type T1′.the-laws) sh2 h2 vs2 b2 o2 $ move ! (1 ∷ []) $ peeks ! T1.the-row (Is T1.the-row) (shows 𝓤 H A T1.the-row) h2 ((LL.vals T1.the-type T1′.the-laws) h2) (λ was2. drop ! $
       -- the cell behind `t` is at hand
       assigns ! (of-opd ! (load ! (from ! (hop ! (look ! 16 refl) (stop !))) (look-raw ! 0 refl))) (from ! (stop !)) (init ! 8 {τ = T1′.mir} {v = only ((LL.vals T1.the-type T1′.the-laws) h2)} refl (LL.lawful T1.the-type T1′.the-laws 𝓤 H A W .typed h2 ((LL.vals T1.the-type T1′.the-laws) h2) was2 .0)) $
-      -- `numbered::find`
+      -- `sender::find`
       move ! (22 ∷ []) $ use1 W (‵ ((ShrSlice (named 2) κ2 u8) .own x3 (slice-vals x3)) ⊛ ‵ ((ShrSlice (named 2) κ2 u8) .own x3 (slice-vals x3))) (shr-slice-copy 𝓤 H A W (named 2) κ2 u8 .twice x3 (slice-vals x3)) $ split ! $ nothing ! $ owned ! u32 (Is u32) (uint-makes 𝓤 H A W w32) x4 ((uint-vals w32) x4) is4 $ fjoin ! $ move ! (1 ∷ 0 ∷ []) $ fjoin ! $ owned ! T1.the-row (Is T1.the-row) (LL.makes T1.the-type T1′.the-plain 𝓤 H A) h2 ((LL.vals T1.the-type T1′.the-laws) h2) was2 $ fjoin ! $ owned ! T0.the-row (Is T0.the-row) (LL.makes T0.the-type T0′.the-plain 𝓤 H A) h1 ((LL.vals T0.the-type T0′.the-laws) h1) was1 $ fjoin ! $ nothing ! $ move ! (25 ∷ 0 ∷ []) $ join ! $ join ! $
       use1 W (raw (Callee-g0 𝓤 H A at-mem run .pre (((κ2, tt), (q2, tt), tt, (h1, (h2, (x3, (x4, tt)))), ((LL.vals T0.the-type T0′.the-laws) h1, ((LL.vals T1.the-type T1′.the-laws) h2, (slice-vals x3, ((uint-vals w32) x4, tt))))), tt))) (asks 𝓤 _) $
       calls-at ! fm (Callee-g0 𝓤 H A at-mem run) known-g0 (((κ2, tt), (q2, tt), tt, (h1, (h2, (x3, (x4, tt)))), ((LL.vals T0.the-type T0′.the-laws) h1, ((LL.vals T1.the-type T1′.the-laws) h2, (slice-vals x3, ((uint-vals w32) x4, tt))))), tt) (and-then ! (load ! (from ! (stop !)) (look ! 12 {τ = T0′.mir} {v = only ((LL.vals T0.the-type T0′.the-laws) h1)} refl)) (and-then ! (load ! (from ! (stop !)) (look ! 10 {τ = T1′.mir} {v = only ((LL.vals T1.the-type T1′.the-laws) h2)} refl)) (and-then ! (load ! (from ! (stop !)) (look ! 16 refl)) (and-then ! (load ! (from ! (stop !)) (look ! 14 refl)) (no-more !))))) (λ v1.
@@ -91,4 +91,4 @@ vanitycrow-find-spec 𝓤 H 𝓜 𝓖 𝓡 =
     entered 𝓤 H (tripleOf 𝓤 H (𝓖 .A) f.signature (f.spec 𝓤 H (𝓖 .A) (𝓜 .mem) (𝓡 .run)))
     (tables 𝓤 H 𝓜 𝓡 code.env .C) (tables 𝓤 H 𝓜 𝓡 code.env .Λ) #f code.function (code.unfolded 𝓤 H 𝓜 𝓡)
     (f-meets 𝓤 H (𝓖 .A) (givenOf 𝓤 H 𝓜 𝓖) (𝓜 .mem) (𝓡 .run) (tablesOf 𝓤 H 𝓜 (tables 𝓤 H 𝓜 𝓡 code.env))
-    (cited 𝓤 H (Callee-g0 𝓤 H (𝓖 .A) (𝓜 .mem) (𝓡 .run)) 𝓜 𝓡 code.env #g0 g0-def.routine code.calls-numbered·find (g0-thm.met 𝓤 H 𝓜 𝓖 𝓡)))
+    (cited 𝓤 H (Callee-g0 𝓤 H (𝓖 .A) (𝓜 .mem) (𝓡 .run)) 𝓜 𝓡 code.env #g0 g0-def.routine code.calls-sender·find (g0-thm.met 𝓤 H 𝓜 𝓖 𝓡)))
