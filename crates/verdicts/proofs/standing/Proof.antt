@@ -1,89 +1,45 @@
 -- `verdicts::standing` meets its contract.
 use denote.Ref.{now}
-use mathlib.Core.Bool.{Bool, true, false, not, _&&_}
-use mathlib.Core.Path.{_≡_, refl, sym, ap, _∙_}
-use borrow.Author.Tests.{not-false}
-use Rattle.laws.proofs.Picks.{cond-yes, cond-no}
+use mathlib.Core.Bool.{Bool, true, false, cond, not, _&&_, _||_}
+use mathlib.Core.Path.{_≡_, refl, ap, _∙_}
 use Rattle.config.specs.Ranges.{inRange, inOrder}
-use Rattle.config.proofs.ranges.Ranged.{ranged}
-use Rattle.verdicts.specs.Verdicts.{stationOk, standing}
-use borrow.Author.Needs.{needs}
+use Rattle.soundness.specs.Soundness.{soundOk}
+use Rattle.refusals.specs.declared.Verdict.{Verdict}
+use Rattle.refusals.specs.declared.Verdict.the-variants.{Accepted, ProfileOutOfRange, ShortOverLong, Unsound, OutOfTurn}
+use Rattle.verdicts.specs.Verdicts.{standing}
+use Rattle.verdicts.specs.VerdictsCode.{senderStanding}
 use Rattle.verdicts.proofs.standing.Statement.{statement}
 use Rattle.verdicts.proofs.standing.Tie as tie
 
-one : (c : tie.Else1) → not (inRange (c .before .before .before .before .args .p)) ≡ false
-one c = sym (ap not (c .before .in-range .ensures)) ∙ c .if1 .left
-
-two : (c : tie.Else2) → not (inOrder (c .before .before .before .before .before .before .args .p)) ≡ false
-unfolding inOrder
-two c = sym (ap not (c .before .in-order .ensures)) ∙ c .if2 .left
-
-and-assoc : (x y z : Bool) → ((x && y) && z) ≡ (x && (y && z))
-and-assoc true y z = refl
-and-assoc false y z = refl
-
--- what the third test reads
-tested : (c : tie.After-taken-ok) → let s = c .before .before .before .before .before .before .before .before .before in
-    not ((c .before .before .messages-ok .result && c .before .is-sound .result) && c .taken-ok .result) ≡ not (stationOk (s .args .p) (s .args .t) (now (s .args .a)))
-tested c =
-    ap not
-    (and-assoc (c .before .before .messages-ok .result) (c .before .is-sound .result) (c .taken-ok .result)
-    ∙ (λ k. c .before .before .messages-ok .ensures k && (c .before .is-sound .ensures k && c .taken-ok .ensures k)))
-
-in-range-requires : tie.Need-in-range-requires
-in-range-requires c κs = search needs
-
-returns : tie.Need-returns
-unfolding standing
-returns c = cond-yes _ _ _ _ (sym (ap not (c .before .in-range .ensures)) ∙ c .if1 .taken) refl
-
-in-order-requires : tie.Need-in-order-requires
-in-order-requires c κs = search needs
-
-returns-2 : tie.Need-returns-2
-unfolding standing inOrder
-returns-2 c = cond-no _ _ _ _ (one (c .before .before)) (cond-yes _ _ _ _ (sym (ap not (c .before .in-order .ensures)) ∙ c .if2 .taken) refl)
+-- the record's tests in another order
+swapped : (m k s : Bool) → ((m && k) && s) ≡ (m && (s && k))
+swapped true true true = refl
+swapped true true false = refl
+swapped true false true = refl
+swapped true false false = refl
+swapped false k s = refl
 
 messages-ok-requires : tie.Need-messages-ok-requires
-messages-ok-requires c κs = search needs
-
-is-sound-requires : tie.Need-is-sound-requires
-is-sound-requires c κs = ranged _ (not-false _ (one (c .before .before .before)))
+messages-ok-requires c κs = tt
 
 taken-ok-requires : tie.Need-taken-ok-requires
-taken-ok-requires c κs = search needs
+taken-ok-requires c κs = tt
 
-returns-3 : tie.Need-returns-3
-unfolding standing
-returns-3 c =
-    cond-no _ _ _ _ (one (c .before .before .before .before .before .before))
-    (cond-no _ _ _ _ (two (c .before .before .before .before)) (cond-yes _ _ _ _ (sym (tested (c .before)) ∙ c .if3 .taken) refl))
+sender-standing-requires : tie.Need-sender-standing-requires
+sender-standing-requires c κs = tt
 
-returns-4 : tie.Need-returns-4
-unfolding standing
-returns-4 c =
-    let e = c .before .before .before in
-    cond-no _ _ _ _ (one (e .before .before .before .before .before .before))
-    (cond-no _ _ _ _ (two (e .before .before .before .before)) (cond-no _ _ _ _ (sym (tested (e .before)) ∙ e .if3 .left) (cond-yes _ _ _ _ (c .if4 .taken) refl)))
-
-returns-5 : tie.Need-returns-5
-unfolding standing
-returns-5 c =
-    let e = c .before .before .before in
-    cond-no _ _ _ _ (one (e .before .before .before .before .before .before))
-    (cond-no _ _ _ _ (two (e .before .before .before .before)) (cond-no _ _ _ _ (sym (tested (e .before)) ∙ e .if3 .left) (cond-no _ _ _ _ (c .if4 .left) refl)))
+returns : tie.Need-returns
+unfolding standing senderStanding
+returns c =
+    let s = c .before .before .before .before .before .args in
+    let k = s .t .sender .link .connected in
+    let m = c .before .before .before .messages-ok in
+    let l = c .before .before .taken-ok in
+    let sound = soundOk (s .p) (s .t .sender) (now (s .a)) in
+    let rest : Bool → Verdict =
+    λ b. cond (not (inRange (s .p))) ProfileOutOfRange
+    (cond (not (inOrder (s .p))) ShortOverLong (cond (not b) Unsound (cond ((k && s .connect) || (not k && not (s .connect))) OutOfTurn Accepted))) in
+    c .sender-standing .ensures ∙ ap rest ((λ i. (m .ensures i && l .ensures i) && sound) ∙ swapped _ _ _)
 
 pub standing-spec : {M : Type 1} → statement M
-standing-spec =
-    tie.close
-    (tie.spec
-    in-range-requires
-    returns
-    in-order-requires
-    returns-2
-    messages-ok-requires
-    is-sound-requires
-    taken-ok-requires
-    returns-3
-    returns-4
-    returns-5)
+standing-spec = tie.close (tie.spec messages-ok-requires taken-ok-requires sender-standing-requires returns)
