@@ -33,8 +33,8 @@ unfolding standing senderStanding
 returns c =
     let s = c .before .before .before .before .before .args in
     let k = s .t .sender .link .connected in
-    let m = c .before .before .before .messages-ok in
-    let l = c .before .before .taken-ok in
+    let m = c .before .before .messages-ok in
+    let l = c .before .taken-ok in
     let sound = soundOk (s .p) (s .t .sender) (now (s .a)) in
     let rest : Bool → Verdict =
     λ b. cond (not (inRange (s .p))) ProfileOutOfRange
