@@ -2,11 +2,18 @@
 use denote.Ref.{now}
 use mathlib.Core.Bool.{Bool, true, false, cond, not, _&&_, _||_}
 use mathlib.Core.Path.{_≡_, refl, ap, _∙_}
+use mathlib.Core.List.{List}
+use Prim.Native.Nat.{ℕ}
+use lib.Dec.{leb}
+use Rattle.limits.specs.Limits.{maxTaken}
+use Rattle.config.specs.declared.Profile.{Profile}
 use Rattle.config.specs.Ranges.{inRange, inOrder}
+use Rattle.messages.specs.Messages.{messagesOk}
+use Rattle.queuing.specs.declared.Station.{Station}
 use Rattle.soundness.specs.Soundness.{soundOk}
 use Rattle.refusals.specs.declared.Verdict.{Verdict}
 use Rattle.refusals.specs.declared.Verdict.the-variants.{Accepted, ProfileOutOfRange, ShortOverLong, Unsound, OutOfTurn}
-use Rattle.verdicts.specs.Verdicts.{standing}
+use Rattle.verdicts.specs.Verdicts.{takenBy, standing}
 use Rattle.verdicts.specs.VerdictsCode.{senderStanding}
 use Rattle.verdicts.proofs.standing.Statement.{statement}
 use Rattle.verdicts.proofs.standing.Tie as tie
@@ -19,6 +26,20 @@ swapped true false true = refl
 swapped true false false = refl
 swapped false k s = refl
 
+module _ (p : Profile) (t : Station) (a : List ℕ) (connect : Bool) where
+  abbrev rest : Bool → Verdict
+  rest b =
+      let k = t .sender .link .connected in
+      cond (not (inRange p)) ProfileOutOfRange
+      (cond (not (inOrder p)) ShortOverLong (cond (not b) Unsound (cond ((k && connect) || (not k && not connect)) OutOfTurn Accepted)))
+
+  judged : (v : Verdict) (m k : Bool) → v ≡ senderStanding p (t .sender) a (m && k) connect → m ≡ messagesOk (t .sender .counts .waiting) (t .messages)
+      → k ≡ leb (takenBy (t .sender .counts) (t .messages)) maxTaken → v ≡ standing p t a connect
+  unfolding standing senderStanding
+  judged v m k e f g =
+      let s = soundOk p (t .sender) a in
+      e ∙ ap rest (swapped m k s) ∙ (λ i. rest (f i && (s && g i)))
+
 messages-ok-requires : tie.Need-messages-ok-requires
 messages-ok-requires c κs = tt
 
@@ -29,17 +50,9 @@ sender-standing-requires : tie.Need-sender-standing-requires
 sender-standing-requires c κs = tt
 
 returns : tie.Need-returns
-unfolding standing senderStanding
 returns c =
     let s = c .before .before .before .before .before .args in
-    let k = s .t .sender .link .connected in
-    let m = c .before .before .messages-ok in
-    let l = c .before .taken-ok in
-    let sound = soundOk (s .p) (s .t .sender) (now (s .a)) in
-    let rest : Bool → Verdict =
-    λ b. cond (not (inRange (s .p))) ProfileOutOfRange
-    (cond (not (inOrder (s .p))) ShortOverLong (cond (not b) Unsound (cond ((k && s .connect) || (not k && not (s .connect))) OutOfTurn Accepted))) in
-    c .sender-standing .ensures ∙ ap rest ((λ i. (m .ensures i && l .ensures i) && sound) ∙ swapped _ _ _)
+    judged (s .p) (s .t) (now (s .a)) (s .connect) _ _ _ (c .sender-standing .ensures) (c .before .before .messages-ok .ensures) (c .before .taken-ok .ensures)
 
 pub standing-spec : {M : Type 1} → statement M
 standing-spec = tie.close (tie.spec messages-ok-requires taken-ok-requires sender-standing-requires returns)
