@@ -5,7 +5,7 @@ use mathlib.Core.List.{List}
 use mathlib.Core.Bool.{true, false}
 use Prim.Native.Nat.{ℕ, _≤_}
 use native.Mathlib.Omega.{arith}
-use lib.Dec.{leb}
+use lib.Dec.{leb, eqb}
 use lib.ListN.{length}
 use borrow.Author.Tests.{leb-true}
 use Rattle.laws.proofs.Picks.{cond-yes, cond-no, by₂, and-first}
@@ -25,11 +25,14 @@ use Rattle.queuing.specs.declared.Station.{Station}
 use Rattle.replies.specs.declared.Heard.{Heard}
 use Rattle.refusals.specs.declared.Verdict.{Verdict}
 use Rattle.refusals.specs.declared.Reply.{Reply}
-use Rattle.refusals.specs.Refusals.{maxReceived, heardOk}
+use Rattle.refusals.specs.Refusals.{kindOf, maxReceived, heardOk}
 use Rattle.verdicts.specs.Verdicts.{passed, standing, queueVerdict, receiveVerdict, framesVerdict}
 use Rattle.receive.specs.Accepted.{acceptedReply}
 use Rattle.reception.specs.Reception.{decodedIn, framesHeard}
 use Rattle.reception.specs.declared.Reception.{Reception}
+use Rattle.sender.specs.CallsCode.{judgedBy, judgedReply}
+use Rattle.sender.specs.Numbered.{answerNumber, afterReply}
+use Rattle.sender.specs.declared.LeftSender.{LeftSender}
 use Rattle.sender.specs.Calls.{Answer, Finding, queueOf, receiveOf, framesOf, findOf, pieceOf}
 use Rattle.verdicts.proofs.Passed.{queue-passed, queue-room, receive-three, reply-passed, frames-passed}
 use Rattle.area.specs.FindCode.{bytesAt}
@@ -88,23 +91,27 @@ module _ (p : Profile) (t : Station) (a : List ℕ) where
   unfolding receiveOf
   receive-refused h r payload v e d = cond-no _ _ _ _ d (ap (λ (u : Verdict). answer u (t, a)) e)
 
-  module _ (h : Heard) (r : Reply) (payload : List ℕ) (ok : passed (receiveVerdict p t a h r (length payload)) ≡ true) where
-    pub answer-ranged : Ranged p
-    answer-ranged = ranged p (receive-three p t a h r (length payload) ok .0)
+  -- in two steps
+  pub judged-reply : (h : Heard) (r : Reply) (payload : List ℕ) (v : Verdict) (x : LeftSender × List ℕ) → v ≡ standing p t a (eqb (kindOf r) 0)
+      → x ≡ judgedReply v p s a h r payload → (afterReply t (x .0), x .1) ≡ answerNumber (receiveOf p t a h r payload)
+  unfolding receiveOf judgedReply receiveVerdict
+  judged-reply h r payload v x e d =
+      ap (λ (y : LeftSender × List ℕ). (afterReply t (y .0), y .1)) (d ∙ ap (λ (u : Verdict). judgedReply u p s a h r payload) e)
+      ∙ by₂ (λ (y : LeftSender × List ℕ) (z : Answer × List ℕ). (afterReply t (y .0), y .1) ≡ answerNumber z)
+      (passed (receiveVerdict p t a h r (length payload))) (λ b. refl) (λ b. refl)
 
-    pub answerable : Arrays s → ReplyReady p s a
-    answerable ar =
-        let so = test-sound p s a ar (receive-three p t a h r (length payload) ok .2) in
-        record { level = sound-level p s a so; settling = sound-settling p s a so ar; sound = so .ledger }
-
-    pub in-a-wave : h .wave ≤ 5
-    unfolding heardOk
-    in-a-wave = leb-true _ _ (and-first _ _ (reply-passed p t a h r (length payload) ok .1))
-
-    pub receive-accepted : (x : Sender × List ℕ) (v : Verdict) → v ≡ receiveVerdict p t a h r (length payload) → x ≡ acceptedReply p h r payload s a
-        → answer v (withSender t (x .0), x .1) ≡ receiveOf p t a h r payload
-    unfolding receiveOf
-    receive-accepted x v e d = cond-yes _ _ _ _ ok (ap₂ (λ (u : Verdict) (y : Sender × List ℕ). answer u (withSender t (y .0), y .1)) e d)
+  -- what an accepted one stands on, where 1 to 4 gave v
+  pub reply-ready : Arrays s → (h : Heard) (r : Reply) (n : ℕ) (v : Verdict) → v ≡ standing p t a (eqb (kindOf r) 0)
+      → passed (judgedBy v s h r n) ≡ true → Ranged p × ReplyReady p s a × (h .wave ≤ 5)
+  unfolding receiveVerdict heardOk
+  reply-ready ar h r n v e passes =
+      let ok : passed (receiveVerdict p t a h r n) ≡ true = ap (λ (u : Verdict). passed (judgedBy u s h r n)) (sym e) ∙ passes in
+      let q = receive-three p t a h r n ok in
+      let so = test-sound p s a ar (q .2) in (
+        ranged p (q .0),
+        record { level = sound-level p s a so; settling = sound-settling p s a so ar; sound = so .ledger },
+        leb-true (h .wave) 5 (and-first (leb (h .wave) 5) _ (reply-passed p t a h r n ok .1)),
+      )
 
   -- ---- all frames of one reception
 

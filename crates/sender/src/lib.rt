@@ -13,6 +13,7 @@ use reception::Reception;
 use reception::hear_frames;
 use record::Sender;
 use refusals::Reply;
+use refusals::Verdict;
 use refusals::kind;
 use refusals::number;
 use replies::Ack;
@@ -27,6 +28,13 @@ use verdicts::receive_verdict;
 use verdicts::standing;
 ghost use mathlib.Core.Path.{_≡_};
 ghost use mathlib.Core.List.{[]};
+ghost use mathlib.Core.Bool.{true};
+ghost use Prim.Native.Nat.{_≤_};
+ghost use lib.ListN.{length};
+ghost use Rattle.config.specs.Ranged.{Ranged};
+ghost use Rattle.replies.specs.RepliesCode.{ReplyReady};
+ghost use Rattle.verdicts.specs.Verdicts.{passed};
+ghost use Rattle.sender.specs.CallsCode.{judgedBy, judgedReply};
 ghost use Rattle.queuing.specs.Station.{freshStation};
 ghost use Rattle.sender.specs.Calls.{queueOf, receiveOf, framesOf, findOf, pieceOf, noBurst, burstCall};
 ghost use Rattle.refusals.specs.declared.Reply.the-variants as R;
@@ -123,6 +131,27 @@ pub fn queued(t: Station, q: LeftQueue) -> Left
     }
 }
 
+// A reply to the sender s, where 1 to 4 gave v.
+fn judged(
+    p: Profile,
+    s: Sender,
+    v: Verdict,
+    a: &mut [u8],
+    h: Heard,
+    r: Reply,
+    payload: &[u8],
+) -> LeftSender
+    requires { ⌜ (passed (judgedBy v s h r (length (now payload))) ≡ true → Ranged p × ReplyReady p s (now a) × (h .wave ≤ 5)) ⌝ }
+    ensures { λ q. ⌜ (q, now (a .exit)) ≡ judgedReply v p s (now (a .entry)) h r (now (payload .entry)) ⌝ }
+{
+    let refusal = number(receive_verdict(v, s.link.last_time, h, r, payload.len()));
+    if refusal != 0 {
+        return LeftSender { refusal, sender: s };
+    }
+    let sender = answer(p, s, a, h, r, payload);
+    LeftSender { refusal, sender }
+}
+
 // A reply, and a long ack's payload. The messages stay.
 pub fn sender_rx(
     p: Profile,
@@ -134,15 +163,8 @@ pub fn sender_rx(
 ) -> LeftSender
     ensures { λ q. ⌜ (afterReply t q, now (a .exit)) ≡ answerNumber (receiveOf p t (now (a .entry)) h r (now (payload .entry))) ⌝ }
 {
-    let last = t.sender.link.last_time;
     let v = standing(p, t, a, kind(r) == 0);
-    let refusal = number(receive_verdict(v, last, h, r, payload.len()));
-    if refusal != 0 {
-        let sender = t.sender;
-        return LeftSender { refusal, sender };
-    }
-    let sender = answer(p, t.sender, a, h, r, payload);
-    LeftSender { refusal, sender }
+    judged(p, t.sender, v, a, h, r, payload)
 }
 
 // The record after a reply.

@@ -1,17 +1,14 @@
 -- `sender::sender_rx` meets its contract.
 use denote.Ref.{now}
-use mathlib.Core.Bool.{true}
 use mathlib.Core.Path.{_≡_, ap, _∙_}
 use Prim.Native.Nat.{ℕ}
 use lib.Dec.{eqb}
 use lib.ListN.{length}
 use borrow.Author.Needs.{needs, length-unmapped}
 use Rattle.record.proofs.View.{Arrays}
-use Rattle.refusals.specs.declared.Verdict.{Verdict}
-use Rattle.verdicts.specs.Verdicts.{passed, firstOf, standing, replyVerdict, receiveVerdict}
-use Rattle.verdicts.proofs.Passed.{is-passed, not-passed}
-use Rattle.sender.proofs.Accepted.{receive-refused, answer-ranged, answerable, in-a-wave, receive-accepted}
-use Rattle.sender.proofs.Numbers.{answer-numbered}
+use Rattle.refusals.specs.Refusals.{kindOf}
+use Rattle.verdicts.specs.Verdicts.{standing}
+use Rattle.sender.proofs.Accepted.{judged-reply, reply-ready}
 use Rattle.sender.proofs.sender_rx.Statement.{statement}
 use Rattle.sender.proofs.sender_rx.Tie as tie
 use Rattle.limits.specs.Limits.{maxSlots}
@@ -28,84 +25,36 @@ arrays s =
       sentHeld = length-unmapped ℕ (b .held) maxSlots (s .good .1 .0 .1 .1 .0 .1 .1 .1 .1 .1 .1 .0 .1 .1 .1 .1 .0 .1 .0 .1);
     }
 
--- where the verdict is there
-abbrev Judged : Type 0
-Judged = tie.After-receive-verdict
+-- where 1 to 4 are judged
+abbrev Stood : Type 0
+Stood = tie.After-standing
 
-abbrev S : Judged → tie.Start
-S v = v .before .before .before .before .before .before
+abbrev S : Stood → tie.Start
+S v = v .before .before .before .before .before
 
-abbrev verdict : tie.Start → Verdict
-verdict s = receiveVerdict (s .args .p) (s .args .t) (now (s .args .a)) (s .args .h) (s .args .r) (length (now (s .args .payload)))
-
-asked : (v : Judged) → v .receive-verdict .result ≡ verdict (S v)
-unfolding receiveVerdict
-asked v =
-    let s = S v in
-    v .receive-verdict .ensures
-    ∙ ap (λ (u : Verdict). firstOf u (replyVerdict (s .args .t .sender .link .«last_time») (s .args .h) (s .args .r) (length (now (s .args .payload)))))
-    (v .before .standing .ensures ∙ ap (λ (k : ℕ). standing (s .args .p) (s .args .t) (now (s .args .a)) (eqb k 0)) (v .before .before .kind .ensures))
-
-accepted : (c : tie.Else1) → passed (verdict (S (c .before .before))) ≡ true
-accepted c = is-passed _ _ _ (asked (c .before .before)) (c .before .number .ensures) (c .if1 .left)
+stood : (v : Stood) → let a = S v .args in v .standing .result ≡ standing (a .p) (a .t) (now (a .a)) (eqb (kindOf (a .r)) 0)
+stood v = let a = S v .args in v .standing .ensures ∙ ap (λ (k : ℕ). standing (a .p) (a .t) (now (a .a)) (eqb k 0)) (v .before .kind .ensures)
 
 kind-requires : tie.Need-kind-requires
-kind-requires c κs = search needs
+kind-requires c κs = tt
 
 standing-requires : tie.Need-standing-requires
-standing-requires c κs = search needs
+standing-requires c κs = tt
 
-receive-verdict-requires : tie.Need-receive-verdict-requires
-receive-verdict-requires c κs = search needs
-
-number-requires : tie.Need-number-requires
-number-requires c κs = search needs
+judged-requires : tie.Need-judged-requires
+judged-requires c κs =
+    let v = c .before in
+    let a = S v .args in
+    reply-ready (a .p) (a .t) (now (a .a)) (arrays (S v)) (a .h) (a .r) (length (now (a .payload))) _ (stood v)
 
 same-length : tie.Need-same-length
 same-length c = search needs
 
 returns : tie.Need-returns
 returns c =
-    let v = c .before .before .before in
-    let s = S v in
-    answer-numbered _ _ _ _
-    (receive-refused (s .args .p) (s .args .t) (now (s .args .a)) (s .args .h) (s .args .r) (now (s .args .payload)) _ (asked v)
-    (not-passed _ _ _ (asked v) (c .before .before .number .ensures) (c .before .if1 .taken)))
-    (c .before .before .number .ensures)
-
-answer-requires : tie.Need-answer-requires
-answer-requires c κs =
-    let s = S (c .before .before .before) in
-    let ok = accepted (c .before) in (
-      answer-ranged (s .args .p) (s .args .t) (now (s .args .a)) (s .args .h) (s .args .r) (now (s .args .payload)) ok,
-      (
-        answerable (s .args .p) (s .args .t) (now (s .args .a)) (s .args .h) (s .args .r) (now (s .args .payload)) ok (arrays s),
-        in-a-wave (s .args .p) (s .args .t) (now (s .args .a)) (s .args .h) (s .args .r) (now (s .args .payload)) ok,
-      ),
-    )
-
-same-length-2 : tie.Need-same-length-2
-same-length-2 c = search needs
-
-returns-2 : tie.Need-returns-2
-returns-2 c =
-    let e = c .before .before .before .before in
-    let s = S (e .before .before) in
-    answer-numbered _ _ _ _
-    (receive-accepted (s .args .p) (s .args .t) (now (s .args .a)) (s .args .h) (s .args .r) (now (s .args .payload)) (accepted e) _ _ (asked (e .before .before))
-    (c .before .before .answer .ensures))
-    (e .before .number .ensures)
+    let v = c .before .before .before .before in
+    let a = S v .args in
+    judged-reply (a .p) (a .t) (now (a .a)) (a .h) (a .r) (now (a .payload)) _ _ (stood v) (c .before .before .judged .ensures)
 
 pub sender-rx-spec : {M : Type 1} → statement M
-sender-rx-spec =
-    tie.close
-    (tie.spec
-    kind-requires
-    standing-requires
-    receive-verdict-requires
-    number-requires
-    same-length
-    returns
-    answer-requires
-    same-length-2
-    returns-2)
+sender-rx-spec = tie.close (tie.spec kind-requires standing-requires judged-requires same-length returns)
