@@ -1,7 +1,7 @@
 -- Calls that are accepted, put together.
 -- Assumes nothing.
 use mathlib.Core.Path.{_≡_, refl, sym, ap, ap₂, _∙_}
-use mathlib.Core.List.{List}
+use mathlib.Core.List.{List, []}
 use mathlib.Core.Bool.{true, false}
 use Prim.Native.Nat.{ℕ, _≤_}
 use native.Mathlib.Omega.{arith}
@@ -23,10 +23,14 @@ use Rattle.queuing.specs.Station.{withSender, queuedIn}
 use Rattle.queuing.specs.StationCode.{Fit}
 use Rattle.queuing.specs.declared.Station.{Station}
 use Rattle.replies.specs.declared.Heard.{Heard}
+use Rattle.replies.specs.declared.ConnAck.{ConnAck}
+use Rattle.replies.specs.declared.Ack.{Ack}
+use Rattle.replies.specs.declared.Turn.{Turn}
 use Rattle.refusals.specs.declared.Verdict.{Verdict}
 use Rattle.refusals.specs.declared.Reply.{Reply}
+use Rattle.refusals.specs.declared.Reply.the-variants as R
 use Rattle.refusals.specs.Refusals.{kindOf, maxReceived, heardOk}
-use Rattle.verdicts.specs.Verdicts.{passed, standing, queueVerdict, receiveVerdict, framesVerdict}
+use Rattle.verdicts.specs.Verdicts.{passed, standing, replyVerdict, queueVerdict, receiveVerdict, framesVerdict}
 use Rattle.receive.specs.Accepted.{acceptedReply}
 use Rattle.reception.specs.Reception.{decodedIn, framesHeard}
 use Rattle.reception.specs.declared.Reception.{Reception}
@@ -99,6 +103,20 @@ module _ (p : Profile) (t : Station) (a : List ℕ) where
       ap (λ (y : LeftSender × List ℕ). (afterReply t (y .0), y .1)) (d ∙ ap (λ (u : Verdict). judgedReply u p s a h r payload) e)
       ∙ by₂ (λ (y : LeftSender × List ℕ) (z : Answer × List ℕ). (afterReply t (y .0), y .1) ≡ answerNumber z)
       (passed (receiveVerdict p t a h r (length payload))) (λ b. refl) (λ b. refl)
+
+  -- a payload is read of a long ack alone
+  module _ (h : Heard) (payload : List ℕ) where
+    pub connect-alone : (c : ConnAck) → receiveOf p t a h (R.ConnAck c) [] ≡ receiveOf p t a h (R.ConnAck c) payload
+    unfolding receiveOf receiveVerdict replyVerdict
+    connect-alone c = refl
+
+    pub short-alone : (c : Ack) → receiveOf p t a h (R.Ack c) [] ≡ receiveOf p t a h (R.Ack c) payload
+    unfolding receiveOf receiveVerdict replyVerdict
+    short-alone c = refl
+
+    pub turn-alone : (c : Turn) → receiveOf p t a h (R.Turn c) [] ≡ receiveOf p t a h (R.Turn c) payload
+    unfolding receiveOf receiveVerdict replyVerdict
+    turn-alone c = refl
 
   -- what an accepted one stands on, where 1 to 4 gave v
   pub reply-ready : Arrays s → (h : Heard) (r : Reply) (n : ℕ) (v : Verdict) → v ≡ standing p t a (eqb (kindOf r) 0)

@@ -14,7 +14,6 @@ use reception::hear_frames;
 use record::Sender;
 use refusals::Reply;
 use refusals::Verdict;
-use refusals::kind;
 use refusals::number;
 use replies::Ack;
 use replies::ConnAck;
@@ -22,6 +21,7 @@ use replies::Heard;
 use replies::LongAck;
 use replies::Turn;
 use verdicts::burst_verdict;
+use verdicts::connect_standing;
 use verdicts::frames_verdict;
 use verdicts::queue_verdict;
 use verdicts::receive_verdict;
@@ -98,7 +98,7 @@ pub fn queue(p: Profile, t: Station, a: &mut [u8], m: Message, bytes: &[u8]) -> 
     ensures { λ r. ⌜ (afterQueue t r, now (a .exit)) ≡ answerNumber (queueOf p t (now (a .entry)) (m .class) (m .label) (now (bytes .entry))) ⌝ }
 {
     let c = t.sender.counts;
-    let v = standing(p, t, a, false);
+    let v = standing(p, t, a);
     let refusal = number(queue_verdict(v, c, t.messages, m.class, m.label, bytes.len()));
     if refusal != 0 {
         let messages = t.messages;
@@ -152,21 +152,6 @@ fn judged(
     LeftSender { refusal, sender }
 }
 
-// A reply, and a long ack's payload. The messages stay.
-pub fn sender_rx(
-    p: Profile,
-    t: Station,
-    a: &mut [u8],
-    h: Heard,
-    r: Reply,
-    payload: &[u8],
-) -> LeftSender
-    ensures { λ q. ⌜ (afterReply t q, now (a .exit)) ≡ answerNumber (receiveOf p t (now (a .entry)) h r (now (payload .entry))) ⌝ }
-{
-    let v = standing(p, t, a, kind(r) == 0);
-    judged(p, t.sender, v, a, h, r, payload)
-}
-
 // The record after a reply.
 pub fn answered(t: Station, q: LeftSender) -> Left
     ensures { λ r. ⌜ r ≡ afterReply t q ⌝ }
@@ -183,14 +168,16 @@ pub fn connect(p: Profile, t: Station, a: &mut [u8], h: Heard, r: ConnAck) -> Le
     ensures { λ q. ⌜ (afterReply t q, now (a .exit)) ≡ answerNumber (receiveOf p t (now (a .entry)) h (R.ConnAck r) []) ⌝ }
 {
     let none: [u8; 1] = [0];
-    sender_rx(p, t, a, h, Reply::ConnAck(r), &none[..0])
+    let v = connect_standing(p, t, a);
+    judged(p, t.sender, v, a, h, Reply::ConnAck(r), &none[..0])
 }
 
 pub fn short_ack(p: Profile, t: Station, a: &mut [u8], h: Heard, r: Ack) -> LeftSender
     ensures { λ q. ⌜ (afterReply t q, now (a .exit)) ≡ answerNumber (receiveOf p t (now (a .entry)) h (R.Ack r) []) ⌝ }
 {
     let none: [u8; 1] = [0];
-    sender_rx(p, t, a, h, Reply::Ack(r), &none[..0])
+    let v = standing(p, t, a);
+    judged(p, t.sender, v, a, h, Reply::Ack(r), &none[..0])
 }
 
 pub fn long_ack(
@@ -203,14 +190,35 @@ pub fn long_ack(
 ) -> LeftSender
     ensures { λ q. ⌜ (afterReply t q, now (a .exit)) ≡ answerNumber (receiveOf p t (now (a .entry)) h (R.LongAck r) (now (payload .entry))) ⌝ }
 {
-    sender_rx(p, t, a, h, Reply::LongAck(r), payload)
+    let v = standing(p, t, a);
+    judged(p, t.sender, v, a, h, Reply::LongAck(r), payload)
 }
 
 pub fn turn(p: Profile, t: Station, a: &mut [u8], h: Heard, r: Turn) -> LeftSender
     ensures { λ q. ⌜ (afterReply t q, now (a .exit)) ≡ answerNumber (receiveOf p t (now (a .entry)) h (R.Turn r) []) ⌝ }
 {
     let none: [u8; 1] = [0];
-    sender_rx(p, t, a, h, Reply::Turn(r), &none[..0])
+    let v = standing(p, t, a);
+    judged(p, t.sender, v, a, h, Reply::Turn(r), &none[..0])
+}
+
+// A reply, and a long ack's payload. The messages stay.
+pub fn sender_rx(
+    p: Profile,
+    t: Station,
+    a: &mut [u8],
+    h: Heard,
+    r: Reply,
+    payload: &[u8],
+) -> LeftSender
+    ensures { λ q. ⌜ (afterReply t q, now (a .exit)) ≡ answerNumber (receiveOf p t (now (a .entry)) h r (now (payload .entry))) ⌝ }
+{
+    match r {
+        Reply::ConnAck(c) => connect(p, t, a, h, c),
+        Reply::Ack(c) => short_ack(p, t, a, h, c),
+        Reply::LongAck(c) => long_ack(p, t, a, h, c, payload),
+        Reply::Turn(c) => turn(p, t, a, h, c),
+    }
 }
 
 // All decoded frames of one reception, the payloads back to back. The messages stay.
@@ -225,7 +233,7 @@ pub fn frames_rx(
     ensures { λ q. ⌜ (afterReply t q, now (a .exit)) ≡ answerNumber (framesOf p t (now (a .entry)) h r (now (payloads .entry))) ⌝ }
 {
     let last = t.sender.link.last_time;
-    let v = standing(p, t, a, false);
+    let v = standing(p, t, a);
     let refusal = number(frames_verdict(v, last, h, r.n));
     if refusal != 0 {
         let sender = t.sender;
@@ -239,7 +247,7 @@ pub fn frames_rx(
 pub fn find(p: Profile, t: Station, a: &[u8], off: u32) -> Place
     ensures { λ r. ⌜ r ≡ findNumber (findOf p t (now (a .entry)) off) ⌝ }
 {
-    let refusal = number(standing(p, t, a, false));
+    let refusal = number(standing(p, t, a));
     if refusal != 0 {
         return Place {
             refusal,
@@ -261,7 +269,7 @@ pub fn find(p: Profile, t: Station, a: &[u8], off: u32) -> Place
 pub fn piece(p: Profile, t: Station, a: &[u8], off: u32) -> &[u8]
     ensures { λ b. ⌜ now b ≡ pieceOf p t (now (a .entry)) off ⌝ }
 {
-    let v = standing(p, t, a, false);
+    let v = standing(p, t, a);
     if number(v) != 0 {
         return &a[..0];
     }
@@ -294,7 +302,7 @@ fn no_burst() -> Outgoing
 pub fn data_burst(p: Profile, t: Station, a: &mut [u8], out: &mut [u8]) -> LeftBurst
     ensures { λ r. ⌜ (r, (now (a .exit), now (out .exit))) ≡ burstNumber (burstCall p t (now (a .entry)) (now (out .entry))) ⌝ }
 {
-    let v = standing(p, t, a, false);
+    let v = standing(p, t, a);
     let refusal = number(burst_verdict(v, p.long_bytes, out.len()));
     if refusal != 0 {
         let outgoing = no_burst();

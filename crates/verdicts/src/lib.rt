@@ -24,7 +24,7 @@ use refusals::time_ok;
 use replies::Heard;
 use soundness::is_sound;
 ghost use mathlib.Core.Path.{_≡_};
-ghost use mathlib.Core.Bool.{true};
+ghost use mathlib.Core.Bool.{true, false};
 ghost use Prim.Native.Nat.{_+_, _≤_};
 ghost use lib.Dec.{leb};
 ghost use Rattle.messages.specs.SoundCode.{SoundMessages};
@@ -60,13 +60,22 @@ fn sender_standing(p: Profile, s: Sender, a: &[u8], listed: bool, connect: bool)
     Verdict::Accepted
 }
 
-// Refusals 1 to 4. `connect`: the call is a connect.
-pub fn standing(p: Profile, t: Station, a: &[u8], connect: bool) -> Verdict
-    ensures { λ r. ⌜ r ≡ standingOf p t (now (a .entry)) connect ⌝ }
+// Refusals 1 to 4 of a call that is no connect.
+pub fn standing(p: Profile, t: Station, a: &[u8]) -> Verdict
+    ensures { λ r. ⌜ r ≡ standingOf p t (now (a .entry)) false ⌝ }
 {
     let c = t.sender.counts;
     let listed = messages_ok(t.messages, c.waiting) & taken_ok(c, t.messages.withdrawn);
-    sender_standing(p, t.sender, a, listed, connect)
+    sender_standing(p, t.sender, a, listed, false)
+}
+
+// Refusals 1 to 4 of a connect.
+pub fn connect_standing(p: Profile, t: Station, a: &[u8]) -> Verdict
+    ensures { λ r. ⌜ r ≡ standingOf p t (now (a .entry)) true ⌝ }
+{
+    let c = t.sender.counts;
+    let listed = messages_ok(t.messages, c.waiting) & taken_ok(c, t.messages.withdrawn);
+    sender_standing(p, t.sender, a, listed, true)
 }
 
 // 11, 8, 9 and 12, of n bytes more as one message of this class and label, where the messages m wait and 1 to 4 gave v. 8 and 12 are judged

@@ -1,60 +1,97 @@
 -- `sender::sender_rx` meets its contract.
 use denote.Ref.{now}
-use mathlib.Core.Path.{_≡_, ap, _∙_}
+use mathlib.Core.Path.{_≡_, sym, ap, _∙_}
+use mathlib.Core.List.{List}
 use Prim.Native.Nat.{ℕ}
-use lib.Dec.{eqb}
-use lib.ListN.{length}
-use borrow.Author.Needs.{needs, length-unmapped}
-use Rattle.record.proofs.View.{Arrays}
-use Rattle.refusals.specs.Refusals.{kindOf}
-use Rattle.verdicts.specs.Verdicts.{standing}
-use Rattle.sender.proofs.Accepted.{judged-reply, reply-ready}
+use borrow.Author.Needs.{needs}
+use Rattle.refusals.specs.declared.Reply.{Reply}
+use Rattle.sender.specs.Calls.{receiveOf}
+use Rattle.sender.specs.Numbered.{answerNumber}
+use Rattle.sender.specs.declared.Left.{Left}
+use Rattle.sender.proofs.Accepted.{connect-alone, short-alone, turn-alone}
 use Rattle.sender.proofs.sender_rx.Statement.{statement}
 use Rattle.sender.proofs.sender_rx.Tie as tie
-use Rattle.limits.specs.Limits.{maxSlots}
 
-arrays : (s : tie.Start) → Arrays (s .args .t .sender)
-arrays s =
-    let h = s .args .t .sender .«at_peer» in
-    let b = s .args .t .sender .«last_burst» in
-    record {
-      heldOff = length-unmapped ℕ (h .off) maxSlots (s .good .1 .0 .1 .1 .0 .1 .1 .1 .1 .1 .0 .1 .1 .0 .1 .0 .1);
-      heldBits = length-unmapped ℕ (h .bits) maxSlots (s .good .1 .0 .1 .1 .0 .1 .1 .1 .1 .1 .0 .1 .1 .1 .0 .1 .0 .1);
-      sentOff = length-unmapped ℕ (b .off) maxSlots (s .good .1 .0 .1 .1 .0 .1 .1 .1 .1 .1 .1 .0 .1 .1 .0 .1 .0 .1);
-      sentBits = length-unmapped ℕ (b .bits) maxSlots (s .good .1 .0 .1 .1 .0 .1 .1 .1 .1 .1 .1 .0 .1 .1 .1 .0 .1 .0 .1);
-      sentHeld = length-unmapped ℕ (b .held) maxSlots (s .good .1 .0 .1 .1 .0 .1 .1 .1 .1 .1 .1 .0 .1 .1 .1 .1 .0 .1 .0 .1);
-    }
+abbrev reply : tie.Start → Reply → Left × List ℕ
+reply s r = answerNumber (receiveOf (s .args .p) (s .args .t) (now (s .args .a)) (s .args .h) r (now (s .args .payload)))
 
--- where 1 to 4 are judged
-abbrev Stood : Type 0
-Stood = tie.After-standing
+enum-known-r : tie.Need-enum-known-r
+enum-known-r c = search needs
 
-abbrev S : Stood → tie.Start
-S v = v .before .before .before .before .before
+connect-requires : tie.Need-connect-requires
+connect-requires c κs = tt
 
-stood : (v : Stood) → let a = S v .args in v .standing .result ≡ standing (a .p) (a .t) (now (a .a)) (eqb (kindOf (a .r)) 0)
-stood v = let a = S v .args in v .standing .ensures ∙ ap (λ (k : ℕ). standing (a .p) (a .t) (now (a .a)) (eqb k 0)) (v .before .kind .ensures)
+enum-known-r-2 : tie.Need-enum-known-r-2
+enum-known-r-2 c = search needs
 
-kind-requires : tie.Need-kind-requires
-kind-requires c κs = tt
+short-ack-requires : tie.Need-short-ack-requires
+short-ack-requires c κs = tt
 
-standing-requires : tie.Need-standing-requires
-standing-requires c κs = tt
+enum-known-r-3 : tie.Need-enum-known-r-3
+enum-known-r-3 c = search needs
 
-judged-requires : tie.Need-judged-requires
-judged-requires c κs =
-    let v = c .before in
-    let a = S v .args in
-    reply-ready (a .p) (a .t) (now (a .a)) (arrays (S v)) (a .h) (a .r) (length (now (a .payload))) _ (stood v)
+long-ack-requires : tie.Need-long-ack-requires
+long-ack-requires c κs = tt
+
+enum-known-r-4 : tie.Need-enum-known-r-4
+enum-known-r-4 c = search needs
+
+turn-requires : tie.Need-turn-requires
+turn-requires c κs = tt
 
 same-length : tie.Need-same-length
 same-length c = search needs
 
 returns : tie.Need-returns
 returns c =
-    let v = c .before .before .before .before in
-    let a = S v .args in
-    judged-reply (a .p) (a .t) (now (a .a)) (a .h) (a .r) (now (a .payload)) _ _ (stood v) (c .before .before .judged .ensures)
+    let s = c .before .before .before .before .before .before .before .before .before in
+    c .before .before .connect .ensures ∙ ap answerNumber (connect-alone (s .args .p) (s .args .t) (now (s .args .a)) (s .args .h) (now (s .args .payload)) _)
+    ∙ sym (ap (reply s) (c .before .before .before .before .before .r .given .1))
+
+same-length-2 : tie.Need-same-length-2
+same-length-2 c = search needs
+
+returns-2 : tie.Need-returns-2
+returns-2 c =
+    let s = c .before .before .before .before .before .before .before .before .before in
+    c .before .before .short-ack .ensures ∙ ap answerNumber (short-alone (s .args .p) (s .args .t) (now (s .args .a)) (s .args .h) (now (s .args .payload)) _)
+    ∙ sym (ap (reply s) (c .before .before .before .before .before .r2 .given .1))
+
+same-length-3 : tie.Need-same-length-3
+same-length-3 c = search needs
+
+returns-3 : tie.Need-returns-3
+returns-3 c =
+    let s = c .before .before .before .before .before .before .before .before .before in
+    c .before .before .long-ack .ensures
+    ∙ sym (ap (reply s) (c .before .before .before .before .before .r3 .given .1))
+
+same-length-4 : tie.Need-same-length-4
+same-length-4 c = search needs
+
+returns-4 : tie.Need-returns-4
+returns-4 c =
+    let s = c .before .before .before .before .before .before .before .before .before in
+    c .before .before .turn .ensures ∙ ap answerNumber (turn-alone (s .args .p) (s .args .t) (now (s .args .a)) (s .args .h) (now (s .args .payload)) _)
+    ∙ sym (ap (reply s) (c .before .before .before .before .before .r4 .given .1))
 
 pub sender-rx-spec : {M : Type 1} → statement M
-sender-rx-spec = tie.close (tie.spec kind-requires standing-requires judged-requires same-length returns)
+sender-rx-spec =
+    tie.close
+    (tie.spec
+    enum-known-r
+    connect-requires
+    enum-known-r-2
+    short-ack-requires
+    enum-known-r-3
+    long-ack-requires
+    enum-known-r-4
+    turn-requires
+    same-length
+    returns
+    same-length-2
+    returns-2
+    same-length-3
+    returns-3
+    same-length-4
+    returns-4)
