@@ -1,8 +1,14 @@
 -- What a line said, by its call and its text, with what stays as it is. Assumes nothing.
-use mathlib.Core.Path.{_≡_, ap, _∙_}
+use mathlib.Core.Path.{_≡_, sym, ap, _∙_}
 use mathlib.Core.Bool.{Bool, true}
-use mathlib.Core.List.{List}
-use Prim.Native.Nat.{ℕ}
+use mathlib.Core.List.{List, _++_}
+use Prim.Native.Nat.{ℕ, _≤_}
+use native.Mathlib.Nat.{zero-add}
+use native.Mathlib.Omega.{arith}
+use lib.ListN.{length, drop}
+use Rattle.laws.specs.Bytes.{overwrite}
+use Rattle.laws.proofs.Bytes.{over-eq}
+use Rattle.look_lines.specs.declared.Shown.{Shown}
 use Rattle.numbered.specs.declared.Left.{Left}
 use Rattle.numbered.specs.declared.LeftBurst.{LeftBurst}
 use Rattle.queuing.specs.declared.Station.{Station}
@@ -43,3 +49,36 @@ kept-all {s = s} {a = a} {out = out} e = ap (keepingAll s a out) e
 
 pub kept : {q : Said} {a out t₁ : List ℕ} {m : Said × (List ℕ × List ℕ)} → (q, (a, t₁)) ≡ m → (q, (a, (out, t₁))) ≡ keeping out m
 kept {out = out} e = ap (keeping out) e
+
+-- ---- a line that the run has looked at
+
+abbrev allKept : List ℕ → List ℕ → List ℕ → Said → Said × (List ℕ × (List ℕ × List ℕ))
+allKept a out t q = (q, (a, (out, t)))
+
+pub line-done : {q m : Said} {a out t : List ℕ} → q ≡ m → allKept a out t q ≡ allKept a out t m
+line-done {a = a} {out = out} {t = t} e = ap (allKept a out t) e
+
+abbrev showing : Station → Shown × (List ℕ × List ℕ) → Said × (List ℕ × List ℕ)
+showing s q = (said (q .0 .ok) s (q .0 .text), q .1)
+
+pub shown-by : (s : Station) {q : Shown} {x : List ℕ × List ℕ} {m : Shown × (List ℕ × List ℕ)} → (q, x) ≡ m → showing s (q, x) ≡ showing s m
+shown-by s e = ap (showing s) e
+
+-- what was lent of l, its first k bytes, is put back as it is then
+put-back : (l r : List ℕ) (k : ℕ) → k ≤ length l → length r ≡ k → r ++ drop k l ≡ overwrite l 0 r
+put-back l r k h e = sym (over-eq l 0 r (omega arith) ∙ ap (λ (n : ℕ). r ++ drop n l) (zero-add (length r) ∙ e))
+
+module _ {B : Type 0} where
+  abbrev first : List ℕ → Said × (List ℕ × B) → Said × (List ℕ × B)
+  first l m = (m .0, (overwrite l 0 (m .1 .0), m .1 .1))
+
+  pub put-first : {q : Said} {r : List ℕ} {b : B} {m : Said × (List ℕ × B)} (l : List ℕ) (k : ℕ) → k ≤ length l → length r ≡ k
+      → (q, (r, b)) ≡ m → (q, (r ++ drop k l, b)) ≡ first l m
+  put-first {q} {r} {b} l k h e f = ap (λ (o : List ℕ). (q, (o, b))) (put-back l r k h e) ∙ ap (first l) f
+
+abbrev second : List ℕ → Said × (List ℕ × (List ℕ × List ℕ)) → Said × (List ℕ × (List ℕ × List ℕ))
+second l m = (m .0, (m .1 .0, (overwrite l 0 (m .1 .1 .0), m .1 .1 .1)))
+
+pub put-second : {q : Said} {a r t : List ℕ} {m : Said × (List ℕ × (List ℕ × List ℕ))} (l : List ℕ) (k : ℕ) → k ≤ length l → length r ≡ k
+    → (q, (a, (r, t))) ≡ m → (q, (a, (r ++ drop k l, t))) ≡ second l m
+put-second {q} {a} {r} {t} l k h e f = ap (λ (o : List ℕ). (q, (a, (o, t)))) (put-back l r k h e) ∙ ap (second l) f
