@@ -1,9 +1,8 @@
 -- `called`: by what is to do. Assumes nothing.
 use borrow.Author.Needs.{needs}
-use mathlib.Core.Path.{ap}
+use denote.Ref.{now}
 use borrow.Author.Tests.{eq-eqb, ne-eqb}
-use Rattle.laws.proofs.Picks.{cond-yes, cond-no}
-use Rattle.list_calls.specs.Lines.{areaBeside, calledOf}
+use Rattle.list_calls.proofs.Laws.{called-shown, called-asked}
 use Rattle.list_calls.proofs.lines.called.Statement.{statement}
 use Rattle.list_calls.proofs.lines.called.Tie as tie
 
@@ -26,13 +25,14 @@ same-length-3 : tie.Need-same-length-3
 same-length-3 c = search needs
 
 returns : tie.Need-returns
-unfolding calledOf
 returns c =
     let d = c .before .before .before .before in
     let e = d .before .before .before .before in
     let f = e .before .before .before .before in
-    rw (← f .clear .ensures, ← f .before .before .named .ensures)
-    (cond-yes _ _ _ _ (eq-eqb _ _ (e .if1 .taken)) (ap (areaBeside _) (d .showed .ensures)))
+    let g = f .before .before in
+    let a = g .before .before .before .before .before .args in
+    called-shown (now (a .line)) (a .run) (a .p) (a .s) (now (a .area)) (now (a .out)) (now (a .t))
+    (f .clear .ensures) (g .named .ensures) (eq-eqb _ _ (e .if1 .taken)) (d .showed .ensures)
 
 asked-requires : tie.Need-asked-requires
 asked-requires c κs = tt
@@ -47,13 +47,14 @@ same-length-6 : tie.Need-same-length-6
 same-length-6 c = search needs
 
 returns-2 : tie.Need-returns-2
-unfolding calledOf
 returns-2 c =
     let d = c .before .before .before .before .before .before in
     let e = d .before .before .before .before in
     let f = e .before .before .before .before in
-    rw (← f .clear .ensures, ← f .before .before .named .ensures)
-    (cond-no _ _ _ _ (ne-eqb _ _ (e .if1 .left)) (d .asked .ensures))
+    let g = f .before .before in
+    let a = g .before .before .before .before .before .args in
+    called-asked (now (a .line)) (a .run) (a .p) (a .s) (now (a .area)) (now (a .out)) (now (a .t))
+    (f .clear .ensures) (g .named .ensures) (ne-eqb _ _ (e .if1 .left)) (d .asked .ensures)
 
 pub called-spec : {M : Type 1} → statement M
 called-spec =
