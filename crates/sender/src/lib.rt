@@ -21,7 +21,6 @@ use replies::Heard;
 use replies::LongAck;
 use replies::Turn;
 use verdicts::burst_verdict;
-use verdicts::connect_standing;
 use verdicts::frames_verdict;
 use verdicts::queue_verdict;
 use verdicts::receive_verdict;
@@ -98,7 +97,7 @@ pub fn queue(p: Profile, t: Station, a: &mut [u8], m: Message, bytes: &[u8]) -> 
     ensures { λ r. ⌜ (afterQueue t r, now (a .exit)) ≡ answerNumber (queueOf p t (now (a .entry)) (m .class) (m .label) (now (bytes .entry))) ⌝ }
 {
     let c = t.sender.counts;
-    let v = standing(p, t, a);
+    let v = standing(p, t, a, false);
     let refusal = number(queue_verdict(v, c, t.messages, m.class, m.label, bytes.len()));
     if refusal != 0 {
         let messages = t.messages;
@@ -168,7 +167,7 @@ pub fn connect(p: Profile, t: Station, a: &mut [u8], h: Heard, r: ConnAck) -> Le
     ensures { λ q. ⌜ (afterReply t q, now (a .exit)) ≡ answerNumber (receiveOf p t (now (a .entry)) h (R.ConnAck r) []) ⌝ }
 {
     let none: [u8; 1] = [0];
-    let v = connect_standing(p, t, a);
+    let v = standing(p, t, a, true);
     judged(p, t.sender, v, a, h, Reply::ConnAck(r), &none[..0])
 }
 
@@ -176,7 +175,7 @@ pub fn short_ack(p: Profile, t: Station, a: &mut [u8], h: Heard, r: Ack) -> Left
     ensures { λ q. ⌜ (afterReply t q, now (a .exit)) ≡ answerNumber (receiveOf p t (now (a .entry)) h (R.Ack r) []) ⌝ }
 {
     let none: [u8; 1] = [0];
-    let v = standing(p, t, a);
+    let v = standing(p, t, a, false);
     judged(p, t.sender, v, a, h, Reply::Ack(r), &none[..0])
 }
 
@@ -190,7 +189,7 @@ pub fn long_ack(
 ) -> LeftSender
     ensures { λ q. ⌜ (afterReply t q, now (a .exit)) ≡ answerNumber (receiveOf p t (now (a .entry)) h (R.LongAck r) (now (payload .entry))) ⌝ }
 {
-    let v = standing(p, t, a);
+    let v = standing(p, t, a, false);
     judged(p, t.sender, v, a, h, Reply::LongAck(r), payload)
 }
 
@@ -198,7 +197,7 @@ pub fn turn(p: Profile, t: Station, a: &mut [u8], h: Heard, r: Turn) -> LeftSend
     ensures { λ q. ⌜ (afterReply t q, now (a .exit)) ≡ answerNumber (receiveOf p t (now (a .entry)) h (R.Turn r) []) ⌝ }
 {
     let none: [u8; 1] = [0];
-    let v = standing(p, t, a);
+    let v = standing(p, t, a, false);
     judged(p, t.sender, v, a, h, Reply::Turn(r), &none[..0])
 }
 
@@ -233,7 +232,7 @@ pub fn frames_rx(
     ensures { λ q. ⌜ (afterReply t q, now (a .exit)) ≡ answerNumber (framesOf p t (now (a .entry)) h r (now (payloads .entry))) ⌝ }
 {
     let last = t.sender.link.last_time;
-    let v = standing(p, t, a);
+    let v = standing(p, t, a, false);
     let refusal = number(frames_verdict(v, last, h, r.n));
     if refusal != 0 {
         let sender = t.sender;
@@ -247,7 +246,7 @@ pub fn frames_rx(
 pub fn find(p: Profile, t: Station, a: &[u8], off: u32) -> Place
     ensures { λ r. ⌜ r ≡ findNumber (findOf p t (now (a .entry)) off) ⌝ }
 {
-    let refusal = number(standing(p, t, a));
+    let refusal = number(standing(p, t, a, false));
     if refusal != 0 {
         return Place {
             refusal,
@@ -269,7 +268,7 @@ pub fn find(p: Profile, t: Station, a: &[u8], off: u32) -> Place
 pub fn piece(p: Profile, t: Station, a: &[u8], off: u32) -> &[u8]
     ensures { λ b. ⌜ now b ≡ pieceOf p t (now (a .entry)) off ⌝ }
 {
-    let v = standing(p, t, a);
+    let v = standing(p, t, a, false);
     if number(v) != 0 {
         return &a[..0];
     }
@@ -302,7 +301,7 @@ fn no_burst() -> Outgoing
 pub fn data_burst(p: Profile, t: Station, a: &mut [u8], out: &mut [u8]) -> LeftBurst
     ensures { λ r. ⌜ (r, (now (a .exit), now (out .exit))) ≡ burstNumber (burstCall p t (now (a .entry)) (now (out .entry))) ⌝ }
 {
-    let v = standing(p, t, a);
+    let v = standing(p, t, a, false);
     let refusal = number(burst_verdict(v, p.long_bytes, out.len()));
     if refusal != 0 {
         let outgoing = no_burst();

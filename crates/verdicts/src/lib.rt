@@ -12,7 +12,6 @@ use messages::messages_ok;
 use messages::superseded;
 use queuing::Station;
 use record::Counts;
-use record::Sender;
 use refusals::MAX_RECEIVED;
 use refusals::Reply;
 use refusals::Verdict;
@@ -24,12 +23,11 @@ use refusals::time_ok;
 use replies::Heard;
 use soundness::is_sound;
 ghost use mathlib.Core.Path.{_≡_};
-ghost use mathlib.Core.Bool.{true, false};
+ghost use mathlib.Core.Bool.{true};
 ghost use Prim.Native.Nat.{_+_, _≤_};
 ghost use lib.Dec.{leb};
 ghost use Rattle.messages.specs.SoundCode.{SoundMessages};
 ghost use Rattle.verdicts.specs.Verdicts.{passed, firstOf, takenBy, standing as standingOf, replyVerdict, hearingVerdict, framesStanding, roomVerdict, outputVerdict};
-ghost use Rattle.verdicts.specs.VerdictsCode.{senderStanding};
 ghost use Rattle.limits.specs.Limits.{maxTaken};
 
 // Bytes taken, those withdrawn among them, are within their limit.
@@ -39,43 +37,26 @@ fn taken_ok(c: Counts, withdrawn: u32) -> bool
     c.next_offset as u64 + c.waiting as u64 + withdrawn as u64 <= MAX_TAKEN as u64
 }
 
-// Refusals 1 to 4 of the sender, where `listed` says whether the messages are sound and the bytes taken within their limit. `connect`: the call is
-// a connect.
-fn sender_standing(p: Profile, s: Sender, a: &[u8], listed: bool, connect: bool) -> Verdict
-    ensures { λ r. ⌜ r ≡ senderStanding p s (now (a .entry)) listed connect ⌝ }
+// Refusals 1 to 4. `connect`: the call is a connect.
+pub fn standing(p: Profile, t: Station, a: &[u8], connect: bool) -> Verdict
+    ensures { λ r. ⌜ r ≡ standingOf p t (now (a .entry)) connect ⌝ }
 {
-    let k = s.link;
+    let k = t.sender.link;
     if !in_range(p) {
         return Verdict::ProfileOutOfRange;
     }
     if !in_order(p.short_bytes, p.long_bytes) {
         return Verdict::ShortOverLong;
     }
-    if !(listed & is_sound(p, s, a)) {
+    if !(messages_ok(t.messages, t.sender.counts.waiting)
+        & is_sound(p, t.sender, a)
+        & taken_ok(t.sender.counts, t.messages.withdrawn)) {
         return Verdict::Unsound;
     }
     if (k.connected & connect) | (!k.connected & !connect) {
         return Verdict::OutOfTurn;
     }
     Verdict::Accepted
-}
-
-// Refusals 1 to 4 of a call that is no connect.
-pub fn standing(p: Profile, t: Station, a: &[u8]) -> Verdict
-    ensures { λ r. ⌜ r ≡ standingOf p t (now (a .entry)) false ⌝ }
-{
-    let c = t.sender.counts;
-    let listed = messages_ok(t.messages, c.waiting) & taken_ok(c, t.messages.withdrawn);
-    sender_standing(p, t.sender, a, listed, false)
-}
-
-// Refusals 1 to 4 of a connect.
-pub fn connect_standing(p: Profile, t: Station, a: &[u8]) -> Verdict
-    ensures { λ r. ⌜ r ≡ standingOf p t (now (a .entry)) true ⌝ }
-{
-    let c = t.sender.counts;
-    let listed = messages_ok(t.messages, c.waiting) & taken_ok(c, t.messages.withdrawn);
-    sender_standing(p, t.sender, a, listed, true)
 }
 
 // 11, 8, 9 and 12, of n bytes more as one message of this class and label, where the messages m wait and 1 to 4 gave v. 8 and 12 are judged

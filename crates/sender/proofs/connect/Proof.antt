@@ -23,11 +23,11 @@ arrays s =
     }
 
 -- where 1 to 4 are judged
-abbrev S : tie.After-connect-standing → tie.Start
+abbrev S : tie.After-standing → tie.Start
 S v = v .before .before .before
 
-connect-standing-requires : tie.Need-connect-standing-requires
-connect-standing-requires c κs = tt
+standing-requires : tie.Need-standing-requires
+standing-requires c κs = tt
 
 array-share-prefix-none : tie.Need-array-share-prefix-none
 array-share-prefix-none c = search needs
@@ -39,7 +39,7 @@ judged-requires : tie.Need-judged-requires
 judged-requires c κs =
     let v = c .before .before in
     let a = S v .args in
-    reply-ready (a .p) (a .t) (now (a .a)) (arrays (S v)) (a .h) (R.ConnAck (a .r)) 0 _ (v .connect-standing .ensures)
+    reply-ready (a .p) (a .t) (now (a .a)) (arrays (S v)) (a .h) (R.ConnAck (a .r)) 0 _ (v .standing .ensures)
 
 same-length : tie.Need-same-length
 same-length c = search needs
@@ -48,7 +48,7 @@ returns : tie.Need-returns
 returns c =
     let v = c .before .before .before .before .before in
     let a = S v .args in
-    judged-reply (a .p) (a .t) (now (a .a)) (a .h) (R.ConnAck (a .r)) [] _ _ (v .connect-standing .ensures) (c .before .before .judged .ensures)
+    judged-reply (a .p) (a .t) (now (a .a)) (a .h) (R.ConnAck (a .r)) [] _ _ (v .standing .ensures) (c .before .before .judged .ensures)
 
 pub connect-spec : {M : Type 1} → statement M
-connect-spec = tie.close (tie.spec connect-standing-requires array-share-prefix-none slice-aggregate-judged judged-requires same-length returns)
+connect-spec = tie.close (tie.spec standing-requires array-share-prefix-none slice-aggregate-judged judged-requires same-length returns)
