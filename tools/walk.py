@@ -1006,7 +1006,7 @@ class Compiler:
         for n in by_sign(kit):                  # what is of the logic, through one module
             if len(cur) + len(n) > 230: lines.append(cur); cur = ''
             cur += (', ' if cur else '') + n
-        spaced = lambda l: l + ' ' if l.endswith('!') else l
+        spaced = lambda l: ' ' * l.startswith('!') + l + ' ' * l.endswith('!')
         head += [f'use Rattle.{self.laws}.proofs.Kit.{{{spaced(l)}}}' for l in lines + [cur]]
         if 'LL.' in body: head.append('use denote.Struct.Laws as LL')
         if 'EL.' in body: head.append('use denote.Enum.Laws as EL')
