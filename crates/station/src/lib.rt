@@ -5,13 +5,11 @@ use adif::Logged;
 use card::CardAnswer;
 use card::Found;
 use config::Profile;
-use messages::Messages;
 use queuing::Station;
 use reachable::Listing;
 use receiver::Received;
 use receiver::Receiver;
 use reception::Reception;
-use record::Sender;
 use replies::Ack;
 use replies::ConnAck;
 use replies::Heard;
@@ -19,6 +17,8 @@ use replies::LongAck;
 use replies::Turn;
 use report::ChanClass;
 use sender::Burst;
+use sender::LeftQueue;
+use sender::LeftSender;
 use sender::Message;
 use sender::Place;
 ghost use mathlib.Core.Path.{_≡_};
@@ -43,41 +43,40 @@ fn keep(t: &mut Station, refusal: u8, next: Station)
     }
 }
 
-// The same of a reply: the messages stay.
-fn keep_sender(t: &mut Station, answer: u8, next: Sender)
-    ensures { λ _. ⌜ now (t .exit) ≡ kept (now (t .entry)) answer (withSender (now (t .entry)) next) ⌝ }
+// The same of a reply: the messages stay. Answers the number.
+fn keep_sender(t: &mut Station, answer: LeftSender) -> u8
+    ensures { λ r. ⌜ (r ≡ answer .refusal)
+        × (now (t .exit) ≡ kept (now (t .entry)) (answer .refusal) (withSender (now (t .entry)) (answer .sender))) ⌝ }
 {
-    if answer == 0 {
-        t.sender = next;
+    if answer.refusal == 0 {
+        t.sender = answer.sender;
     }
+    answer.refusal
 }
 
 // The same of a queuing: the rest of the record stays.
-fn keep_queue(t: &mut Station, taken: u8, messages: Messages, waiting: u32)
-    ensures { λ _. ⌜ now (t .exit) ≡ kept (now (t .entry)) taken (withMessages (now (t .entry)) messages waiting) ⌝ }
+fn keep_queue(t: &mut Station, taken: LeftQueue) -> u8
+    ensures { λ r. ⌜ (r ≡ taken .refusal)
+        × (now (t .exit) ≡ kept (now (t .entry)) (taken .refusal) (withMessages (now (t .entry)) (taken .messages) (taken .waiting))) ⌝ }
 {
-    if taken == 0 {
-        t.messages = messages;
-        t.sender.counts.waiting = waiting;
+    if taken.refusal == 0 {
+        t.messages = taken.messages;
+        t.sender.counts.waiting = taken.waiting;
     }
+    taken.refusal
 }
 
-// Stores the profile that was read, unless a number refuses its file: then nothing is written.
-fn keep_profile(p: &mut Profile, number: u8, read: Profile)
-    ensures { λ _. ⌜ now (p .exit) ≡ kept (now (p .entry)) number read ⌝ }
+// Stores the profile that was read, unless a number refuses its file: then nothing is written. Answers the rest.
+fn keep_profile(p: &mut Profile, read: Found) -> CardAnswer
+    ensures { λ r. ⌜ ((r .refusal ≡ read .refusal) × (r .stretched ≡ read .stretched))
+        × (now (p .exit) ≡ kept (now (p .entry)) (read .refusal) (read .profile)) ⌝ }
 {
-    if number == 0 {
-        *p = read;
+    if read.refusal == 0 {
+        *p = read.profile;
     }
-}
-
-// What reading a file answers beside the profile.
-fn card_answer(q: Found) -> CardAnswer
-    ensures { λ r. ⌜ (r .refusal ≡ q .refusal) × (r .stretched ≡ q .stretched) ⌝ }
-{
     CardAnswer {
-        refusal: q.refusal,
-        stretched: q.stretched,
+        refusal: read.refusal,
+        stretched: read.stretched,
     }
 }
 
@@ -103,8 +102,7 @@ pub extern "C" fn vanitycrow_queue(
         ≡ answerNumber (queueOf (now (p .entry)) (now (t .entry)) (now (a .entry)) (m .class) (m .label) (now (bytes .entry))) ⌝ }
 {
     let q = sender::queue(*p, *t, a, m, bytes);
-    keep_queue(t, q.refusal, q.messages, q.waiting);
-    q.refusal
+    keep_queue(t, q)
 }
 
 // A connect answer.
@@ -120,8 +118,7 @@ pub extern "C" fn vanitycrow_connect(
         ≡ answerNumber (receiveOf (now (p .entry)) (now (t .entry)) (now (a .entry)) h (R.ConnAck r) []) ⌝ }
 {
     let q = sender::connect(*p, *t, a, h, r);
-    keep_sender(t, q.refusal, q.sender);
-    q.refusal
+    keep_sender(t, q)
 }
 
 // A short ack.
@@ -137,8 +134,7 @@ pub extern "C" fn vanitycrow_short_ack(
         ≡ answerNumber (receiveOf (now (p .entry)) (now (t .entry)) (now (a .entry)) h (R.Ack r) []) ⌝ }
 {
     let q = sender::short_ack(*p, *t, a, h, r);
-    keep_sender(t, q.refusal, q.sender);
-    q.refusal
+    keep_sender(t, q)
 }
 
 // A long ack and its payload.
@@ -155,8 +151,7 @@ pub extern "C" fn vanitycrow_long_ack(
         ≡ answerNumber (receiveOf (now (p .entry)) (now (t .entry)) (now (a .entry)) h (R.LongAck r) (now (payload .entry))) ⌝ }
 {
     let q = sender::long_ack(*p, *t, a, h, r, payload);
-    keep_sender(t, q.refusal, q.sender);
-    q.refusal
+    keep_sender(t, q)
 }
 
 // A turn.
@@ -172,8 +167,7 @@ pub extern "C" fn vanitycrow_turn(
         ≡ answerNumber (receiveOf (now (p .entry)) (now (t .entry)) (now (a .entry)) h (R.Turn r) []) ⌝ }
 {
     let q = sender::turn(*p, *t, a, h, r);
-    keep_sender(t, q.refusal, q.sender);
-    q.refusal
+    keep_sender(t, q)
 }
 
 // All decoded frames of one reception, and their payloads back to back.
@@ -190,8 +184,7 @@ pub extern "C" fn vanitycrow_frames(
         ≡ answerNumber (framesOf (now (p .entry)) (now (t .entry)) (now (a .entry)) h r (now (payloads .entry))) ⌝ }
 {
     let q = sender::frames_rx(*p, *t, a, h, r, payloads);
-    keep_sender(t, q.refusal, q.sender);
-    q.refusal
+    keep_sender(t, q)
 }
 
 // The next burst. Its frames stand in the output back to back.
@@ -262,8 +255,7 @@ pub extern "C" fn vanitycrow_read_profile(file: &[u8], p: &mut Profile) -> CardA
     ensures { λ r. ⌜ (r .refusal, now (p .exit), r .stretched) ≡ readOf (now (file .entry)) (now (p .entry)) ⌝ }
 {
     let q = card::read(file, *p);
-    keep_profile(p, q.refusal, q.profile);
-    card_answer(q)
+    keep_profile(p, q)
 }
 
 // The record of a new box; its window is all zeros.
