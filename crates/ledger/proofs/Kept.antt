@@ -22,7 +22,7 @@ use Rattle.ledger.proofs.Agree.{Agree}
 use Rattle.ledger.proofs.Burst.{burst-taken, burst-sound, burst-agree, burst-takes, burst-keeps}
 use Rattle.ledger.proofs.HeldPieces.{heldOffs-append}
 use Rattle.ledger.proofs.Offsets.{flying-within, Within, within-flying}
-use Rattle.ledger.proofs.Sentences.{not-awaited}
+use Rattle.ledger.proofs.Sentences.{not-awaited, ack-ends}
 use Rattle.ledger.proofs.Settle.{ascend-remaining, missed-remaining, ackedBytes-remaining, missed-few, shortFrames-remaining, acknowledgeAll-remaining, find-remaining}
 use Rattle.limits.specs.Limits.{maxSlots, maxWaiting, maxTaken}
 use Rattle.ledger.specs.Sizes.{Sizes}
@@ -351,15 +351,10 @@ module _ (z : Sizes) where
       find-remaining (z .long) (s .next) (r .bit (length (s .sent))) 0 o (s .sent) (s .pieces) (so .ascend) (omega (arith, after-within r keep s so o))
 
   -- after an ack none is awaited, and one that is not awaited changes nothing
-  ack-ends : (r : Reply) (keep : Bool) (s : Sender) → hearAck (z .top) r keep s .awaited ≡ false
-  unfolding hearAck settleBurst clearBurst
-  ack-ends r keep s =
-      by (λ (x : Sender). x .awaited ≡ false) (s .awaited) (λ _. either (λ (x : Sender). x .awaited ≡ false) (settles r s) _ _ refl refl) (λ w. w)
-
   none-awaited : (xs : List (Reply × Bool)) (s : Sender) → s .awaited ≡ false → hearAll (z .top) xs s ≡ s
   none-awaited [] s e = refl
   none-awaited (x ∷ xs) s e =
-      none-awaited xs (hearAck (z .top) (x .0) (x .1) s) (ack-ends (x .0) (x .1) s) ∙ not-awaited (z .top) (x .0) (x .1) s e
+      none-awaited xs (hearAck (z .top) (x .0) (x .1) s) (ack-ends (z .top) (x .0) (x .1) s) ∙ not-awaited (z .top) (x .0) (x .1) s e
 
   clear-pieces : (s : Sender) → clearBurst s .pieces ≡ s .pieces
   unfolding clearBurst
@@ -382,7 +377,7 @@ module _ (z : Sizes) where
   all-keeps : (xs : List (Reply × Bool)) (s : Sender) (o : ℕ) → Sound z s → KeepsAt o s (hearAll (z .top) xs s)
   all-keeps [] s o so = λ h. refl
   all-keeps (x ∷ xs) s o so =
-      subst (KeepsAt o s) (sym (none-awaited xs (hearAck (z .top) (x .0) (x .1) s) (ack-ends (x .0) (x .1) s))) (ack-keeps (x .0) (x .1) s o so)
+      subst (KeepsAt o s) (sym (none-awaited xs (hearAck (z .top) (x .0) (x .1) s) (ack-ends (z .top) (x .0) (x .1) s))) (ack-keeps (x .0) (x .1) s o so)
 
   module _ (zr : SizeRange z) where
     pub step-keeps : (c : Move) (st : Station) (o : ℕ) → Allowed z c st → Sound z (st .sender) →

@@ -8,10 +8,10 @@ use mathlib.Core.List.{_++_}
 use native.Mathlib.Omega.{arith}
 use lib.Dec.{eqb, ltb}
 use borrow.Author.Tests.{eqb-true, eqb-false}
-use Rattle.laws.proofs.Picks.{test, and-second}
+use Rattle.laws.proofs.Picks.{by, either, test, and-second}
 use Rattle.limits.specs.Limits.{maxSlots}
 use Rattle.ledger.specs.Reply.{Reply}
-use Rattle.ledger.specs.Ledger.{Sender, dataBurst, oldOffs, newPieces, offs, wholes, hearAck, clearBurst, settles}
+use Rattle.ledger.specs.Ledger.{Sender, dataBurst, oldOffs, newPieces, offs, wholes, hearAck, settleBurst, clearBurst, settles}
 use Rattle.ledger.specs.Plan.{Choice, planOf, parity, parityBits, offered, cap, stored, oneMore, room, roomFrom}
 use Rattle.ledger.specs.Plan.{wholeFrames, burstBitsSent}
 use Rattle.ledger.specs.Station.{Station}
@@ -59,6 +59,12 @@ module _ (z : Sizes) (k : Choice) (s : Sender) where
 pub not-awaited : (top : ℕ) (r : Reply) (keep : Bool) (s : Sender) → s .awaited ≡ false → hearAck top r keep s ≡ s
 unfolding hearAck
 not-awaited top r keep s e = rw e
+
+-- after an ack none is awaited
+pub ack-ends : (top : ℕ) (r : Reply) (keep : Bool) (s : Sender) → hearAck top r keep s .awaited ≡ false
+unfolding hearAck settleBurst clearBurst
+ack-ends top r keep s =
+    by (λ (x : Sender). x .awaited ≡ false) (s .awaited) (λ _. either (λ (x : Sender). x .awaited ≡ false) (settles r s) _ _ refl refl) (λ w. w)
 
 -- "An unmatched burst number settles nothing": the held list and the unsent rest stay
 pub unmatched-keeps : (top : ℕ) (r : Reply) (keep : Bool) (s : Sender) → settles r s ≡ false →
