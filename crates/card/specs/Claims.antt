@@ -11,7 +11,8 @@ use Rattle.laws.specs.Little.{le}
 use Rattle.config.specs.declared.Profile.{Profile}
 use Rattle.config.specs.declared.Air.{Air}
 use Rattle.config.specs.declared.Marks.{Marks}
-use Rattle.card.specs.Card.{cardBytes, optionsBytes, countsAgree, stretchPlace, optionsIn, readOf, writeOf, doubles, wholes, singles}
+use Rattle.card.specs.Card.{cardBytes, optionsBytes, countsAgree, stretchPlace, optionsIn, readOf, writeOf}
+use Rattle.card.specs.Card.{doubles, wholes, singles}
 
 -- "the same file made version 1, the further bytes cut off and the count lowered"
 abbrev pub madeOne : List ℕ → List ℕ

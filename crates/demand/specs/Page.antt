@@ -169,5 +169,6 @@ abbrev pub DemandThree : Type 0
 DemandThree = (p : Profile) → length (p .codes .ends) ≤ 6 → (n : ℕ) (is : List Call) → Along (next p) Given is (freshStart n)
     → Accounts (messages p n is) (t p n is) (s p n is)
     × ((inRange p && inOrder p) ≡ true → areaBytes ≤ n → stationOk p (c p n is .0) (c p n is .1) ≡ true)
-    × ((i : Call) → Given i (c p n is) → Further (t p n is) (s p n is .sender) (told p i (c p n is)) (shown (next p i (c p n is)) .sender))
+    × ((i : Call) → Given i (c p n is)
+    → Further (t p n is) (s p n is .sender) (told p i (c p n is)) (shown (next p i (c p n is)) .sender))
     × ((out : List ℕ) → passed (burstCall p (c p n is .0) (c p n is .1) out .0 .verdict) ≡ true → Sends p n is out)

@@ -21,6 +21,7 @@ sizesFor p = cond (inRange p && inOrder p) (sizesOf p) (record { short = minPayl
 
 -- after a list of calls, and of one further call i
 pub record Reached (p : Profile) (n : ℕ) (is : List Call) (i : Call) : Type 0 where
-  pub ledger : LedgerClaim (sizesFor p) (messages p n is) (s p n is) (t p n is) (told p i (c p n is)) (shown (next p i (c p n is)) .sender)
+  pub ledger :
+      LedgerClaim (sizesFor p) (messages p n is) (s p n is) (t p n is) (told p i (c p n is)) (shown (next p i (c p n is)) .sender)
   pub sound : (inRange p && inOrder p) ≡ true → areaBytes ≤ n → stationOk p (c p n is .0) (c p n is .1) ≡ true
   pub sends : (out : List ℕ) → passed (burstCall p (c p n is .0) (c p n is .1) out .0 .verdict) ≡ true → Sends p n is out

@@ -61,7 +61,8 @@ module _ (p : Profile) where
   saidBase (queuesBytes bs) c = justVerdict (queueBase p (c .0) (c .1) bs .0)
   saidBase (hearsReply h r b) c = justVerdict (receiveBase p (c .0) (c .1) h r b .0)
   saidBase (hearsFrames h r b) c = justVerdict (framesBase p (c .0) (c .1) h r b .0)
-  saidBase (burstsInto out) c = let x = burstBase p (c .0) (c .1) out in record { verdict = x .0; outgoing = x .1 .0 .0; out = x .1 .1 .1 }
+  saidBase (burstsInto out) c =
+      let x = burstBase p (c .0) (c .1) out in record { verdict = x .0; outgoing = x .1 .0 .0; out = x .1 .1 .1 }
 
   abbrev pub allSaidBase : List BaseCall → BaseState → List Said
   allSaidBase [] c = []

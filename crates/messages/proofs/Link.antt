@@ -263,7 +263,7 @@ module _ (m : Messages) (w : List ℕ) (sum : total (entriesIn m) ≡ length w) 
     same : found x 0 0 (begunIn m) (queueIn m w .messages) ≡ p
     same = ap (placeIn (x .class) 0 0 (begunIn m)) entries-shown ∙ sym at-begun
 
-    -- A MESSAGE PUT IN: its bytes go in where `place` says, and `insert` there stores what the ledger's queue then is
+    -- A MESSAGE PUT IN: its bytes go in where `place` says, and `messages::insert` there stores what the ledger's queue then is
     pub goes-place : goes (putQueue x (queueIn m w)) ≡ putBytes (p .bytes) (x .bytes) w
     unfolding queueIn
     goes-place =

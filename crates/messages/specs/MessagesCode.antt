@@ -44,7 +44,8 @@ abbrev pub stayQueue : ℕ → Queue → Queue
 stayQueue l q = record { begun = q .begun; messages = first (q .begun) (q .messages) ++ staysBy l q }
 
 abbrev pub putQueue : Message → Queue → Queue
-putQueue x q = record { begun = q .begun; messages = first (q .begun) (q .messages) ++ insert x (behind (q .begun) (q .messages)) }
+putQueue x q =
+    record { begun = q .begun; messages = first (q .begun) (q .messages) ++ insert x (behind (q .begun) (q .messages)) }
 
 -- ---- a burst
 

@@ -18,7 +18,7 @@ flagWord b = cond b (text " 1") (text " 0")
 abbrev pub none : List ℕ
 none = text " none"
 
--- a word, or `none` where there is no value
+-- a word, or "none" where there is no value
 abbrev pub maybe : Bool → List ℕ → List ℕ
 maybe set w = cond set w none
 
