@@ -6,7 +6,6 @@ use lib.Ieee.{Float, binary32, binary64, ofBits}
 use Rattle.laws.specs.Steps.{steps}
 use Rattle.defaults.specs.Default.{newProfile}
 use Rattle.gear.specs.declared.Gear.{Gear}
-use Rattle.gear.specs.Setters.{noDb}
 use Rattle.gear.specs.declared.Outcome.{Outcome}
 use Rattle.gear.specs.Judging.{onAck}
 
@@ -17,8 +16,8 @@ tried =
       level = 9;
       target = 9;
       «burst_s» = ofBits binary64 0x4020000000000000;
-      «aim_db» = noDb;
-      «last_report_db» = noDb;
+      «aim_db» = record { set = false; db = ofBits binary32 0 };
+      «last_report_db» = record { set = false; db = ofBits binary32 0 };
       «snr_reports» = record { count = 0; a = ofBits binary32 0; b = ofBits binary32 0; c = ofBits binary32 0 };
       «peer_class» = record { echo = false; doppler = false };
       cue = true;
