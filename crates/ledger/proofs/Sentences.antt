@@ -15,7 +15,7 @@ use Rattle.ledger.specs.Ledger.{Sender, dataBurst, oldOffs, newPieces, o
 use Rattle.ledger.specs.Plan.{Choice, planOf, parity, parityBits, offered, cap, stored, oneMore, room, roomFrom}
 use Rattle.ledger.specs.Plan.{wholeFrames, burstBitsSent}
 use Rattle.ledger.specs.Station.{Station}
-use Rattle.ledger.specs.CallsCode.{turns, step}
+use Rattle.ledger.specs.CallsCode.{turnMove, step}
 use Rattle.ledger.specs.Sizes.{Sizes}
 use Rattle.ledger.proofs.Planned.{parity-le, sent-bits, wholeFrames-le}
 
@@ -73,6 +73,6 @@ unfolding hearAck clearBurst
 unmatched-keeps top r keep s e = rw e (test (s .awaited) (λ d. (rw d, rw d)) (λ d. (rw d, rw d)))
 
 -- and so they do at a turn, `on_ack` with another number
-pub turn-keeps : (z : Sizes) (s : Station) → (step z turns s .sender .held ≡ s .sender .held) × (step z turns s .sender .rest ≡ s .sender .rest)
+pub turn-keeps : (z : Sizes) (s : Station) → (step z turnMove s .sender .held ≡ s .sender .held) × (step z turnMove s .sender .rest ≡ s .sender .rest)
 unfolding clearBurst
 turn-keeps z s = (refl, refl)

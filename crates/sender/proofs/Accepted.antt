@@ -34,7 +34,7 @@ use Rattle.verdicts.specs.Verdicts.{passed, standing, replyVerdict, queueVerdic
 use Rattle.receive.specs.Accepted.{acceptedReply}
 use Rattle.reception.specs.Reception.{decodedIn, framesHeard}
 use Rattle.reception.specs.declared.Reception.{Reception}
-use Rattle.sender.specs.CallsCode.{judgedBy, judgedReply}
+use Rattle.sender.specs.CallsCode.{verdictAfter, judgedReply}
 use Rattle.sender.specs.Numbered.{answerNumber, afterReply}
 use Rattle.sender.specs.declared.LeftSender.{LeftSender}
 use Rattle.sender.specs.Calls.{Answer, Finding, queueOf, receiveOf, framesOf, findOf, pieceOf}
@@ -120,10 +120,10 @@ module _ (p : Profile) (t : Station) (a : List ℕ) where
 
   -- what an accepted one stands on, where 1 to 4 gave v
   pub reply-ready : Arrays s → (h : Heard) (r : Reply) (n : ℕ) (v : Verdict) → v ≡ standing p t a (eqb (kindOf r) 0)
-      → passed (judgedBy v s h r n) ≡ true → Ranged p × ReplyReady p s a × (h .wave ≤ 5)
+      → passed (verdictAfter v s h r n) ≡ true → Ranged p × ReplyReady p s a × (h .wave ≤ 5)
   unfolding receiveVerdict heardOk
   reply-ready ar h r n v e passes =
-      let ok : passed (receiveVerdict p t a h r n) ≡ true = ap (λ (u : Verdict). passed (judgedBy u s h r n)) (sym e) ∙ passes in
+      let ok : passed (receiveVerdict p t a h r n) ≡ true = ap (λ (u : Verdict). passed (verdictAfter u s h r n)) (sym e) ∙ passes in
       let q = receive-three p t a h r n ok in
       let so = test-sound p s a ar (q .2) in (
         ranged p (q .0),

@@ -33,7 +33,7 @@ ghost use lib.ListN.{length};
 ghost use Rattle.config.specs.Ranged.{Ranged};
 ghost use Rattle.replies.specs.RepliesCode.{ReplyReady};
 ghost use Rattle.verdicts.specs.Verdicts.{passed};
-ghost use Rattle.sender.specs.CallsCode.{judgedBy, judgedReply};
+ghost use Rattle.sender.specs.CallsCode.{verdictAfter, judgedReply};
 ghost use Rattle.queuing.specs.Station.{freshStation};
 ghost use Rattle.sender.specs.Calls.{queueOf, receiveOf, framesOf, findOf, pieceOf, noBurst, burstCall};
 ghost use Rattle.refusals.specs.declared.Reply.the-variants as R;
@@ -140,7 +140,7 @@ fn judged(
     r: Reply,
     payload: &[u8],
 ) -> LeftSender
-    requires { ⌜ (passed (judgedBy v s h r (length (now payload))) ≡ true → Ranged p × ReplyReady p s (now a) × (h .wave ≤ 5)) ⌝ }
+    requires { ⌜ (passed (verdictAfter v s h r (length (now payload))) ≡ true → Ranged p × ReplyReady p s (now a) × (h .wave ≤ 5)) ⌝ }
     ensures { λ q. ⌜ (q, now (a .exit)) ≡ judgedReply v p s (now (a .entry)) h r (now (payload .entry)) ⌝ }
 {
     let refusal = number(receive_verdict(v, s.link.last_time, h, r, payload.len()));

@@ -32,7 +32,7 @@ use Rattle.sender.specs.declared.LeftBurst.{LeftBurst}
 use Rattle.sender.specs.declared.LeftQueue.{LeftQueue}
 use Rattle.sender.specs.declared.LeftSender.{LeftSender}
 use Rattle.sender.specs.Numbered.{answerNumber, afterReply, afterQueue, burstNumber}
-use Rattle.card.specs.Card.{profileOf, readRefusal, readOf}
+use Rattle.card.specs.Card.{cardProfile, readRefusal, readOf}
 use Rattle.card.specs.declared.Found.{Found}
 use Rattle.card.specs.declared.CardAnswer.{CardAnswer}
 use Rattle.station.specs.Exported.{left, leftBurst}
@@ -165,8 +165,8 @@ pub read-in : (file : List ℕ) (p : Profile) (r : Found) → (r .refusal, r .pr
 unfolding readOf
 read-in file p r said x after k =
     let n : r .refusal ≡ readRefusal file = ap (λ (x : ℕ × Profile × Bool). x .0) said in
-    let d : r .profile ≡ cond (eqb (readRefusal file) 0) (profileOf file) p = ap (λ (x : ℕ × Profile × Bool). x .1) said in
+    let d : r .profile ≡ cond (eqb (readRefusal file) 0) (cardProfile file) p = ap (λ (x : ℕ × Profile × Bool). x .1) said in
     let same : eqb (r .refusal) 0 ≡ false → r .profile ≡ p =
-    λ e. d ∙ ap (λ (c : Bool). cond c (profileOf file) p) (ap (λ (m : ℕ). eqb m 0) (sym n) ∙ e) in
+    λ e. d ∙ ap (λ (c : Bool). cond c (cardProfile file) p) (ap (λ (m : ℕ). eqb m 0) (sym n) ∙ e) in
     let stored : after ≡ r .profile = k .1 ∙ by (λ (x : Profile). x ≡ r .profile) (eqb (r .refusal) 0) (λ e. refl) (λ e. sym (same e)) in
     (λ i. (k .0 .0 i, stored i, k .0 .1 i)) ∙ said

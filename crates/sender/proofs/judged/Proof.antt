@@ -12,7 +12,7 @@ use Rattle.refusals.specs.Refusals.{numberOf}
 use Rattle.refusals.specs.declared.Verdict.{Verdict}
 use Rattle.verdicts.specs.Verdicts.{passed}
 use Rattle.verdicts.proofs.Passed.{is-passed, not-passed}
-use Rattle.sender.specs.CallsCode.{judgedBy, judgedReply}
+use Rattle.sender.specs.CallsCode.{verdictAfter, judgedReply}
 use Rattle.sender.specs.declared.LeftSender.{LeftSender}
 use Rattle.sender.proofs.judged.Statement.{statement}
 use Rattle.sender.proofs.judged.Tie as tie
@@ -25,7 +25,7 @@ abbrev S : Judged → tie.Start
 S v = v .before .before .before
 
 abbrev verdict : tie.Start → Verdict
-verdict s = judgedBy (s .args .v) (s .args .s) (s .args .h) (s .args .r) (length (now (s .args .payload)))
+verdict s = verdictAfter (s .args .v) (s .args .s) (s .args .h) (s .args .r) (length (now (s .args .payload)))
 
 abbrev answer : ℕ → Sender × List ℕ → LeftSender × List ℕ
 answer n x = (record { sender = x .0; refusal = n }, x .1)
