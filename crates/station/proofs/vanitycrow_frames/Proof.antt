@@ -24,10 +24,10 @@ use Rattle.reception.proofs.Reception.Laws as T3′
 use Rattle.sender.specs.declared.LeftSender.{LeftSender}
 use Rattle.sender.proofs.LeftSender as T4
 use Rattle.sender.proofs.LeftSender.Laws as T4′
-use Rattle.sender.proofs.frames as g0
-use Rattle.sender.proofs.frames.Symbol as g0-def
-use Rattle.sender.proofs.frames.Symbol.{name as #g0}
-use Rattle.sender.proofs.frames.Met as g0-thm
+use Rattle.sender.proofs.frames_rx as g0
+use Rattle.sender.proofs.frames_rx.Symbol as g0-def
+use Rattle.sender.proofs.frames_rx.Symbol.{name as #g0}
+use Rattle.sender.proofs.frames_rx.Met as g0-thm
 use Rattle.station.proofs.keep_sender as g1
 use Rattle.station.proofs.keep_sender.Symbol as g1-def
 use Rattle.station.proofs.keep_sender.Symbol.{name as #g1}
@@ -77,7 +77,7 @@ module _ {M : Type 1} (𝓤 : URA M) (H : Heap 𝓤) (A : Atoms 𝓤) (W : Given
       assigns ! (of-opd ! (load ! (from ! (hop ! (look ! 19 refl) (stop !))) (look-raw ! 0 refl))) (from ! (stop !)) (init ! 12 {τ = T1′.mir} {v = only ((LL.vals T1.the-type T1′.the-laws) h2)} refl (LL.lawful T1.the-type T1′.the-laws 𝓤 H A W .typed h2 ((LL.vals T1.the-type T1′.the-laws) h2) was2 .0)) $
       assigns ! (addr ! (from ! (fld ! refl (hop ! (look-in ! 18 (sub ! 0 refl (whole !))) (stop !))))) (from ! (stop !)) (init ! 11 refl (tt, tt)) $
       assigns ! (agg ! (and-then ! (load ! (from ! (stop !)) (look ! 11 refl)) (and-then ! (load ! (from ! (fld ! refl (stop !))) (look-in ! 18 (sub ! 1 refl (whole !)))) (no-more !)))) (from ! (stop !)) (init ! 10 refl (mut-slice-lawful 𝓤 H A W erased κ2 u8 .typed x3 _ is3 .0)) $
-      -- `sender::frames`
+      -- `sender::frames_rx`
       move ! (22 ∷ []) $ use1 W (‵ ((ShrSlice (named 3) κ3 u8) .own x6 (slice-vals x6)) ⊛ ‵ ((ShrSlice (named 3) κ3 u8) .own x6 (slice-vals x6))) (shr-slice-copy 𝓤 H A W (named 3) κ3 u8 .twice x6 (slice-vals x6)) $ split ! $ nothing ! $ move ! (1 ∷ 0 ∷ []) $ fjoin ! $ adds ! T3.the-row (LL.makes T3.the-type T3′.the-plain 𝓤 H A) x5 ((LL.vals T3.the-type T3′.the-laws) x5) is5 $ adds ! T2.the-row (LL.makes T2.the-type T2′.the-plain 𝓤 H A) x4 ((LL.vals T2.the-type T2′.the-laws) x4) is4 $ move ! (24 ∷ 0 ∷ []) $ fjoin ! $ adds ! T1.the-row (LL.makes T1.the-type T1′.the-plain 𝓤 H A) h2 ((LL.vals T1.the-type T1′.the-laws) h2) was2 $ adds ! T0.the-row (LL.makes T0.the-type T0′.the-plain 𝓤 H A) h1 ((LL.vals T0.the-type T0′.the-laws) h1) was1 $ nothing ! $ move ! (25 ∷ 0 ∷ []) $ join ! $ move ! (25 ∷ 0 ∷ []) $ join ! $ join ! $
       use1 W (raw (Callee-g0 𝓤 H A at-mem run .pre (((κ2, (κ3, tt)), (q2, (q3, tt)), tt, (h1, (h2, (x3, (x4, (x5, (x6, tt)))))), ((LL.vals T0.the-type T0′.the-laws) h1, ((LL.vals T1.the-type T1′.the-laws) h2, (slice-vals x3, ((LL.vals T2.the-type T2′.the-laws) x4, ((LL.vals T3.the-type T3′.the-laws) x5, (slice-vals x6, tt))))))), tt))) (asks 𝓤 _) $
       calls-at ! fm (Callee-g0 𝓤 H A at-mem run) known-g0 (((κ2, (κ3, tt)), (q2, (q3, tt)), tt, (h1, (h2, (x3, (x4, (x5, (x6, tt)))))), ((LL.vals T0.the-type T0′.the-laws) h1, ((LL.vals T1.the-type T1′.the-laws) h2, (slice-vals x3, ((LL.vals T2.the-type T2′.the-laws) x4, ((LL.vals T3.the-type T3′.the-laws) x5, (slice-vals x6, tt))))))), tt) (and-then ! (load ! (from ! (stop !)) (look ! 15 {τ = T0′.mir} {v = only ((LL.vals T0.the-type T0′.the-laws) h1)} refl)) (and-then ! (load ! (from ! (stop !)) (look ! 14 {τ = T1′.mir} {v = only ((LL.vals T1.the-type T1′.the-laws) h2)} refl)) (and-then ! (load ! (from ! (stop !)) (look ! 12 refl)) (and-then ! (load ! (from ! (stop !)) (look ! 19 {τ = T2′.mir} {v = only ((LL.vals T2.the-type T2′.the-laws) x4)} refl)) (and-then ! (load ! (from ! (stop !)) (look ! 18 {τ = T3′.mir} {v = only ((LL.vals T3.the-type T3′.the-laws) x5)} refl)) (and-then ! (load ! (from ! (stop !)) (look ! 17 refl)) (no-more !))))))) (λ v1.
@@ -119,5 +119,5 @@ vanitycrow-frames-spec 𝓤 H 𝓜 𝓖 𝓡 =
     entered 𝓤 H (tripleOf 𝓤 H (𝓖 .A) f.signature (f.spec 𝓤 H (𝓖 .A) (𝓜 .mem) (𝓡 .run)))
     (tables 𝓤 H 𝓜 𝓡 code.env .C) (tables 𝓤 H 𝓜 𝓡 code.env .Λ) #f code.function (code.unfolded 𝓤 H 𝓜 𝓡)
     (f-meets 𝓤 H (𝓖 .A) (givenOf 𝓤 H 𝓜 𝓖) (𝓜 .mem) (𝓡 .run) (tablesOf 𝓤 H 𝓜 (tables 𝓤 H 𝓜 𝓡 code.env))
-    (cited 𝓤 H (Callee-g0 𝓤 H (𝓖 .A) (𝓜 .mem) (𝓡 .run)) 𝓜 𝓡 code.env #g0 g0-def.routine code.calls-numbered·frames (g0-thm.met 𝓤 H 𝓜 𝓖 𝓡))
+    (cited 𝓤 H (Callee-g0 𝓤 H (𝓖 .A) (𝓜 .mem) (𝓡 .run)) 𝓜 𝓡 code.env #g0 g0-def.routine code.calls-sender·frames-rx (g0-thm.met 𝓤 H 𝓜 𝓖 𝓡))
     (cited 𝓤 H (Callee-g1 𝓤 H (𝓖 .A) (𝓜 .mem) (𝓡 .run)) 𝓜 𝓡 code.env #g1 g1-def.routine code.calls-station·keep-sender (g1-thm.met 𝓤 H 𝓜 𝓖 𝓡)))
