@@ -1,6 +1,6 @@
--- An answer's outcome by its number, a burst's line from its parts, and a frame's bytes in the output. Assumes nothing.
+-- An answer's outcome by its number, and a frame's bytes in the output. Assumes nothing.
 use mathlib.Core.Path.{_≡_, refl, sym, ap, _∙_}
-use mathlib.Core.List.{List, [], _++_, append-assoc}
+use mathlib.Core.List.{List, [], _++_}
 use Prim.Native.Nat.{ℕ, _+_, _-_, _≤_, _<_, min}
 use native.Mathlib.Omega.{arith}
 use lib.ListN.{length, take, drop, length-drop, drop-of-length-le}
@@ -10,10 +10,8 @@ use borrow.Author.Tests.{eq-eqb, ne-eqb, leb-true, leb-false}
 use Rattle.laws.specs.Bytes.{part}
 use Rattle.laws.proofs.Picks.{cond-yes, cond-no, test}
 use Rattle.laws.specs.Text.{text}
-use Rattle.text.specs.Words.{numberWord, flagWord}
-use Rattle.outgoing.specs.declared.Outgoing.{Outgoing}
-use Rattle.transcript.specs.Answers.{outcome, burstLine}
-use Rattle.transcript.specs.AnswersCode.{burstHead, burstRest}
+use Rattle.text.specs.Words.{numberWord}
+use Rattle.transcript.specs.Answers.{outcome}
 
 past : {A : Type 0} (l : List A) (i : ℕ) → length l ≤ i → drop i l ≡ []
 past l i h = drop-of-length-le l h
@@ -27,17 +25,6 @@ accepted k e = cond-yes _ _ _ _ (eq-eqb k 0 e) refl
 pub refused : (k : ℕ) → (k ≡ 0 → ⊥) → text " refused" ++ numberWord k ≡ outcome k
 unfolding outcome
 refused k h = cond-no _ _ _ _ (ne-eqb k 0 h) refl
-
--- ---- a burst's line
-
-behind : (a c d e f : List ℕ) → a ++ (c ++ d ++ e ++ f) ≡ a ++ c ++ d ++ e ++ f
-behind a c d e f = simp append-assoc
-
-pub line-parts : (b : Outgoing) → burstHead (b .wave) (b .code) (b .user) (b .extra) ++ burstRest (b .cue) (b .«td_ease») (b .frames .n)
-    ≡ burstLine b
-line-parts b =
-    behind (burstHead (b .wave) (b .code) (b .user) (b .extra)) (flagWord (b .cue)) (flagWord (b .«td_ease»)) (numberWord (b .frames .n))
-    (text "\n")
 
 -- ---- a frame's bytes: it starts at k, or at the output's end where k lies past it, and ends with its `size` bytes or with the output
 

@@ -12,51 +12,30 @@ ghost use Rattle.laws.specs.Span.{upto};
 ghost use Rattle.limits.specs.Limits.{maxSlots};
 ghost use Rattle.text.specs.Buffer.{appended, each};
 ghost use Rattle.transcript.specs.Answers.{burstLine, frameLine, frameEntry, burstLines};
-ghost use Rattle.transcript.specs.AnswersCode.{burstHead, burstRest, frameHead};
-
-// A burst's line as far as EXTRA.
-fn line_head(t: &mut [u8], n: usize, wave: u8, code: usize, user: u16, extra: u16) -> usize
-    ensures { λ r. ⌜ (r, now (t .exit)) ≡ appended (n, now (t .entry)) (burstHead wave code user extra) ⌝ }
-{
-    let n = puts(t, n, b"burst ok");
-    let n = number(t, n, wave as u64);
-    let n = number(t, n, code as u64);
-    let n = number(t, n, user as u64);
-    number(t, n, extra as u64)
-}
-
-// And the rest of it.
-fn line_rest(t: &mut [u8], n: usize, cue: bool, td_ease: bool, count: usize) -> usize
-    ensures { λ r. ⌜ (r, now (t .exit)) ≡ appended (n, now (t .entry)) (burstRest cue «td_ease» count) ⌝ }
-{
-    let n = flag(t, n, cue);
-    let n = flag(t, n, td_ease);
-    let n = number(t, n, count as u64);
-    puts(t, n, b"\n")
-}
 
 fn line(t: &mut [u8], n: usize, b: Outgoing) -> usize
     ensures { λ r. ⌜ (r, now (t .exit)) ≡ appended (n, now (t .entry)) (burstLine b) ⌝ }
 {
-    let n = line_head(t, n, b.wave, b.code, b.user, b.extra);
-    line_rest(t, n, b.cue, b.td_ease, b.frames.n)
-}
-
-// A frame's line as far as BITS.
-fn frame_head(t: &mut [u8], n: usize, off: u32, len: u32, start: u32, bits: u32) -> usize
-    ensures { λ r. ⌜ (r, now (t .exit)) ≡ appended (n, now (t .entry)) (frameHead off len start bits) ⌝ }
-{
-    let n = puts(t, n, b"frame");
-    let n = number(t, n, off as u64);
-    let n = number(t, n, len as u64);
-    let n = number(t, n, start as u64);
-    number(t, n, bits as u64)
+    let f = b.frames;
+    let n = puts(t, n, b"burst ok");
+    let n = number(t, n, b.wave as u64);
+    let n = number(t, n, b.code as u64);
+    let n = number(t, n, b.user as u64);
+    let n = number(t, n, b.extra as u64);
+    let n = flag(t, n, b.cue);
+    let n = flag(t, n, b.td_ease);
+    let n = number(t, n, f.n as u64);
+    puts(t, n, b"\n")
 }
 
 fn frame(t: &mut [u8], n: usize, off: u32, len: u32, start: u32, bits: u32, bytes: &[u8]) -> usize
     ensures { λ r. ⌜ (r, now (t .exit)) ≡ appended (n, now (t .entry)) (frameLine off len start bits (now (bytes .entry))) ⌝ }
 {
-    let n = frame_head(t, n, off, len, start, bits);
+    let n = puts(t, n, b"frame");
+    let n = number(t, n, off as u64);
+    let n = number(t, n, len as u64);
+    let n = number(t, n, start as u64);
+    let n = number(t, n, bits as u64);
     let n = hex(t, n, bytes);
     puts(t, n, b"\n")
 }

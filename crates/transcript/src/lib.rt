@@ -5,27 +5,22 @@ use text::puts;
 ghost use mathlib.Core.Path.{_≡_};
 ghost use Rattle.text.specs.Buffer.{appended};
 ghost use Rattle.laws.specs.Text.{text};
-ghost use Rattle.transcript.specs.Answers.{outcome, answerLine, pieceLine, logLine, cardLine, loadLine, errorLine};
+ghost use Rattle.transcript.specs.Answers.{answerLine, pieceLine, logLine, cardLine, loadLine, errorLine};
 
 pub mod burst;
 pub mod reached;
-
-fn outcome(t: &mut [u8], n: usize, refusal: u8) -> usize
-    ensures { λ r. ⌜ (r, now (t .exit)) ≡ appended (n, now (t .entry)) (outcome refusal) ⌝ }
-{
-    if refusal == 0 {
-        return puts(t, n, b" ok");
-    }
-    let n = puts(t, n, b" refused");
-    number(t, n, refusal as u64)
-}
 
 // What a call answers, by its name and the refusal's number, 0 for none.
 pub fn answer(t: &mut [u8], n: usize, name: &[u8], refusal: u8) -> usize
     ensures { λ r. ⌜ (r, now (t .exit)) ≡ appended (n, now (t .entry)) (answerLine (now (name .entry)) refusal) ⌝ }
 {
     let n = puts(t, n, name);
-    let n = outcome(t, n, refusal);
+    if refusal == 0 {
+        let n = puts(t, n, b" ok");
+        return puts(t, n, b"\n");
+    }
+    let n = puts(t, n, b" refused");
+    let n = number(t, n, refusal as u64);
     puts(t, n, b"\n")
 }
 

@@ -11,7 +11,7 @@ use Rattle.transcript.proofs.burst.burst.Statement.{statement}
 use Rattle.transcript.proofs.burst.burst.Tie as tie
 
 line-requires : tie.Need-line-requires
-line-requires c κs = tt
+line-requires c κs = search needs
 
 frames-requires : tie.Need-frames-requires
 frames-requires c κs = search needs

@@ -5,39 +5,69 @@ use Rattle.text.proofs.Laws.{appends, _⨾_}
 use Rattle.transcript.proofs.burst.frame.Statement.{statement}
 use Rattle.transcript.proofs.burst.frame.Tie as tie
 
-frame-head-requires : tie.Need-frame-head-requires
-frame-head-requires c κs = tt
-
-hex-requires : tie.Need-hex-requires
-hex-requires c κs = tt
-
 slice-aggregate-puts : tie.Need-slice-aggregate-puts
 slice-aggregate-puts c = search needs
 
 puts-requires : tie.Need-puts-requires
-puts-requires c κs = tt
+puts-requires c κs = search needs
+
+number-requires : tie.Need-number-requires
+number-requires c κs = search needs
+
+number-requires-2 : tie.Need-number-requires-2
+number-requires-2 c κs = search needs
+
+number-requires-3 : tie.Need-number-requires-3
+number-requires-3 c κs = search needs
+
+number-requires-4 : tie.Need-number-requires-4
+number-requires-4 c κs = search needs
+
+hex-requires : tie.Need-hex-requires
+hex-requires c κs = search needs
+
+slice-aggregate-puts-2 : tie.Need-slice-aggregate-puts-2
+slice-aggregate-puts-2 c = search needs
+
+puts-requires-2 : tie.Need-puts-requires-2
+puts-requires-2 c κs = search needs
 
 same-length : tie.Need-same-length
 same-length c =
-    let p3 = c .before .before in
-    let p2 = p3 .before .before .before .before .before in
+    let p7 = c .before .before in
+    let p6 = p7 .before .before .before .before .before in
+    let p5 = p6 .before .before .before .before in
+    let p4 = p5 .before .before .before .before in
+    let p3 = p4 .before .before .before .before in
+    let p2 = p3 .before .before .before .before in
     let p1 = p2 .before .before .before .before in
-    p3 .puts .kept .0 ∙ p2 .hex .kept .0 ∙ p1 .frame-head .kept .0
+    p7 .puts2 .kept .0 ∙ p6 .hex .kept .0 ∙ p5 .number4 .kept .0 ∙ p4 .number3 .kept .0 ∙ p3 .number2 .kept .0 ∙ p2 .number .kept .0
+    ∙ p1 .puts .kept .0
 
 returns : tie.Need-returns
 returns c =
-    let p3 = c .before .before in
-    let p2 = p3 .before .before .before .before .before in
+    let p7 = c .before .before in
+    let p6 = p7 .before .before .before .before .before in
+    let p5 = p6 .before .before .before .before in
+    let p4 = p5 .before .before .before .before in
+    let p3 = p4 .before .before .before .before in
+    let p2 = p3 .before .before .before .before in
     let p1 = p2 .before .before .before .before in
-    (appends (p1 .frame-head .ensures) ⨾ appends (p2 .hex .ensures) ⨾ appends (p3 .puts .ensures)) .is
+    (appends (p1 .puts .ensures) ⨾ appends (p2 .number .ensures) ⨾ appends (p3 .number2 .ensures) ⨾ appends (p4 .number3 .ensures) ⨾ appends (p5 .number4 .ensures)
+    ⨾ appends (p6 .hex .ensures) ⨾ appends (p7 .puts2 .ensures)) .is
 
 pub frame-spec : {M : Type 1} → statement M
 frame-spec =
     tie.close
     (tie.spec
-    frame-head-requires
-    hex-requires
     slice-aggregate-puts
     puts-requires
+    number-requires
+    number-requires-2
+    number-requires-3
+    number-requires-4
+    hex-requires
+    slice-aggregate-puts-2
+    puts-requires-2
     same-length
     returns)

@@ -1,27 +1,97 @@
 -- `transcript::burst::line` meets its contract.
 use mathlib.Core.Path.{_∙_}
-use Rattle.transcript.proofs.Laws.{line-parts}
-use Rattle.text.proofs.Laws.{appends, told, _⨾_}
+use borrow.Author.Needs.{needs}
+use Rattle.text.proofs.Laws.{appends, _⨾_}
 use Rattle.transcript.proofs.burst.line.Statement.{statement}
 use Rattle.transcript.proofs.burst.line.Tie as tie
 
-line-head-requires : tie.Need-line-head-requires
-line-head-requires c κs = tt
+slice-aggregate-puts : tie.Need-slice-aggregate-puts
+slice-aggregate-puts c = search needs
 
-line-rest-requires : tie.Need-line-rest-requires
-line-rest-requires c κs = tt
+puts-requires : tie.Need-puts-requires
+puts-requires c κs = search needs
+
+cast-number : tie.Need-cast-number
+cast-number c = search needs
+
+number-requires : tie.Need-number-requires
+number-requires c κs = search needs
+
+number-requires-2 : tie.Need-number-requires-2
+number-requires-2 c κs = search needs
+
+cast-number-2 : tie.Need-cast-number-2
+cast-number-2 c = search needs
+
+number-requires-3 : tie.Need-number-requires-3
+number-requires-3 c κs = search needs
+
+cast-number-3 : tie.Need-cast-number-3
+cast-number-3 c = search needs
+
+number-requires-4 : tie.Need-number-requires-4
+number-requires-4 c κs = search needs
+
+flag-requires : tie.Need-flag-requires
+flag-requires c κs = search needs
+
+flag-requires-2 : tie.Need-flag-requires-2
+flag-requires-2 c κs = search needs
+
+number-requires-5 : tie.Need-number-requires-5
+number-requires-5 c κs = search needs
+
+slice-aggregate-puts-2 : tie.Need-slice-aggregate-puts-2
+slice-aggregate-puts-2 c = search needs
+
+puts-requires-2 : tie.Need-puts-requires-2
+puts-requires-2 c κs = search needs
 
 same-length : tie.Need-same-length
 same-length c =
-    let p2 = c .before .before in
-    let p1 = p2 .before .before .before .before in
-    p2 .line-rest .kept .0 ∙ p1 .line-head .kept .0
+    let p9 = c .before .before in
+    let p8 = p9 .before .before .before .before .before in
+    let p7 = p8 .before .before .before .before in
+    let p6 = p7 .before .before .before .before in
+    let p5 = p6 .before .before .before .before in
+    let p4 = p5 .before .before .before .before .before in
+    let p3 = p4 .before .before .before .before .before in
+    let p2 = p3 .before .before .before .before in
+    let p1 = p2 .before .before .before .before .before in
+    p9 .puts2 .kept .0 ∙ p8 .number5 .kept .0 ∙ p7 .flag2 .kept .0 ∙ p6 .flag .kept .0 ∙ p5 .number4 .kept .0 ∙ p4 .number3 .kept .0
+    ∙ p3 .number2 .kept .0 ∙ p2 .number .kept .0 ∙ p1 .puts .kept .0
 
 returns : tie.Need-returns
 returns c =
-    let p2 = c .before .before in
-    let p1 = p2 .before .before .before .before in
-    told (appends (p1 .line-head .ensures) ⨾ appends (p2 .line-rest .ensures)) (line-parts (p1 .before .before .before .args .b))
+    let p9 = c .before .before in
+    let p8 = p9 .before .before .before .before .before in
+    let p7 = p8 .before .before .before .before in
+    let p6 = p7 .before .before .before .before in
+    let p5 = p6 .before .before .before .before in
+    let p4 = p5 .before .before .before .before .before in
+    let p3 = p4 .before .before .before .before .before in
+    let p2 = p3 .before .before .before .before in
+    let p1 = p2 .before .before .before .before .before in
+    (appends (p1 .puts .ensures) ⨾ appends (p2 .number .ensures) ⨾ appends (p3 .number2 .ensures) ⨾ appends (p4 .number3 .ensures) ⨾ appends (p5 .number4 .ensures)
+    ⨾ appends (p6 .flag .ensures) ⨾ appends (p7 .flag2 .ensures) ⨾ appends (p8 .number5 .ensures) ⨾ appends (p9 .puts2 .ensures)) .is
 
 pub line-spec : {M : Type 1} → statement M
-line-spec = tie.close (tie.spec line-head-requires line-rest-requires same-length returns)
+line-spec =
+    tie.close
+    (tie.spec
+    slice-aggregate-puts
+    puts-requires
+    cast-number
+    number-requires
+    number-requires-2
+    cast-number-2
+    number-requires-3
+    cast-number-3
+    number-requires-4
+    flag-requires
+    flag-requires-2
+    number-requires-5
+    slice-aggregate-puts-2
+    puts-requires-2
+    same-length
+    returns)
