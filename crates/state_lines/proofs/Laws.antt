@@ -1,31 +1,13 @@
--- A turn and the end of a loop over lists side by side; texts behind a text. Assumes nothing.
+-- A turn and the end of a loop over lists side by side. Assumes nothing.
 use mathlib.Core.Path.{_≡_, refl, sym, ap, ap₂, _∙_}
-use mathlib.Core.List.{List, [], _∷_, _++_, append-assoc}
+use mathlib.Core.List.{List, [], _∷_}
 use Prim.Native.Nat.{ℕ, zero, suc, _+_, _≤_, _<_}
 use native.Mathlib.Omega.{arith}
 use native.Mathlib.Numerals.{add-one}
 use lib.ListN.{length, getD, take, drop, length-take, drop-of-length-le}
 use lib.Seq.{getD-take}
-use lib.Ieee.{Float}
-use Rattle.record.specs.declared.Sender.{Sender}
-use Rattle.state_lines.specs.State.{countsLine, piecesLine, heldLine, restLine, sentLine, stateLines}
-use Rattle.state_lines.specs.StateCode.{beforeCounts, fromCounts}
 use Rattle.ledger.specs.Ledger.{Held, Sent}
 use Rattle.pieces.specs.Lists.{heldOf, sentOf}
-
--- ---- texts
-
-behind : (a c p h r s : List ℕ) → a ++ (c ++ p ++ h ++ r ++ s) ≡ a ++ c ++ p ++ h ++ r ++ s
-behind a c p h r s = simp append-assoc
-
--- the two halves of the lines of `state`
-pub halves : (burst : Float) (s : Sender) (w : ℕ) (a : List ℕ) → beforeCounts burst (s .gear) (s .link)
-    ++ fromCounts a (s .counts) w (s .«at_peer») (s .link .«peer_wave») (s .«last_burst»)
-    ≡ stateLines burst s w a
-unfolding stateLines
-halves burst s w a =
-    behind (beforeCounts burst (s .gear) (s .link)) (countsLine (s .counts) w) (piecesLine a (s .counts .pieces))
-    (heldLine (s .«at_peer») (s .link .«peer_wave»)) (restLine (s .«at_peer»)) (sentLine (s .«last_burst»))
 
 -- ---- offsets and bits
 

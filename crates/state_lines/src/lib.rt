@@ -1,20 +1,14 @@
 // The lines of a transcript that tell the sender's state (docs/CALLS.md): those of `state`, `messages` and `end`. As in `transcript`, a lent buffer
 // has n bytes that are used, and each function gives what is used then.
-use config::MaybeDb;
 use gear::Gear;
 use levels::memory::Reports;
-use levels::memory::Tries;
-use levels::usable::Holds;
 use lists::held;
 use lists::pieces;
 use lists::rest;
 use lists::sent;
-use record::AtPeer;
 use record::Counts;
-use record::LastBurst;
 use record::Link;
 use record::Sender;
-use report::ChanClass;
 use text::double;
 use text::flag;
 use text::maybe_double;
@@ -28,9 +22,8 @@ ghost use Prim.Native.Nat.{_<_};
 ghost use Rattle.laws.specs.Span.{upto};
 ghost use Rattle.text.specs.Buffer.{appended, each};
 ghost use Rattle.text.specs.Words.{singleWord};
-ghost use Rattle.state_lines.specs.State.{tallyWords, endLine, wordIf, reports, gearLine, countsLine, stateLines};
-ghost use Rattle.state_lines.specs.StateCode.{stateHead, stateWords, linkHead, linkWords, aimWords, levelWords};
-ghost use Rattle.state_lines.specs.StateCode.{beforeCounts, fromCounts};
+ghost use Rattle.state_lines.specs.State.{tallyWords, endLine, stateLine, linkLine, wordIf, reports, aimLine, gearLine, gearOf};
+ghost use Rattle.state_lines.specs.State.{countsLine, stateLines};
 
 mod lists;
 pub mod queue;
@@ -58,30 +51,15 @@ pub fn end(t: &mut [u8], n: usize, c: Counts, withdrawn: u32) -> usize
     puts(t, n, b"\n")
 }
 
-// The line `state` as far as AWAITING.
-fn first_head(
-    t: &mut [u8],
-    n: usize,
-    level: usize,
-    target: usize,
-    burst_s: f64,
-    connected: bool,
-    awaiting: bool,
-) -> usize
-    ensures { λ r. ⌜ (r, now (t .exit)) ≡ appended (n, now (t .entry)) (stateHead level target «burst_s» connected awaiting) ⌝ }
+fn first(t: &mut [u8], n: usize, burst_s: f64, g: Gear, k: Link) -> usize
+    ensures { λ r. ⌜ (r, now (t .exit)) ≡ appended (n, now (t .entry)) (stateLine «burst_s» g k) ⌝ }
 {
     let n = puts(t, n, b"state");
-    let n = number(t, n, level as u64);
-    let n = number(t, n, target as u64);
-    let n = maybe_double(t, n, connected, burst_s);
-    let n = flag(t, n, connected);
-    flag(t, n, awaiting)
-}
-
-fn first(t: &mut [u8], n: usize, burst_s: f64, level: usize, target: usize, k: Link) -> usize
-    ensures { λ r. ⌜ (r, now (t .exit)) ≡ appended (n, now (t .entry)) (stateWords level target «burst_s» k) ⌝ }
-{
-    let n = first_head(t, n, level, target, burst_s, k.connected, k.awaiting);
+    let n = number(t, n, g.level as u64);
+    let n = number(t, n, g.target as u64);
+    let n = maybe_double(t, n, k.connected, burst_s);
+    let n = flag(t, n, k.connected);
+    let n = flag(t, n, k.awaiting);
     let n = number(t, n, k.session as u64);
     let n = number(t, n, k.burst_id as u64);
     let n = maybe_number(t, n, k.heard, k.peer_heard as u64);
@@ -89,31 +67,18 @@ fn first(t: &mut [u8], n: usize, burst_s: f64, level: usize, target: usize, k: L
     puts(t, n, b"\n")
 }
 
-// The line `link` as far as DOPPLER.
-fn link_head(t: &mut [u8], n: usize, turn: bool, disc: bool, echo: bool, doppler: bool) -> usize
-    ensures { λ r. ⌜ (r, now (t .exit)) ≡ appended (n, now (t .entry)) (linkHead turn disc echo doppler) ⌝ }
+fn link(t: &mut [u8], n: usize, g: Gear, k: Link) -> usize
+    ensures { λ r. ⌜ (r, now (t .exit)) ≡ appended (n, now (t .entry)) (linkLine g k) ⌝ }
 {
+    let class = g.peer_class;
     let n = puts(t, n, b"link");
-    let n = flag(t, n, turn);
-    let n = flag(t, n, disc);
-    let n = flag(t, n, echo);
-    flag(t, n, doppler)
-}
-
-fn link(t: &mut [u8], n: usize, class: ChanClass, cue: bool, k: Link) -> usize
-    ensures { λ r. ⌜ (r, now (t .exit)) ≡ appended (n, now (t .entry)) (linkWords class cue k) ⌝ }
-{
-    let n = link_head(
-        t,
-        n,
-        k.peer_wants_turn,
-        k.peer_wants_disc,
-        class.echo,
-        class.doppler,
-    );
+    let n = flag(t, n, k.peer_wants_turn);
+    let n = flag(t, n, k.peer_wants_disc);
+    let n = flag(t, n, class.echo);
+    let n = flag(t, n, class.doppler);
     let n = number(t, n, k.peer_slot as u64);
     let n = single(t, n, k.peer_doppler_hz);
-    let n = flag(t, n, cue);
+    let n = flag(t, n, g.cue);
     puts(t, n, b"\n")
 }
 
@@ -135,13 +100,15 @@ fn reports(t: &mut [u8], n: usize, r: Reports) -> usize
     if_set(t, n, r.count >= 1, r.c)
 }
 
-fn aim(t: &mut [u8], n: usize, a: MaybeDb, last: MaybeDb, r: Reports) -> usize
-    ensures { λ q. ⌜ (q, now (t .exit)) ≡ appended (n, now (t .entry)) (aimWords a last r) ⌝ }
+fn aim(t: &mut [u8], n: usize, g: Gear) -> usize
+    ensures { λ r. ⌜ (r, now (t .exit)) ≡ appended (n, now (t .entry)) (aimLine g) ⌝ }
 {
+    let a = g.aim_db;
+    let last = g.last_report_db;
     let n = puts(t, n, b"aim");
     let n = maybe_single(t, n, a.set, a.db);
     let n = maybe_single(t, n, last.set, last.db);
-    let n = reports(t, n, r);
+    let n = reports(t, n, g.snr_reports);
     puts(t, n, b"\n")
 }
 
@@ -168,10 +135,12 @@ fn gear_line(
     puts(t, n, b"\n")
 }
 
-fn level(t: &mut [u8], n: usize, s: Tries, h: Holds, l: usize) -> usize
+fn level(t: &mut [u8], n: usize, g: Gear, l: usize) -> usize
     requires { ⌜ l < 17 ⌝ }
-    ensures { λ r. ⌜ (r, now (t .exit)) ≡ appended (n, now (t .entry)) (levelWords s h l) ⌝ }
+    ensures { λ r. ⌜ (r, now (t .exit)) ≡ appended (n, now (t .entry)) (gearOf g l) ⌝ }
 {
+    let s = g.tries;
+    let h = g.holds;
     gear_line(
         t,
         n,
@@ -185,25 +154,16 @@ fn level(t: &mut [u8], n: usize, s: Tries, h: Holds, l: usize) -> usize
     )
 }
 
-fn levels(t: &mut [u8], n: usize, s: Tries, h: Holds) -> usize
-    ensures { λ r. ⌜ (r, now (t .exit)) ≡ appended (n, now (t .entry)) (each (levelWords s h) (upto 0 17)) ⌝ }
+fn levels(t: &mut [u8], n: usize, g: Gear) -> usize
+    ensures { λ r. ⌜ (r, now (t .exit)) ≡ appended (n, now (t .entry)) (each (gearOf g) (upto 0 17)) ⌝ }
 {
     let mut n = n;
     let mut l: usize = 0;
     while l < 17 {
-        n = level(t, n, s, h, l);
+        n = level(t, n, g, l);
         l += 1;
     }
     n
-}
-
-fn before_counts(t: &mut [u8], n: usize, burst_s: f64, g: Gear, k: Link) -> usize
-    ensures { λ r. ⌜ (r, now (t .exit)) ≡ appended (n, now (t .entry)) (beforeCounts «burst_s» g k) ⌝ }
-{
-    let n = first(t, n, burst_s, g.level, g.target, k);
-    let n = link(t, n, g.peer_class, g.cue, k);
-    let n = aim(t, n, g.aim_db, g.last_report_db, g.snr_reports);
-    levels(t, n, g.tries, g.holds)
 }
 
 fn counts(t: &mut [u8], n: usize, c: Counts, withdrawn: u32) -> usize
@@ -215,39 +175,21 @@ fn counts(t: &mut [u8], n: usize, c: Counts, withdrawn: u32) -> usize
     puts(t, n, b"\n")
 }
 
-// wave: the far station's.
-fn from_counts(
-    t: &mut [u8],
-    n: usize,
-    area: &[u8],
-    c: Counts,
-    withdrawn: u32,
-    h: AtPeer,
-    wave: u8,
-    b: LastBurst,
-) -> usize
-    ensures { λ r. ⌜ (r, now (t .exit)) ≡ appended (n, now (t .entry)) (fromCounts (now (area .entry)) c withdrawn h wave b) ⌝ }
-{
-    let n = counts(t, n, c, withdrawn);
-    let n = pieces(t, n, area, c.pieces);
-    let n = held(t, n, h, wave);
-    let n = rest(t, n, h);
-    sent(t, n, b)
-}
-
 // The whole answer. burst_s: the burst seconds as the gear reads them; withdrawn: the bytes withdrawn.
 pub fn state(t: &mut [u8], n: usize, burst_s: f64, s: Sender, withdrawn: u32, area: &[u8]) -> usize
     ensures { λ r. ⌜ (r, now (t .exit)) ≡ appended (n, now (t .entry)) (stateLines «burst_s» s withdrawn (now (area .entry))) ⌝ }
 {
-    let n = before_counts(t, n, burst_s, s.gear, s.link);
-    from_counts(
-        t,
-        n,
-        area,
-        s.counts,
-        withdrawn,
-        s.at_peer,
-        s.link.peer_wave,
-        s.last_burst,
-    )
+    let g = s.gear;
+    let k = s.link;
+    let c = s.counts;
+    let h = s.at_peer;
+    let n = first(t, n, burst_s, g, k);
+    let n = link(t, n, g, k);
+    let n = aim(t, n, g);
+    let n = levels(t, n, g);
+    let n = counts(t, n, c, withdrawn);
+    let n = pieces(t, n, area, c.pieces);
+    let n = held(t, n, h, k.peer_wave);
+    let n = rest(t, n, h);
+    sent(t, n, s.last_burst)
 }

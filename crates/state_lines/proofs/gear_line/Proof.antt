@@ -9,31 +9,31 @@ slice-aggregate-puts : tie.Need-slice-aggregate-puts
 slice-aggregate-puts c = search needs
 
 puts-requires : tie.Need-puts-requires
-puts-requires c κs = tt
+puts-requires c κs = search needs
 
 number-requires : tie.Need-number-requires
-number-requires c κs = tt
+number-requires c κs = search needs
 
 maybe-single-requires : tie.Need-maybe-single-requires
-maybe-single-requires c κs = tt
+maybe-single-requires c κs = search needs
 
 double-requires : tie.Need-double-requires
-double-requires c κs = tt
+double-requires c κs = search needs
 
 number-requires-2 : tie.Need-number-requires-2
-number-requires-2 c κs = tt
+number-requires-2 c κs = search needs
 
 double-requires-2 : tie.Need-double-requires-2
-double-requires-2 c κs = tt
+double-requires-2 c κs = search needs
 
 flag-requires : tie.Need-flag-requires
-flag-requires c κs = tt
+flag-requires c κs = search needs
 
 slice-aggregate-puts-2 : tie.Need-slice-aggregate-puts-2
 slice-aggregate-puts-2 c = search needs
 
 puts-requires-2 : tie.Need-puts-requires-2
-puts-requires-2 c κs = tt
+puts-requires-2 c κs = search needs
 
 same-length : tie.Need-same-length
 same-length c =

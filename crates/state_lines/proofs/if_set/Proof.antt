@@ -1,12 +1,13 @@
 -- `state_lines::if_set` meets its contract.
 use mathlib.Core.Path.{refl}
+use borrow.Author.Needs.{needs}
 use Rattle.laws.proofs.Picks.{cond-yes, cond-no}
 use Rattle.text.proofs.Laws.{appends, told, nothing}
 use Rattle.state_lines.proofs.if_set.Statement.{statement}
 use Rattle.state_lines.proofs.if_set.Tie as tie
 
 single-requires : tie.Need-single-requires
-single-requires c κs = tt
+single-requires c κs = search needs
 
 same-length : tie.Need-same-length
 same-length c =

@@ -1,6 +1,6 @@
 -- `state_lines::level` meets its contract.
 use borrow.Author.Needs.{needs}
-use Rattle.state_lines.specs.StateCode.{levelWords}
+use Rattle.state_lines.specs.State.{gearOf}
 use Rattle.text.proofs.Laws.{appends}
 use Rattle.state_lines.proofs.level.Statement.{statement}
 use Rattle.state_lines.proofs.level.Tie as tie
@@ -33,7 +33,7 @@ element-copy-out-gear-line-6 : tie.Need-element-copy-out-gear-line-6
 element-copy-out-gear-line-6 c = search needs
 
 gear-line-requires : tie.Need-gear-line-requires
-gear-line-requires c κs = tt
+gear-line-requires c κs = search needs
 
 same-length : tie.Need-same-length
 same-length c =
@@ -41,7 +41,7 @@ same-length c =
     p1 .gear-line .kept .0
 
 returns : tie.Need-returns
-unfolding levelWords
+unfolding gearOf
 returns c =
     let p1 = c .before .before in
     (appends (p1 .gear-line .ensures)) .is

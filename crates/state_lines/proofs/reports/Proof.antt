@@ -1,18 +1,19 @@
 -- `state_lines::reports` meets its contract.
 use mathlib.Core.Path.{_∙_}
+use borrow.Author.Needs.{needs}
 use Rattle.state_lines.specs.State.{reports}
 use Rattle.text.proofs.Laws.{appends, _⨾_}
 use Rattle.state_lines.proofs.reports.Statement.{statement}
 use Rattle.state_lines.proofs.reports.Tie as tie
 
 if-set-requires : tie.Need-if-set-requires
-if-set-requires c κs = tt
+if-set-requires c κs = search needs
 
 if-set-requires-2 : tie.Need-if-set-requires-2
-if-set-requires-2 c κs = tt
+if-set-requires-2 c κs = search needs
 
 if-set-requires-3 : tie.Need-if-set-requires-3
-if-set-requires-3 c κs = tt
+if-set-requires-3 c κs = search needs
 
 same-length : tie.Need-same-length
 same-length c =

@@ -18,25 +18,25 @@ add-number-2 : tie.Need-add-number-2
 add-number-2 c = search needs
 
 number-requires : tie.Need-number-requires
-number-requires c κs = tt
+number-requires c κs = search needs
 
 cast-number-3 : tie.Need-cast-number-3
 cast-number-3 c = search needs
 
 number-requires-2 : tie.Need-number-requires-2
-number-requires-2 c κs = tt
+number-requires-2 c κs = search needs
 
 cast-number-4 : tie.Need-cast-number-4
 cast-number-4 c = search needs
 
 number-requires-3 : tie.Need-number-requires-3
-number-requires-3 c κs = tt
+number-requires-3 c κs = search needs
 
 cast-number-5 : tie.Need-cast-number-5
 cast-number-5 c = search needs
 
 number-requires-4 : tie.Need-number-requires-4
-number-requires-4 c κs = tt
+number-requires-4 c κs = search needs
 
 same-length : tie.Need-same-length
 same-length c =

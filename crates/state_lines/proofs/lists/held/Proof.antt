@@ -10,13 +10,13 @@ slice-aggregate-puts : tie.Need-slice-aggregate-puts
 slice-aggregate-puts c = search needs
 
 puts-requires : tie.Need-puts-requires
-puts-requires c κs = tt
+puts-requires c κs = search needs
 
 number-requires : tie.Need-number-requires
-number-requires c κs = tt
+number-requires c κs = search needs
 
 number-requires-2 : tie.Need-number-requires-2
-number-requires-2 c κs = tt
+number-requires-2 c κs = search needs
 
 slice-aggregate-held-from : tie.Need-slice-aggregate-held-from
 slice-aggregate-held-from c = search needs
@@ -25,13 +25,13 @@ slice-aggregate-held-from-2 : tie.Need-slice-aggregate-held-from-2
 slice-aggregate-held-from-2 c = search needs
 
 held-from-requires : tie.Need-held-from-requires
-held-from-requires c κs = tt
+held-from-requires c κs = search needs
 
 slice-aggregate-puts-2 : tie.Need-slice-aggregate-puts-2
 slice-aggregate-puts-2 c = search needs
 
 puts-requires-2 : tie.Need-puts-requires-2
-puts-requires-2 c κs = tt
+puts-requires-2 c κs = search needs
 
 same-length : tie.Need-same-length
 same-length c =

@@ -10,10 +10,10 @@ slice-aggregate-puts : tie.Need-slice-aggregate-puts
 slice-aggregate-puts c = search needs
 
 puts-requires : tie.Need-puts-requires
-puts-requires c κs = tt
+puts-requires c κs = search needs
 
 number-requires : tie.Need-number-requires
-number-requires c κs = tt
+number-requires c κs = search needs
 
 slice-aggregate-sent-frames : tie.Need-slice-aggregate-sent-frames
 slice-aggregate-sent-frames c = search needs
@@ -25,13 +25,13 @@ slice-aggregate-sent-frames-3 : tie.Need-slice-aggregate-sent-frames-3
 slice-aggregate-sent-frames-3 c = search needs
 
 sent-frames-requires : tie.Need-sent-frames-requires
-sent-frames-requires c κs = tt
+sent-frames-requires c κs = search needs
 
 slice-aggregate-puts-2 : tie.Need-slice-aggregate-puts-2
 slice-aggregate-puts-2 c = search needs
 
 puts-requires-2 : tie.Need-puts-requires-2
-puts-requires-2 c κs = tt
+puts-requires-2 c κs = search needs
 
 same-length : tie.Need-same-length
 same-length c =

@@ -67,7 +67,7 @@ shared-slice-read-long-entry-3 : tie.Need-shared-slice-read-long-entry-3 Inv-loo
 shared-slice-read-long-entry-3 c = search needs
 
 long-entry-requires : tie.Need-long-entry-requires Inv-loop μ-loop
-long-entry-requires c κs = tt
+long-entry-requires c κs = search needs
 
 add-i : tie.Need-add-i Inv-loop μ-loop
 add-i c = search needs
