@@ -31,7 +31,6 @@ ghost use Rattle.list_calls.specs.Asked.{noLine, replyLine, connectAsks,
 ghost use Rattle.list_calls.specs.Asked.{framesAsks, queueAsks, askLine, made};
 
 pub mod answers;
-pub mod lines;
 
 // A line that asks the sender, read: whether it was right, and what it asks. `kind`: QUEUE, FRAMES, or 0 for a reply. `len`: how many bytes
 // go with it. What the line's kind does not have is as in `no_line`.
