@@ -23,7 +23,7 @@ use Rattle.adif.specs.declared.Logged.{Logged}
 use Rattle.adif.specs.Adif.{lastDigits, numeral, dateText, timeText, Field, fieldsOf, writtenAll, recordOf, refusalOf, logOf}
 use Rattle.adif.specs.Adif.{«CALL», «QSO_DATE», «TIME_ON», «QSO_DATE_OFF», «TIME_OFF», «APP_STATION_ACKED»}
 use Rattle.adif.specs.Reading.{numberIn, alike, readFields, readRecord, valueOf, dateIn, timeIn}
-use Rattle.adif.specs.Claim.{Holds, ReadBack}
+use Rattle.adif.specs.Claim.{LogHolds, ReadBack}
 use Rattle.adif.proofs.Steps.{length-digits, length-date, length-time, decimal-most, record-most}
 use Rattle.adif.proofs.Refusals.{Accepted, accepted}
 use Rattle.adif.proofs.Numbers.{tens, digits-back, decimal-back, no-zero}
@@ -132,7 +132,7 @@ second-text : (t : ℕ) → t ≤ lastSecond → secondOf (dateIn (dateText t)) 
 second-text t h = ap₂ secondOf (date-text-back t h) (time-text-back t) ∙ second-back t h
 
 module _ (call : List ℕ) (on off acked : ℕ) (out : List ℕ) (ok : refusalOf call on off (length out) ≡ 0) (width : acked < 4294967296) where
-  holds : Holds call on off acked out (fieldsOf call on off acked) (drop (length (recordOf call on off acked)) out)
+  holds : LogHolds call on off acked out (fieldsOf call on off acked) (drop (length (recordOf call on off acked)) out)
   unfolding valueOf alike
   holds =
       let a = accepted call on off (length out) ok in

@@ -10,8 +10,8 @@ use lib.Dec.{eqb}
 use lib.ListN.{length, take, drop}
 use lib.Seq.{take-append-seam, drop-append-seam}
 use Rattle.laws.proofs.Picks.{and-right, and-first, and-second}
-use Rattle.adif.specs.Adif.{lastDigits, numeral, places, written, Field, writtenAll}
-use Rattle.adif.specs.Reading.{before, behind, numberIn, alike, tagOf, dataOf, tagCount, readFields}
+use Rattle.adif.specs.Adif.{lastDigits, numeral, digitCount, written, Field, writtenAll}
+use Rattle.adif.specs.Reading.{beforeFirst, afterFirst, numberIn, alike, tagOf, dataOf, tagCount, readFields}
 use Rattle.adif.proofs.Numbers.{decimal-back}
 
 -- ---- lists that a character is not in
@@ -42,21 +42,21 @@ without-digits c (suc k) n h =
 
 without-decimal : (c n : ℕ) → 57 < c → Without c (numeral n)
 unfolding numeral
-without-decimal c n h = without-digits c (places 9 n) n h
+without-decimal c n h = without-digits c (digitCount 9 n) n h
 
 module _ (c : ℕ) where
-  before-cat : (xs ys : List ℕ) → Without c xs → before c (xs ++ (c ∷ ys)) ≡ xs
-  unfolding before
+  before-cat : (xs ys : List ℕ) → Without c xs → beforeFirst c (xs ++ (c ∷ ys)) ≡ xs
+  unfolding beforeFirst
   before-cat [] ys h = rw (eq-eqb c c refl)
   before-cat (x ∷ xs) ys h = rw (h .0) (ap (λ (r : List ℕ). x ∷ r) (before-cat xs ys (h .1)))
 
-  behind-cat : (xs ys : List ℕ) → Without c xs → behind c (xs ++ (c ∷ ys)) ≡ ys
-  unfolding behind
+  behind-cat : (xs ys : List ℕ) → Without c xs → afterFirst c (xs ++ (c ∷ ys)) ≡ ys
+  unfolding afterFirst
   behind-cat [] ys h = rw (eq-eqb c c refl)
   behind-cat (x ∷ xs) ys h = rw (h .0) (behind-cat xs ys (h .1))
 
-  before-all : (xs : List ℕ) → Without c xs → before c xs ≡ xs
-  unfolding before
+  before-all : (xs : List ℕ) → Without c xs → beforeFirst c xs ≡ xs
+  unfolding beforeFirst
   before-all [] h = refl
   before-all (x ∷ xs) h = rw (h .0) (ap (λ (r : List ℕ). x ∷ r) (before-all xs (h .1)))
 
@@ -82,8 +82,8 @@ plain-field name value c a s = record { colon = lacks-without 58 name c; angle =
 
 module _ (name value rest : List ℕ) where
   -- what stands behind the `<`
-  inside : behind 60 (written name value ++ rest) ≡ (name ++ (58 ∷ numeral (length value))) ++ (62 ∷ (value ++ rest))
-  unfolding behind written
+  inside : afterFirst 60 (written name value ++ rest) ≡ (name ++ (58 ∷ numeral (length value))) ++ (62 ∷ (value ++ rest))
+  unfolding afterFirst written
   inside = simp append-assoc
 
   module _ (angle : Without 62 name) where
@@ -91,14 +91,14 @@ module _ (name value rest : List ℕ) where
     whole = without-cat 62 name (58 ∷ numeral (length value)) angle (refl, without-decimal 62 (length value) (omega arith))
 
     tag : tagOf (written name value ++ rest) ≡ name ++ (58 ∷ numeral (length value))
-    tag = ap (before 62) inside ∙ before-cat 62 (name ++ (58 ∷ numeral (length value))) (value ++ rest) whole
+    tag = ap (beforeFirst 62) inside ∙ before-cat 62 (name ++ (58 ∷ numeral (length value))) (value ++ rest) whole
 
     chars : dataOf (written name value ++ rest) ≡ value ++ rest
-    chars = ap (behind 62) inside ∙ behind-cat 62 (name ++ (58 ∷ numeral (length value))) (value ++ rest) whole
+    chars = ap (afterFirst 62) inside ∙ behind-cat 62 (name ++ (58 ∷ numeral (length value))) (value ++ rest) whole
 
   count : Without 58 name → length value < 10000000000 → tagCount (name ++ (58 ∷ numeral (length value))) ≡ length value
   count colon short =
-      ap (λ (d : List ℕ). numberIn 0 (before 58 d)) (behind-cat 58 name (numeral (length value)) colon)
+      ap (λ (d : List ℕ). numberIn 0 (beforeFirst 58 d)) (behind-cat 58 name (numeral (length value)) colon)
       ∙ ap (numberIn 0) (before-all 58 (numeral (length value)) (without-decimal 58 (length value) (omega arith)))
       ∙ decimal-back (length value) short
 
@@ -123,7 +123,7 @@ AllPlain [] = Unit {0}
 AllPlain (f ∷ fs) = Plain f × AllPlain fs
 
 read-end : (k : ℕ) (rest : List ℕ) → readFields (suc k) (writtenAll [] ++ rest) ≡ ([], rest)
-unfolding readFields before behind alike
+unfolding readFields beforeFirst afterFirst alike
 read-end k rest = refl
 
 pub fields-back : (fs : List Field) (rest : List ℕ) (k : ℕ) → AllPlain fs → length fs ≤ k

@@ -20,31 +20,31 @@ use Rattle.calendar.specs.declared.Time.{Time}
 use Rattle.calendar.specs.Calendar.{dateOf, timeOf}
 use lib.Seq.{take-at}
 use Rattle.adif.specs.Adif.{«CALL», «QSO_DATE», «TIME_ON», «QSO_DATE_OFF», «TIME_OFF», «APP_STATION_ACKED»}
-use Rattle.adif.specs.Adif.{lastDigits, places, numeral, dateText, timeText, written, writtenAll, recordOf, signChar, signOk}
+use Rattle.adif.specs.Adif.{lastDigits, digitCount, numeral, dateText, timeText, written, writtenAll, recordOf, signChar, signOk}
 use Rattle.adif.specs.AdifCode.{Put, moment}
 
 -- ---- the loop that counts digits
 
-module _ (k r z : ℕ) (inv : z ≡ (k - 1) + places (10 - k) r) (from : 1 ≤ k) where
+module _ (k r z : ℕ) (inv : z ≡ (k - 1) + digitCount (10 - k) r) (from : 1 ≤ k) where
   pub count-found : k < 10 → r < 10 → k ≡ z
-  unfolding places
+  unfolding digitCount
   count-found h l =
       let j : 10 - k ≡ suc (9 - k) = omega arith in
-      let e : places (10 - k) r ≡ 1 = ap (λ (x : ℕ). places x r) j ∙ rw (lt-ltb r 10 l) in
+      let e : digitCount (10 - k) r ≡ 1 = ap (λ (x : ℕ). digitCount x r) j ∙ rw (lt-ltb r 10 l) in
       omega arith
 
-  pub count-next : k < 10 → 10 ≤ r → z ≡ (k + 1 - 1) + places (10 - (k + 1)) (r / 10)
-  unfolding places
+  pub count-next : k < 10 → 10 ≤ r → z ≡ (k + 1 - 1) + digitCount (10 - (k + 1)) (r / 10)
+  unfolding digitCount
   count-next h l =
       let j : 10 - k ≡ suc (10 - (k + 1)) = omega arith in
-      let e : places (10 - k) r ≡ suc (places (10 - (k + 1)) (r / 10)) = ap (λ (x : ℕ). places x r) j ∙ rw (le-ltb r 10 l) in
+      let e : digitCount (10 - k) r ≡ suc (digitCount (10 - (k + 1)) (r / 10)) = ap (λ (x : ℕ). digitCount x r) j ∙ rw (le-ltb r 10 l) in
       omega arith
 
   pub count-last : 10 ≤ k → k ≤ 10 → k ≡ z
-  unfolding places
+  unfolding digitCount
   count-last h l =
       let j : 10 - k ≡ 0 = omega arith in
-      let e : places (10 - k) r ≡ 1 = ap (λ (x : ℕ). places x r) j in
+      let e : digitCount (10 - k) r ≡ 1 = ap (λ (x : ℕ). digitCount x r) j in
       omega arith
 
 -- ---- digits
@@ -72,19 +72,19 @@ digits-none l at n = over-nil l at
 
 -- ---- a decimal has 1 to 10 digits
 
-pub places-least : (k n : ℕ) → 1 ≤ places k n
-unfolding places
+pub places-least : (k n : ℕ) → 1 ≤ digitCount k n
+unfolding digitCount
 places-least zero n = omega arith
 places-least (suc k) n = by (λ (x : ℕ). 1 ≤ x) (ltb n 10) (λ e. omega arith) (λ e. omega arith)
 
-pub places-most : (k n : ℕ) → places k n ≤ suc k
-unfolding places
+pub places-most : (k n : ℕ) → digitCount k n ≤ suc k
+unfolding digitCount
 places-most zero n = omega arith
 places-most (suc k) n = by (λ (x : ℕ). x ≤ suc (suc k)) (ltb n 10) (λ e. omega arith) (λ e. omega (arith, places-most k (n / 10)))
 
-pub length-decimal : (n : ℕ) → length (numeral n) ≡ places 9 n
+pub length-decimal : (n : ℕ) → length (numeral n) ≡ digitCount 9 n
 unfolding numeral
-length-decimal n = length-digits (places 9 n) n
+length-decimal n = length-digits (digitCount 9 n) n
 
 pub decimal-most : (n : ℕ) → length (numeral n) ≤ 10
 decimal-most n = omega (arith, length-decimal n, places-most 9 n)
@@ -141,9 +141,9 @@ pub length-time : (t : ℕ) → length (timeText t) ≡ 6
 unfolding timeText
 length-time t = simp (length-append, length-digits)
 
-pub decimal-made : (l x : List ℕ) (at n k : ℕ) → k ≡ places 9 n → x ≡ overwrite l at (lastDigits k n) → Put l at (numeral n) x (at + k)
+pub decimal-made : (l x : List ℕ) (at n k : ℕ) → k ≡ digitCount 9 n → x ≡ overwrite l at (lastDigits k n) → Put l at (numeral n) x (at + k)
 unfolding numeral
-decimal-made l x at n k e p = (p ∙ ap (λ (j : ℕ). overwrite l at (lastDigits j n)) e, omega (arith, length-digits (places 9 n) n))
+decimal-made l x at n k e p = (p ∙ ap (λ (j : ℕ). overwrite l at (lastDigits j n)) e, omega (arith, length-digits (digitCount 9 n) n))
 
 pub length-written : (name value : List ℕ) → length (written name value) ≤ length name + length value + 13
 unfolding written

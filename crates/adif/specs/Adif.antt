@@ -17,13 +17,13 @@ lastDigits zero n = []
 lastDigits (suc k) n = lastDigits k (n / 10) ++ ((48 + n % 10) ∷ [])
 
 -- how many digits n has, of at most k + 1
-unfoldable pub places : ℕ → ℕ → ℕ
-places zero n = 1
-places (suc k) n = cond (ltb n 10) 1 (suc (places k (n / 10)))
+unfoldable pub digitCount : ℕ → ℕ → ℕ
+digitCount zero n = 1
+digitCount (suc k) n = cond (ltb n 10) 1 (suc (digitCount k (n / 10)))
 
 -- "in decimal with no leading zero", of a number below 10^10
 unfoldable pub numeral : ℕ → List ℕ
-numeral n = lastDigits (places 9 n) n
+numeral n = lastDigits (digitCount 9 n) n
 
 -- "Dates are eight digits", year, month, day
 unfoldable pub dateText : ℕ → List ℕ

@@ -10,7 +10,7 @@ use Rattle.adif.specs.Adif.{«APP_STATION_ACKED»}
 use Rattle.adif.specs.Reading.{numberIn, readRecord, valueOf, dateIn, timeIn}
 
 -- what is read of an output: the fields fs up to `<EOR>`, then rest, which is the output's as it was
-pub record Holds (call : List ℕ) (on off acked : ℕ) (out : List ℕ) (fs : List Field) (rest : List ℕ) : Type 0 where
+pub record LogHolds (call : List ℕ) (on off acked : ℕ) (out : List ℕ) (fs : List Field) (rest : List ℕ) : Type 0 where
   pub fields : fs ≡ fieldsOf call on off acked
   pub kept : rest ≡ drop (logOf call on off acked out .0 .len) out
   pub sign : valueOf «CALL» fs ≡ call
@@ -25,4 +25,4 @@ pub record Holds (call : List ℕ) (on off acked : ℕ) (out : List ℕ) (fs : L
 -- of every accepted call; proved in proofs/Laws.antt
 abbrev pub ReadBack : Type 0
 ReadBack = (call : List ℕ) (on off acked : ℕ) (out : List ℕ) → refusalOf call on off (length out) ≡ 0 → acked < 4294967296
-    → let r = readRecord (logOf call on off acked out .1) in Holds call on off acked out (r .0) (r .1)
+    → let r = readRecord (logOf call on off acked out .1) in LogHolds call on off acked out (r .0) (r .1)

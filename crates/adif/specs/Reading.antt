@@ -11,13 +11,13 @@ use Rattle.calendar.specs.declared.Time.{Time}
 use Rattle.adif.specs.Adif.{Field}
 
 -- what stands before the first c, and behind it
-unfoldable pub before : ℕ → List ℕ → List ℕ
-before c [] = []
-before c (x ∷ xs) = cond (eqb x c) [] (x ∷ before c xs)
+unfoldable pub beforeFirst : ℕ → List ℕ → List ℕ
+beforeFirst c [] = []
+beforeFirst c (x ∷ xs) = cond (eqb x c) [] (x ∷ beforeFirst c xs)
 
-unfoldable pub behind : ℕ → List ℕ → List ℕ
-behind c [] = []
-behind c (x ∷ xs) = cond (eqb x c) xs (behind c xs)
+unfoldable pub afterFirst : ℕ → List ℕ → List ℕ
+afterFirst c [] = []
+afterFirst c (x ∷ xs) = cond (eqb x c) xs (afterFirst c xs)
 
 -- the number that digits spell, after those that spell v
 unfoldable pub numberIn : ℕ → List ℕ → ℕ
@@ -32,13 +32,13 @@ alike (x ∷ xs) (y ∷ ys) = eqb x y && alike xs ys
 
 -- the tag, and what stands behind it
 abbrev pub tagOf : List ℕ → List ℕ
-tagOf bs = before 62 (behind 60 bs)
+tagOf bs = beforeFirst 62 (afterFirst 60 bs)
 
 abbrev pub dataOf : List ℕ → List ℕ
-dataOf bs = behind 62 (behind 60 bs)
+dataOf bs = afterFirst 62 (afterFirst 60 bs)
 
 abbrev pub tagCount : List ℕ → ℕ
-tagCount tag = numberIn 0 (before 58 (behind 58 tag))
+tagCount tag = numberIn 0 (beforeFirst 58 (afterFirst 58 tag))
 
 -- the fields up to `<EOR>`, at most k, and what stands behind that
 unfoldable pub readFields : ℕ → List ℕ → List Field × List ℕ
@@ -47,7 +47,7 @@ readFields (suc k) bs =
     cond (alike (tagOf bs) (69 ∷ 79 ∷ 82 ∷ []))
     ([], dataOf bs)
     (let n = tagCount (tagOf bs) in
-    let r = readFields k (drop n (dataOf bs)) in (record { name = before 58 (tagOf bs); value = take n (dataOf bs) } ∷ r .0, r .1))
+    let r = readFields k (drop n (dataOf bs)) in (record { name = beforeFirst 58 (tagOf bs); value = take n (dataOf bs) } ∷ r .0, r .1))
 
 -- a record of any number of fields
 abbrev pub readRecord : List ℕ → List Field × List ℕ

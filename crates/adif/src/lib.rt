@@ -7,7 +7,7 @@ ghost use mathlib.Core.List.{[], _∷_};
 ghost use Prim.Native.Nat.{_+_, _≤_};
 ghost use lib.ListN.{length};
 ghost use Rattle.laws.specs.Bytes.{overwrite};
-ghost use Rattle.adif.specs.Adif.{lastDigits, places, numeral, dateText, timeText, written, recordOf};
+ghost use Rattle.adif.specs.Adif.{lastDigits, digitCount, numeral, dateText, timeText, written, recordOf};
 ghost use Rattle.adif.specs.Adif.{signChar, signOk, refusalOf, logOf};
 ghost use Rattle.adif.specs.AdifCode.{Put, moment};
 
@@ -54,7 +54,7 @@ fn put_digits(out: &mut [u8], at: usize, k: usize, n: u64)
 
 // How many digits a number below 10^10 has.
 fn count_digits(n: u64) -> usize
-    ensures { λ r. ⌜ r ≡ places 9 n ⌝ }
+    ensures { λ r. ⌜ r ≡ digitCount 9 n ⌝ }
 {
     let mut k = 1;
     let mut rest = n;

@@ -18,7 +18,7 @@ use Rattle.limits.specs.Limits.{maxNumber}
 use Rattle.window.specs.Window as W
 use Rattle.window.specs.Window.{lead, moved}
 use Rattle.window.specs.WindowCode.{has}
-use Rattle.window.proofs.Fits.{Fits, drop-lead, has-moved, length-moved}
+use Rattle.window.proofs.Fits.{WindowFits, drop-lead, has-moved, length-moved}
 use Rattle.receiver.specs.Frames.{Slotted, lenOf, offOf, payloadOf, boxBytes}
 use Rattle.receiver.specs.declared.Taking.{Taking}
 use Rattle.receiver.specs.Taking.{noneTaken, takeAll, slotted}
@@ -75,7 +75,7 @@ sent-by l first at c (i ∷ places) = (refl, c i, sent-by l first at c places)
 
 -- ---- what the call makes of them
 
-module _ (l : List ℕ) (first : ℕ) (h : first ≤ length l) (at : ℕ → List ℕ) (c : (i : ℕ) → Carries l (at i)) (places a : List ℕ) (big : boxBytes ≤ length a) (f : Fits (take boxBytes a) (drop first l)) where
+module _ (l : List ℕ) (first : ℕ) (h : first ≤ length l) (at : ℕ → List ℕ) (c : (i : ℕ) → Carries l (at i)) (places a : List ℕ) (big : boxBytes ≤ length a) (f : WindowFits (take boxBytes a) (drop first l)) where
   abbrev pub y : Taking × List ℕ
   y = takeAll first (slottedBy at places) (noneTaken, take boxBytes a)
 

@@ -14,14 +14,14 @@ use Rattle.ledger.specs.Tally.{Tally, Event, byteOf, feed, Flown}
 use Rattle.ledger.specs.Claim.{ackedAt, settledBy}
 use Rattle.window.specs.Window.{lead, handed, moved}
 use Rattle.window.specs.WindowCode.{has}
-use Rattle.window.proofs.Fits.{Fits, fits-more, fits-lead, fits-handed, fits-moved, has-moved, length-moved}
+use Rattle.window.proofs.Fits.{WindowFits, fits-more, fits-lead, fits-handed, fits-moved, has-moved, length-moved}
 use Rattle.arrival.proofs.Growing.{bytes}
 
 pub record Arrived (t : Tally) (first : ℕ) (w on : List ℕ) : Type 0 where
   pub count : length on ≡ first
   pub within : first ≤ length (bytes t)
   pub begun : on ≡ take first (bytes t)
-  pub fits : Fits w (drop first (bytes t))
+  pub fits : WindowFits w (drop first (bytes t))
   pub acked : (o : ℕ) → ackedAt o (t .flown) ≡ true → has first w o ≡ true
 
 or-either : (a b : Bool) → (a || b) ≡ true → (a ≡ true) ⊎ (b ≡ true)
@@ -37,7 +37,7 @@ called e t m first w on g x s a =
       count = a .count;
       within = omega (arith, a .within, ap length g, length-append (bytes t) m);
       begun = a .begun ∙ sym (ap (take first) g ∙ take-append-le first (bytes t) m (a .within));
-      fits = subst (λ (l : List ℕ). Fits w l) (sym (ap (drop first) g ∙ drop-append-le first (bytes t) m (a .within))) (fits-more w (drop first (bytes t)) m (a .fits));
+      fits = subst (λ (l : List ℕ). WindowFits w l) (sym (ap (drop first) g ∙ drop-append-le first (bytes t) m (a .within))) (fits-more w (drop first (bytes t)) m (a .fits));
       acked = λ o k. go o (or-either (ackedAt o (t .flown)) _ (sym (x o) ∙ k));
     }
   where
@@ -46,7 +46,7 @@ called e t m first w on g x s a =
     go o (inr k) = s o (and-second (ltb o (length (t .flown))) (settledBy e (t .out) o) k)
 
 -- the receiver's call: `v` is what it keeps of the burst's frames before it hands on
-pub received : (t : Tally) (first : ℕ) (w v on : List ℕ) → Fits v (drop first (bytes t)) → ((o : ℕ) → has first w o ≡ true → has first v o ≡ true)
+pub received : (t : Tally) (first : ℕ) (w v on : List ℕ) → WindowFits v (drop first (bytes t)) → ((o : ℕ) → has first w o ≡ true → has first v o ≡ true)
     → Arrived t first w on → Arrived t (first + lead v) (moved v) (on ++ handed v)
 received t first w v on f s a =
     let k = fits-lead v (drop first (bytes t)) f in
@@ -55,6 +55,6 @@ received t first w v on f s a =
       count = omega (arith, length-append on (handed v), ap length (fits-handed v (drop first (bytes t)) f), length-take (lead v) (drop first (bytes t)), k, a .count);
       within = omega (arith, k, d, a .within);
       begun = ap₂ _++_ (a .begun) (fits-handed v (drop first (bytes t)) f) ∙ sym (take-add first (lead v) (bytes t));
-      fits = subst (λ (l : List ℕ). Fits (moved v) l) (drop-drop (lead v) first (bytes t)) (fits-moved v (drop first (bytes t)) f);
+      fits = subst (λ (l : List ℕ). WindowFits (moved v) l) (drop-drop (lead v) first (bytes t)) (fits-moved v (drop first (bytes t)) f);
       acked = λ o e. has-moved first v o (s o (a .acked o e));
     }

@@ -15,7 +15,7 @@ use Rattle.ledger.specs.Ledger.{Frame}
 use Rattle.ledger.specs.Tally.{furthest}
 use Rattle.receiver.specs.Frames.{lenOf, offOf, offsets}
 use Rattle.receiver.proofs.Takes.{Carries}
-use Rattle.receiver.proofs.Sent.{sent-length, sent-offset, sent-carries}
+use Rattle.receiver.proofs.Sent.{length-read-back, sent-offset, sent-carries}
 use Rattle.demand.specs.Page.{Taken, WithRoom, framesOfTaken}
 use Rattle.demand.proofs.Payloads.{take-drop-more}
 use Rattle.arrival.specs.Channel.{cutInto}
@@ -78,7 +78,7 @@ module _ (size : ℕ) (b l rest : List ℕ) (is : b ≡ l ++ rest) (few : length
   sent-matches [] t = tt
   sent-matches (f ∷ fs) t = (
     sent-offset size (f .off) (carried size b f) (omega (arith, t .0, t .1, few)),
-    sent-length size (f .off) (carried size b f) ∙ length-carried size b f (t .1),
+    length-read-back size (f .off) (carried size b f) ∙ length-carried size b f (t .1),
     sent-matches fs (t .2),
   )
 

@@ -33,7 +33,7 @@ use Rattle.refusals.specs.declared.Reply.the-variants.{ConnAck, Ack, LongAck, T
 use Rattle.verdicts.specs.Verdicts.{passed}
 use Rattle.reception.specs.Reception.{Decoded, decodedIn, isRead}
 use Rattle.sender.specs.Calls.{burstCall}
-use Rattle.demand.specs.Lists.{Call, queues, hears, receives, bursts, State, Given, freshStart, framesAnswered, next, told, longEvent, replyEvent, repliesIn}
+use Rattle.demand.specs.Lists.{Call, queues, hears, receives, bursts, State, Given, freshStart, framesAnswered, next, callTold, longEvent, replyEvent, repliesIn}
 use Rattle.demand.specs.Page.{byOffset, Taken, answer as burstAnswer, Sends, Further}
 use Rattle.demand.proofs.Payloads.{sent-bytes}
 use Rattle.demand.proofs.Theorem.{demand3}
@@ -241,8 +241,8 @@ module _ (p : Profile) (six : length (p .codes .ends) ≤ 6) (n : ℕ) where
     pub latest : Latest (counted p n w .out) (w .burstsSent)
     pub says : AllSay (w .burstsSent) (w .receiver .«first_missing») (places w) (w .answers)
 
-  after-tally : (w : World) (i : Call) → counted p n (calling p n i w) ≡ feed (told p i (senderState p n w)) (counted p n w)
-  after-tally w i = tally-snoc (next p) (told p) (w .made) i (freshStart n) T.start
+  after-tally : (w : World) (i : Call) → counted p n (calling p n i w) ≡ feed (callTold p i (senderState p n w)) (counted p n w)
+  after-tally w i = tally-snoc (next p) (callTold p) (w .made) i (freshStart n) T.start
 
   -- bytes by offset are no more than were taken
   few-bytes : (w : World) → Along (next p) Given (w .made) (freshStart n) → length (byOffset (counted p n w)) ≤ counted p n w .taken
@@ -258,12 +258,12 @@ module _ (p : Profile) (six : length (p .codes .ends) ≤ 6) (n : ℕ) where
 
   -- ---- a call that is no burst
 
-  still-step : (i : Call) (w : World) → Given i (senderState p n w) → Still (told p i (senderState p n w))
-      → ((o : ℕ) → settledBy (told p i (senderState p n w)) (counted p n w .out) o ≡ true → has (w .receiver .«first_missing») (places w) o ≡ true)
+  still-step : (i : Call) (w : World) → Given i (senderState p n w) → Still (callTold p i (senderState p n w))
+      → ((o : ℕ) → settledBy (callTold p i (senderState p n w)) (counted p n w .out) o ≡ true → has (w .receiver .«first_missing») (places w) o ≡ true)
       → Inv w → Inv (calling p n i w)
   still-step i w g s k v =
       let c = senderState p n w in
-      let e = told p i c in
+      let e = callTold p i c in
       let q = counted p n w in
       let z = after-tally w i in
       let first = w .receiver .«first_missing» in
@@ -281,12 +281,12 @@ module _ (p : Profile) (six : length (p .codes .ends) ≤ 6) (n : ℕ) where
             (subst (λ (x : List (List ℕ)). AllSay (w .burstsSent) first (places w) x) (sym b) (v .says));
       }
 
-  told-still : (i : Call) (x : State) → NoBurst i → Still (told p i x)
+  told-still : (i : Call) (x : State) → NoBurst i → Still (callTold p i x)
   told-still i x h = told-by p Still i x tt (λ k l bs e. tt) (λ y r b e. reply-still r b) (λ y r b e. tt) (λ k fs out e. absurd (subst NoBurst e h))
 
   -- what a call settles, the box has
   settles : (i : Call) (w : World) → FromBox (w .answers) i → Inv w → (o : ℕ)
-      → settledBy (told p i (senderState p n w)) (counted p n w .out) o ≡ true → has (w .receiver .«first_missing») (places w) o ≡ true
+      → settledBy (callTold p i (senderState p n w)) (counted p n w .out) o ≡ true → has (w .receiver .«first_missing») (places w) o ≡ true
   settles i w m v o =
       told-by p (λ (e : Event). settledBy e (counted p n w .out) o ≡ true → has (w .receiver .«first_missing») (places w) o ≡ true) i (senderState p n w)
       (λ f. absurd (false≢true f)) (λ k l bs e f. absurd (false≢true f)) (λ h r b e. by-reply h r b (subst (FromBox (w .answers)) e m))
@@ -336,7 +336,7 @@ module _ (p : Profile) (six : length (p .codes .ends) ≤ 6) (n : ℕ) where
     sends : Sends p n (w .made) out
     sends = demand3 p six n (w .made) (v .given) .3 out ok
 
-    said : told p (bursts out) c ≡ went number fs
+    said : callTold p (bursts out) c ≡ went number fs
     said = rw ok refl
 
     is : counted p n (calling p n (bursts out) w) ≡ t′
@@ -368,7 +368,7 @@ module _ (p : Profile) (six : length (p .codes .ends) ≤ 6) (n : ℕ) where
     abbrev now : List SentBurst
     now = record { number = number; frames = framesBy size (byOffset t) fs } ∷ w .burstsSent
 
-    on-air : burstsAfter size (burstCall p (c .0) (c .1) out .1 .1) (told p (bursts out) c) (w .burstsSent) ≡ now
+    on-air : burstsAfter size (burstCall p (c .0) (c .1) out .1 .1) (callTold p (bursts out) c) (w .burstsSent) ≡ now
     on-air =
         ap (λ (x : Event). burstsAfter size (burstCall p (c .0) (c .1) out .1 .1) x (w .burstsSent)) said
         ∙ ap (λ (x : List (List ℕ)). record { number = number; frames = x } ∷ w .burstsSent) made
@@ -381,7 +381,7 @@ module _ (p : Profile) (six : length (p .codes .ends) ≤ 6) (n : ℕ) where
         record {
           given = given;
           arrived = subst (λ (x : Tally). Arrived x first (places w) (w .handed)) (sym (after-tally w (bursts out)))
-              (called (told p (bursts out) c) t (more (told p (bursts out) c) t) _ _ _ (grows (told p (bursts out) c) t) x (settles (bursts out) w tt v) (v .arrived));
+              (called (callTold p (bursts out) c) t (more (callTold p (bursts out) c) t) _ _ _ (grows (callTold p (bursts out) c) t) x (settles (bursts out) w tt v) (v .arrived));
           carried = subst (λ (x : List SentBurst). AllSent (bytes (counted p n (calling p n (bursts out) w))) x) (sym on-air)
               (subst (λ (x : Tally). AllSent (bytes x) now) (sym is) (
                 sent-carry size (byOffset t) (bytes t′) (waits t′) (sym (sent-bytes number fs t)) fit typed fs (sends .frames) flying,
@@ -399,7 +399,7 @@ module _ (p : Profile) (six : length (p .codes .ends) ≤ 6) (n : ℕ) where
       test (passed (burstCall p (senderState p n w .0) (senderState p n w .1) out .0 .verdict))
       (λ ok. burst-yes out w few v ok)
       (λ no.
-      let f : told p (bursts out) (senderState p n w) ≡ silent = rw no refl in
+      let f : callTold p (bursts out) (senderState p n w) ≡ silent = rw no refl in
       still-step (bursts out) w tt (subst Still (sym f) tt) (settles (bursts out) w tt v) v)
 
   call-step : (i : Call) (w : World) → Given i (senderState p n w) → FromBox (w .answers) i → FewTaken p n (calling p n i w) → Inv w → Inv (calling p n i w)
@@ -507,7 +507,7 @@ module _ (p : Profile) (six : length (p .codes .ends) ≤ 6) (n : ℕ) where
   -- ---- all that happens, on links that take no more than 16,777,216 bytes
 
   before : (i : Call) (w : World) → FewTaken p n (calling p n i w) → FewTaken p n w
-  before i w few = omega (arith, taken-grows (told p i (senderState p n w)) (counted p n w), ap (λ (x : Tally). x .taken) (after-tally w i), few)
+  before i w few = omega (arith, taken-grows (callTold p i (senderState p n w)) (counted p n w), ap (λ (x : Tally). x .taken) (after-tally w i), few)
 
   step : (h : Happening) (w : World) → May p n h w → (FewTaken p n w → Inv w) → FewTaken p n (happens p n h w) → Inv (happens p n h w)
   step (calls i) w m v = λ few. call-step i w (m .0) (m .1) few (v (before i w few))

@@ -12,7 +12,7 @@ use Rattle.ledger.specs.Calls.{run}
 use Rattle.ledger.specs.Tally.{Event, silent, took, reply, replies, turn, went}
 use Rattle.refusals.specs.declared.Reply.the-variants.{ConnAck, Ack, LongAck, Turn}
 use Rattle.sender.specs.Calls.{burstCall}
-use Rattle.demand.specs.Lists.{Call, queues, hears, receives, bursts, State, freshStart, next, told}
+use Rattle.demand.specs.Lists.{Call, queues, hears, receives, bursts, State, freshStart, next, callTold}
 use Rattle.reception.specs.Reception.{Decoded, decodedIn, isRead}
 use Rattle.receiver.specs.Receiving.{receptionOf, freshReceiver}
 use Rattle.receiver.specs.declared.Receiver.{Receiver}
@@ -97,11 +97,11 @@ module _ (p : Profile) (n : ℕ) where
       let c = senderState w in
       record {
         made = w .made ++ (i ∷ []);
-        burstsSent = burstsAfter (frameBytes p (c .0 .sender .gear .level)) (outputOf i c) (told p i c) (w .burstsSent);
+        burstsSent = burstsAfter (frameBytes p (c .0 .sender .gear .level)) (outputOf i c) (callTold p i c) (w .burstsSent);
         receiver = w .receiver;
         window = w .window;
         handed = w .handed;
-        answers = answersAfter (told p i c) (w .answers);
+        answers = answersAfter (callTold p i c) (w .answers);
       }
 
   abbrev pub arriving : ℕ → List ℕ → ℕ → List ℕ → World → World

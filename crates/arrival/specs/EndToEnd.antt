@@ -19,7 +19,7 @@ use Rattle.ledger.specs.Tally as T
 use Rattle.ledger.specs.Tally.{Tally, byteOf}
 use Rattle.window.specs.Window.{isKept, keptByte}
 use Rattle.receiver.specs.Frames.{offsets}
-use Rattle.demand.specs.Lists.{Given, next, told, freshStart}
+use Rattle.demand.specs.Lists.{Given, next, callTold, freshStart}
 use Rattle.arrival.specs.Channel.{World, Happening, calls, arrives, happens, FromBox, quiet, senderState}
 
 module _ (p : Profile) (n : ℕ) where
@@ -38,7 +38,7 @@ module _ (p : Profile) (n : ℕ) where
 
   -- document 01's tally of the sender's calls
   abbrev pub counted : World → Tally
-  counted w = tally (next p) (told p) (w .made) (freshStart n) T.start
+  counted w = tally (next p) (callTold p) (w .made) (freshStart n) T.start
 
   -- the bytes that have begun to fly, in that order
   abbrev pub flownBytes : World → List ℕ
@@ -49,8 +49,8 @@ module _ (p : Profile) (n : ℕ) where
   FewTaken w = counted w .taken ≤ offsets
 
   -- place of the window that offset o has
-  abbrev pub placeOf : ℕ → World → ℕ
-  placeOf o w = getD (w .window) (o - length (w .handed)) 0
+  abbrev pub placeInWindow : ℕ → World → ℕ
+  placeInWindow o w = getD (w .window) (o - length (w .handed)) 0
 
   pub record EndToEnd (w : World) : Type 0 where
     -- 1.
@@ -59,7 +59,7 @@ module _ (p : Profile) (n : ℕ) where
     pub count : w .receiver .«first_missing» ≡ length (w .handed)
     -- 2. and as it flew
     pub arrived : (o : ℕ) → ackedAt o (counted w .flown) ≡ true
-        → (o < length (w .handed)) ⊎ ((isKept (placeOf o w) ≡ true) × (keptByte (placeOf o w) ≡ getD (flownBytes w) o 0))
+        → (o < length (w .handed)) ⊎ ((isKept (placeInWindow o w) ≡ true) × (keptByte (placeInWindow o w) ≡ getD (flownBytes w) o 0))
 
 -- THE CLAIM: of every profile, every length of work area and window, and all that may happen. That a profile has six rate ends at most is what
 -- the type [u32; 6] says

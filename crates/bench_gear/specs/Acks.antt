@@ -5,13 +5,9 @@ use lib.ListN.{replicate}
 use lib.Ieee.{Float, binary32, binary64, ofBits}
 use Rattle.laws.specs.Steps.{steps}
 use Rattle.defaults.specs.Default.{newProfile}
-use Rattle.config.specs.declared.MaybeDb.{MaybeDb}
 use Rattle.gear.specs.declared.Gear.{Gear}
 use Rattle.gear.specs.declared.Outcome.{Outcome}
 use Rattle.gear.specs.Judging.{onAck}
-
-abbrev none : MaybeDb
-none = record { set = false; db = ofBits binary32 0 }
 
 -- a gear at level 9 that has tried every level, each with a share of 1 and one failure, and holds none off
 abbrev pub tried : Gear
@@ -20,8 +16,8 @@ tried =
       level = 9;
       target = 9;
       «burst_s» = ofBits binary64 0x4020000000000000;
-      «aim_db» = none;
-      «last_report_db» = none;
+      «aim_db» = record { set = false; db = ofBits binary32 0 };
+      «last_report_db» = record { set = false; db = ofBits binary32 0 };
       «snr_reports» = record { count = 0; a = ofBits binary32 0; b = ofBits binary32 0; c = ofBits binary32 0 };
       «peer_class» = record { echo = false; doppler = false };
       cue = true;

@@ -15,7 +15,7 @@ use Rattle.laws.proofs.Little.{num-le4}
 use Rattle.laws.proofs.Picks.{by}
 use Rattle.float_bits.proofs.Bits.{all-ones}
 use Rattle.ieee.proofs.Value.{ne-self}
-use Rattle.card.specs.Card.{bits32, bits64, packed, at, row}
+use Rattle.card.specs.Card.{bits32, bits64, packed, at, numbersAt}
 use Rattle.card.proofs.Pack.{length-le}
 
 -- ---- whole numbers
@@ -37,8 +37,8 @@ module _ (k : ℕ) (xs : List ℕ) (v : ℕ) (rest : List ℕ) where
 -- a row of them
 pub row-back : (k : ℕ) (vs xs rest : List ℕ) (i n : ℕ) → length xs ≡ i → length vs ≡ n →
     ((j : ℕ) → num (le k (getD vs j 0)) ≡ getD vs j 0)
-    → row k n (xs ++ (packed k vs ++ rest)) i ≡ vs
-unfolding row packed
+    → numbersAt k n (xs ++ (packed k vs ++ rest)) i ≡ vs
+unfolding numbersAt packed
 row-back k [] xs rest i zero h l e = refl
 row-back k [] xs rest i (suc n) h l e = absurd (omega arith)
 row-back k (v ∷ vs) xs rest i zero h l e = absurd (omega arith)
@@ -47,9 +47,9 @@ row-back k (v ∷ vs) xs rest i (suc n) h l e =
     (append-assoc (le k v) (packed k vs) rest) in
     let t : xs ++ (le k v ++ (packed k vs ++ rest)) ≡ (xs ++ le k v) ++ (packed k vs ++ rest) = sym
     (append-assoc xs (le k v) (packed k vs ++ rest)) in
-    ap (λ (b : List ℕ). at k b i ∷ row k n b (i + k)) s
+    ap (λ (b : List ℕ). at k b i ∷ numbersAt k n b (i + k)) s
     ∙ (λ j. at-back k xs v (packed k vs ++ rest) i h (e 0) j
-    ∷ (ap (λ (b : List ℕ). row k n b (i + k)) t ∙ row-back k vs (xs ++ le k v) rest (i + k) n
+    ∷ (ap (λ (b : List ℕ). numbersAt k n b (i + k)) t ∙ row-back k vs (xs ++ le k v) rest (i + k) n
     (length-append xs (le k v) ∙ (λ q. h q + length-le k v q)) (omega arith) (λ m. e (suc m))) j)
 
 -- ---- floats

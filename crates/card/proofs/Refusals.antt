@@ -14,7 +14,7 @@ use Rattle.laws.proofs.Picks.{test}
 use Rattle.config.specs.declared.Profile.{Profile}
 use Rattle.config.specs.Ranges.{inRange, inOrder}
 use Rattle.card.specs.Card.{at, versionBad, optionsOk, countsAgree, fileRefusal, contentRefusal, readRefusal, readOf, optionsIn, stretchPlace}
-use Rattle.card.specs.Card.{profileOf, cardOf, writeRefusal, writeOf}
+use Rattle.card.specs.Card.{cardProfile, cardOf, writeRefusal, writeOf}
 
 -- ---- the version
 
@@ -52,7 +52,7 @@ unfolding readRefusal readOf
 read-file b before r e n = rw (← e) (rw (ne-eqb r 0 n) (rw (ne-eqb r 0 n) refl))
 
 module _ (b : List ℕ) (before : Profile) (f r : ℕ) (file : f ≡ fileRefusal b) (good : f ≡ 0)
-    (e : r ≡ contentRefusal (getD b 0 0) (optionsIn b) (profileOf b)) where
+    (e : r ≡ contentRefusal (getD b 0 0) (optionsIn b) (cardProfile b)) where
   whole : readRefusal b ≡ r
   unfolding readRefusal
   whole = rw (← file, eq-eqb f 0 good) (sym e)
@@ -61,9 +61,9 @@ module _ (b : List ℕ) (before : Profile) (f r : ℕ) (file : f ≡ fileRefusal
   unfolding readOf
   read-refused n = rw (whole, ne-eqb r 0 n) refl
 
-  pub read-good : r ≡ 0 → (0, profileOf b, eqb (stretchPlace (optionsIn b)) 1) ≡ readOf b before
+  pub read-good : r ≡ 0 → (0, cardProfile b, eqb (stretchPlace (optionsIn b)) 1) ≡ readOf b before
   unfolding readOf
-  read-good n = rw (whole, eq-eqb r 0 n) (λ j. (sym n j, profileOf b, eqb (stretchPlace (optionsIn b)) 1))
+  read-good n = rw (whole, eq-eqb r 0 n) (λ j. (sym n j, cardProfile b, eqb (stretchPlace (optionsIn b)) 1))
 
 -- ---- writing
 

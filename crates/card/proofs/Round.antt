@@ -17,12 +17,12 @@ use Rattle.laws.proofs.Bytes.{part-in}
 use Rattle.laws.proofs.Span.{all-every}
 use Rattle.config.specs.declared.Profile.{Profile}
 use Rattle.config.specs.Ranges.{inRange, inOrder}
-use Rattle.card.specs.Card.{at, row, packed, bits32, bits64, flagByte, levelsOf, wavesOf, marksBytes, thresholdsOf, doubles, wholes}
+use Rattle.card.specs.Card.{at, numbersAt, packed, bits32, bits64, flagByte, levelsOf, wavesOf, marksBytes, thresholdsOf, doubles, wholeNumbers}
 use Rattle.card.specs.Card.{singles}
 use Rattle.card.specs.Card.{smallsOf, onOffPlaces, optionsOf, cardOf, cardBytes, placeAt, cardFlag, placeOk, airIn, marksIn, codesIn}
-use Rattle.card.specs.Card.{lengthsIn, holdsIn, profileIn, profileOf, versionBad, placesOk, fileRefusal, stretchPlace, contentRefusal, readOf, optionsIn}
+use Rattle.card.specs.Card.{lengthsIn, holdsIn, profileIn, cardProfile, versionBad, placesOk, fileRefusal, stretchPlace, contentRefusal, readOf, optionsIn}
 use Rattle.card.specs.Card.{writeRefusal, writeOf}
-use Rattle.card.specs.Claims.{Typed, RoundTrip}
+use Rattle.card.specs.Claims.{TypedProfile, RoundTrip}
 use Rattle.card.proofs.Pack.{length-packed, row-long}
 use Rattle.card.proofs.Back.{num-le8}
 use Rattle.card.proofs.Refusals.{read-good, write-good}
@@ -38,14 +38,14 @@ bit-small : (b : Bool) → leb (flagByte b) 1 ≡ true
 bit-small true = refl
 bit-small false = refl
 
-module _ (p : Profile) (t : Typed p) where
+module _ (p : Profile) (t : TypedProfile p) where
   -- ---- the options
 
   A : List ℕ
   A = packed 8 (map bits64 (doubles p))
 
   B : List ℕ
-  B = packed 4 (wholes p)
+  B = packed 4 (wholeNumbers p)
 
   C : List ℕ
   C = packed 4 (map bits32 (singles p))
@@ -59,7 +59,7 @@ module _ (p : Profile) (t : Typed p) where
 
   longB : length B ≡ 36
   unfolding B
-  longB = length-packed 4 (wholes p) ∙ omega (arith, t .wholes .0)
+  longB = length-packed 4 (wholeNumbers p) ∙ omega (arith, t .wholes .0)
 
   longC : length C ≡ 16
   unfolding C
@@ -72,18 +72,18 @@ module _ (p : Profile) (t : Typed p) where
   long-two : length (A ++ B) ≡ 100
   long-two = length-append A B ∙ omega (arith, longA, longB)
 
-  doubles-back : map (ofBits binary64) (row 8 8 (optionsOf p) 0) ≡ doubles p
+  doubles-back : map (ofBits binary64) (numbersAt 8 8 (optionsOf p) 0) ≡ doubles p
   unfolding optionsOf
   doubles-back = doubles-row [] _ 0 8 refl (doubles p) (t .doubles)
 
-  wholes-back : row 4 9 (optionsOf p) 64 ≡ wholes p
+  wholes-back : numbersAt 4 9 (optionsOf p) 64 ≡ wholeNumbers p
   unfolding optionsOf A B C D
-  wholes-back = numbers-row A (C ++ D) 64 9 longA (wholes p) (t .wholes)
+  wholes-back = numbers-row A (C ++ D) 64 9 longA (wholeNumbers p) (t .wholes)
 
-  singles-back : map (ofBits binary32) (row 4 4 (optionsOf p) 100) ≡ singles p
+  singles-back : map (ofBits binary32) (numbersAt 4 4 (optionsOf p) 100) ≡ singles p
   unfolding A B C D
   singles-back =
-      ap (λ (l : List ℕ). map (ofBits binary32) (row 4 4 l 100)) after-two
+      ap (λ (l : List ℕ). map (ofBits binary32) (numbersAt 4 4 l 100)) after-two
       ∙ singles-row (A ++ B) D 100 4 long-two (singles p) (t .singles)
 
   -- what stands behind the rows
@@ -150,7 +150,7 @@ module _ (p : Profile) (t : Typed p) where
   -- ---- the profile
 
   profile-in : profileIn (levelsOf (p .air)) (wavesOf (p .air)) (thresholdsOf p) (optionsOf p) ≡ p
-  unfolding profileIn airIn codesIn lengthsIn holdsIn row doubles wholes singles onOffPlaces
+  unfolding profileIn airIn codesIn lengthsIn holdsIn numbersAt doubles wholeNumbers singles onOffPlaces
   profile-in = λ j. record {
     air = record {
       «slot_bits» = slots-back (p .air) (t .air) j;
@@ -197,7 +197,7 @@ module _ (p : Profile) (t : Typed p) where
     «harq_partial» = flag-back 13 j;
   }
 
-  profile-back : profileOf (cardOf p) ≡ p
+  profile-back : cardProfile (cardOf p) ≡ p
   profile-back = (λ j. profileIn (levels-back p t j) (waves-back p t j) (thresholds-back p t j) (options-back p t j)) ∙ profile-in
 
   -- ---- the file

@@ -14,10 +14,10 @@ use Rattle.laws.specs.Little.{num, le}
 use Rattle.laws.proofs.Tests.{all-none, all-more}
 use Rattle.config.specs.declared.Marks.{Marks}
 use Rattle.config.specs.declared.Profile.{Profile}
-use Rattle.card.specs.Card.{at, bits32, bits64, section, levelsOf, wavesOf, marksBytes, thresholdsOf, doubles, wholes, singles}
+use Rattle.card.specs.Card.{at, bits32, bits64, section, levelsOf, wavesOf, marksBytes, thresholdsOf, doubles, wholeNumbers, singles}
 use Rattle.card.specs.Card.{smallsOf}
 use Rattle.card.specs.Card.{onOffPlaces, optionsOf, cardOf, levelsIn, wavesIn, thresholdsIn, optionsIn, optionsOk, countsAgree}
-use Rattle.card.specs.Claims.{TypedMarks, Typed}
+use Rattle.card.specs.Claims.{TypedMarks, TypedProfile}
 use Rattle.card.proofs.Pack.{length-packed, row-long}
 use Rattle.card.proofs.Back.{at-back}
 
@@ -35,7 +35,7 @@ marks-long m t = simp length-append (omega (arith, row-long bits32 4 17 (m .«th
 
 -- ---- a written file
 
-module _ (p : Profile) (t : Typed p) where
+module _ (p : Profile) (t : TypedProfile p) where
   levels-long : length (levelsOf (p .air)) ≡ 408
   unfolding levelsOf
   levels-long =
@@ -63,7 +63,7 @@ module _ (p : Profile) (t : Typed p) where
       simp length-append (omega (
         arith,
         row-long bits64 8 8 (doubles p) (t .doubles .0),
-        length-packed 4 (wholes p),
+        length-packed 4 (wholeNumbers p),
         row-long bits32 4 4 (singles p) (t .singles .0),
         t .wholes .0,
       ))

@@ -19,7 +19,7 @@ use Rattle.laws.proofs.Bytes.{length-over, length-part, getD-over-before, part-
 use Rattle.laws.proofs.Picks.{test, and-yes, and-first, and-second, or-left}
 use Rattle.laws.proofs.Span.{every-all, all-every}
 use Rattle.config.specs.Ranges.{inRange, inOrder}
-use Rattle.card.specs.Card.{at, row, placeAt, placeOk, placesOk, airIn, codesIn, lengthsIn, holdsIn, profileIn, profileOf, optionsIn, optionsOk}
+use Rattle.card.specs.Card.{at, numbersAt, placeAt, placeOk, placesOk, airIn, codesIn, lengthsIn, holdsIn, profileIn, cardProfile, optionsIn, optionsOk}
 use Rattle.card.specs.Card.{levelsIn, wavesIn, thresholdsIn, versionBad, countsAgree, fileRefusal, stretchPlace, stretchLater, contentRefusal}
 use Rattle.card.specs.Card.{readRefusal, readOf}
 use Rattle.card.specs.Claims.{turnedOff, ReadOff, ToldAlone}
@@ -48,8 +48,8 @@ module _ (ls ws ts xs ys : List ℕ) (h : length xs ≡ 141) where
   flag-front : (i : ℕ) → i < 14 → eqb (placeAt (xs ++ ys) i) 1 ≡ eqb (placeAt xs i) 1
   flag-front i l = ap (λ (n : ℕ). eqb n 1) (byte-front (127 + i) (omega arith))
 
-  row-front : (n i : ℕ) → i + 4 * n ≤ 141 → row 4 n (xs ++ ys) i ≡ row 4 n xs i
-  unfolding row
+  row-front : (n i : ℕ) → i + 4 * n ≤ 141 → numbersAt 4 n (xs ++ ys) i ≡ numbersAt 4 n xs i
+  unfolding numbersAt
   row-front zero i l = refl
   row-front (suc n) i l = λ j. at-front 4 i (omega arith) j ∷ row-front n (i + 4) (omega arith) j
 
@@ -57,10 +57,10 @@ module _ (ls ws ts xs ys : List ℕ) (h : length xs ≡ 141) where
   unfolding profileIn airIn codesIn lengthsIn holdsIn
   profile-front = λ j. record {
     air = record {
-      «slot_bits» = row 4 17 ls 0;
+      «slot_bits» = numbersAt 4 17 ls 0;
       «pre_s» = airIn ls ws xs .«pre_s»;
       rate = airIn ls ws xs .rate;
-      «max_bits» = row 4 17 ls 340;
+      «max_bits» = numbersAt 4 17 ls 340;
       «ack_s» = airIn ls ws xs .«ack_s»;
       «cue_s» = ofBits binary64 (at-front 8 0 (omega arith) j);
     };
@@ -137,7 +137,7 @@ module _ (b : List ℕ) (long : 751 ≤ length b) where
   version-same : getD b′ 0 0 ≡ getD b 0 0
   version-same = getD-over-before b 750 (0 ∷ []) 0 0 (omega arith)
 
-  profile-same : profileOf b′ ≡ profileOf b
+  profile-same : cardProfile b′ ≡ cardProfile b
   profile-same =
       (λ j. profileIn (same 3 408 (omega arith) j) (same 413 48 (omega arith) j) (same 463 144 (omega arith) j) (off-is j))
       ∙ profile-front (levelsIn b) (wavesIn b) (thresholdsIn b) xs (getD b′ 750 0 ∷ []) xs-long
@@ -177,12 +177,12 @@ module _ (b : List ℕ) (long : 751 ≤ length b) where
     unfolding placesOk
     places-same = every-same (placeOk (optionsIn b′)) (placeOk (optionsIn b)) 15 ok-same
 
-    content-same : contentRefusal (getD b′ 0 0) (optionsIn b′) (profileOf b′) ≡ contentRefusal (getD b 0 0) (optionsIn b) (profileOf b)
+    content-same : contentRefusal (getD b′ 0 0) (optionsIn b′) (cardProfile b′) ≡ contentRefusal (getD b 0 0) (optionsIn b) (cardProfile b)
     unfolding contentRefusal
     content-same =
-        ap (λ (v : ℕ). contentRefusal v (optionsIn b′) (profileOf b′)) (version-same ∙ one)
+        ap (λ (v : ℕ). contentRefusal v (optionsIn b′) (cardProfile b′)) (version-same ∙ one)
         ∙ (λ j. cond (not (places-same j && inRange (profile-same j))) 1 (cond (not (inOrder (profile-same j))) 2 0))
-        ∙ ap (λ (v : ℕ). contentRefusal v (optionsIn b) (profileOf b)) (sym one)
+        ∙ ap (λ (v : ℕ). contentRefusal v (optionsIn b) (cardProfile b)) (sym one)
 
     same-refusal : readRefusal b′ ≡ readRefusal b
     unfolding readRefusal
@@ -221,10 +221,10 @@ taken-by : (b : List ℕ) → readRefusal b ≡ 0
     → (versionBad b ≡ false) × (countsAgree b ≡ true) × (stretchLater (getD b 0 0) (optionsIn b) ≡ false)
 unfolding readRefusal fileRefusal contentRefusal
 taken-by b e =
-    let w = both-none (fileRefusal b) (contentRefusal (getD b 0 0) (optionsIn b) (profileOf b)) e in
+    let w = both-none (fileRefusal b) (contentRefusal (getD b 0 0) (optionsIn b) (cardProfile b)) e in
     let f = file-none (versionBad b) (countsAgree b) (w .0) in
     let os = optionsIn b in
-    (f .0, f .1, content-none (stretchLater (getD b 0 0) os) (placesOk os && inRange (profileOf b)) (inOrder (profileOf b)) (w .1))
+    (f .0, f .1, content-none (stretchLater (getD b 0 0) os) (placesOk os && inRange (cardProfile b)) (inOrder (cardProfile b)) (w .1))
 
 pub told-alone : ToldAlone
 unfolding readOf

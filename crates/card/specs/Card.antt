@@ -43,9 +43,9 @@ packed k (v ∷ vs) = le k v ++ packed k vs
 abbrev pub at : ℕ → List ℕ → ℕ → ℕ
 at k bs i = num (part bs i k)
 
-unfoldable pub row : ℕ → ℕ → List ℕ → ℕ → List ℕ
-row k zero bs i = []
-row k (suc n) bs i = at k bs i ∷ row k n bs (i + k)
+unfoldable pub numbersAt : ℕ → ℕ → List ℕ → ℕ → List ℕ
+numbersAt k zero bs i = []
+numbersAt k (suc n) bs i = at k bs i ∷ numbersAt k n bs (i + k)
 
 -- ---- the sections
 
@@ -73,8 +73,8 @@ doubles p =
     ∷ p .«hold_times» .«fail_hold_s» ∷ p .«hold_times» .«fail_hold_max_s» ∷ p .«hold_times» .«loss_hold_s» ∷ []
 
 -- nine whole numbers,
-unfoldable pub wholes : Profile → List ℕ
-wholes p = p .«short_bytes» ∷ p .«long_bytes» ∷ p .codes .mother ∷ p .codes .ends
+unfoldable pub wholeNumbers : Profile → List ℕ
+wholeNumbers p = p .«short_bytes» ∷ p .«long_bytes» ∷ p .codes .mother ∷ p .codes .ends
 
 -- four singles; a value beside an option that is off stands there too
 unfoldable pub singles : Profile → List Float
@@ -95,7 +95,7 @@ onOffPlaces p =
 unfoldable pub optionsOf : Profile → List ℕ
 optionsOf p =
     packed 8 (map bits64 (doubles p)) ++
-    (packed 4 (wholes p) ++ (packed 4 (map bits32 (singles p)) ++ (smallsOf p ++ map flagByte (onOffPlaces p))))
+    (packed 4 (wholeNumbers p) ++ (packed 4 (map bits32 (singles p)) ++ (smallsOf p ++ map flagByte (onOffPlaces p))))
 
 -- ---- the file
 
@@ -146,19 +146,19 @@ pinIn os = record { set = cardFlag os 2; level = at 8 os 119 }
 unfoldable pub airIn : List ℕ → List ℕ → List ℕ → Air
 airIn ls ws os =
     record {
-      «slot_bits» = row 4 17 ls 0;
-      «pre_s» = map (ofBits binary64) (row 8 17 ls 68);
-      rate = map (ofBits binary64) (row 8 17 ls 204);
-      «max_bits» = row 4 17 ls 340;
-      «ack_s» = map (ofBits binary64) (row 8 6 ws 0);
+      «slot_bits» = numbersAt 4 17 ls 0;
+      «pre_s» = map (ofBits binary64) (numbersAt 8 17 ls 68);
+      rate = map (ofBits binary64) (numbersAt 8 17 ls 204);
+      «max_bits» = numbersAt 4 17 ls 340;
+      «ack_s» = map (ofBits binary64) (numbersAt 8 6 ws 0);
       «cue_s» = cardDouble os 0;
     }
 
 unfoldable pub marksIn : List ℕ → ℕ → Marks
-marksIn ts i = record { «thresholds_db» = map (ofBits binary32) (row 4 17 ts i); «margin_db» = cardSingle ts (i + 68) }
+marksIn ts i = record { «thresholds_db» = map (ofBits binary32) (numbersAt 4 17 ts i); «margin_db» = cardSingle ts (i + 68) }
 
 unfoldable pub codesIn : List ℕ → Harq
-codesIn os = record { mother = at 4 os 72; ends = row 4 6 os 76 }
+codesIn os = record { mother = at 4 os 72; ends = numbersAt 4 6 os 76 }
 
 unfoldable pub lengthsIn : List ℕ → Lengths
 lengthsIn os =
@@ -218,8 +218,8 @@ thresholdsIn b = part b 463 thresholdsBytes
 abbrev pub optionsIn : List ℕ → List ℕ
 optionsIn b = part b 609 optionsBytes
 
-abbrev pub profileOf : List ℕ → Profile
-profileOf b = profileIn (levelsIn b) (wavesIn b) (thresholdsIn b) (optionsIn b)
+abbrev pub cardProfile : List ℕ → Profile
+cardProfile b = profileIn (levelsIn b) (wavesIn b) (thresholdsIn b) (optionsIn b)
 
 -- ---- the refusals
 
@@ -262,7 +262,7 @@ unfoldable pub contentRefusal : ℕ → List ℕ → Profile → ℕ
 contentRefusal v os p = cond (stretchLater v os) 18 (cond (not (placesOk os && inRange p)) 1 (cond (not (inOrder p)) 2 0))
 
 unfoldable pub readRefusal : List ℕ → ℕ
-readRefusal b = cond (eqb (fileRefusal b) 0) (contentRefusal (getD b 0 0) (optionsIn b) (profileOf b)) (fileRefusal b)
+readRefusal b = cond (eqb (fileRefusal b) 0) (contentRefusal (getD b 0 0) (optionsIn b) (cardProfile b)) (fileRefusal b)
 
 -- "refuses by 1 and 2, then by 14 an output shorter than the file"
 unfoldable pub writeRefusal : Profile → ℕ → ℕ
@@ -274,7 +274,7 @@ writeRefusal p n = cond (not (inRange p)) 1 (cond (not (inOrder p)) 2 (cond (ltb
 -- that reading alone says so" (Change 11)
 unfoldable pub readOf : List ℕ → Profile → ℕ × Profile × Bool
 readOf b before =
-    let good = eqb (readRefusal b) 0 in (readRefusal b, cond good (profileOf b) before, good && eqb (stretchPlace (optionsIn b)) 1)
+    let good = eqb (readRefusal b) 0 in (readRefusal b, cond good (cardProfile b) before, good && eqb (stretchPlace (optionsIn b)) 1)
 
 -- the number, and every byte of the output: "what lies past the bytes written is kept"
 unfoldable pub writeOf : Profile → List ℕ → ℕ × List ℕ

@@ -11,7 +11,8 @@ use Rattle.laws.specs.Little.{le}
 use Rattle.config.specs.declared.Profile.{Profile}
 use Rattle.config.specs.declared.Air.{Air}
 use Rattle.config.specs.declared.Marks.{Marks}
-use Rattle.card.specs.Card.{cardBytes, optionsBytes, countsAgree, stretchPlace, optionsIn, readOf, writeOf, doubles, wholes, singles}
+use Rattle.card.specs.Card.{cardBytes, optionsBytes, countsAgree, stretchPlace, optionsIn, readOf, writeOf}
+use Rattle.card.specs.Card.{doubles, wholeNumbers, singles}
 
 -- "the same file made version 1, the further bytes cut off and the count lowered"
 abbrev pub madeOne : List ℕ → List ℕ
@@ -61,17 +62,17 @@ pub record TypedMarks (m : Marks) : Type 0 where
   pub thresholds : Floats binary32 17 (m .«thresholds_db»)
   pub margin : T (fits binary32 (m .«margin_db»))
 
-pub record Typed (p : Profile) : Type 0 where
+pub record TypedProfile (p : Profile) : Type 0 where
   pub air : TypedAir (p .air)
   pub plain : TypedMarks (p .plain)
   pub eff : TypedMarks (p .eff)
   pub doubles : Floats binary64 8 (doubles p)
-  pub wholes : Numbers 9 (wholes p)
+  pub wholes : Numbers 9 (wholeNumbers p)
   pub singles : Floats binary32 4 (singles p)
   pub pin : p .«pin_level» .level < 18446744073709551616
 
 -- "Write, then read, gives the profile back": every profile of its types that is not refused, values beside an option that is off among
 -- them
 abbrev pub RoundTrip : Type 0
-RoundTrip = (p : Profile) (before : Profile) (out : List ℕ) → Typed p → writeOf p out .0 ≡ 0
+RoundTrip = (p : Profile) (before : Profile) (out : List ℕ) → TypedProfile p → writeOf p out .0 ≡ 0
     → readOf (take cardBytes (writeOf p out .1)) before ≡ (0, p, false)

@@ -13,7 +13,7 @@ ghost use Prim.Native.Nat.{_+_, _*_, _≤_};
 ghost use lib.ListN.{length};
 ghost use lib.Ieee.{binary32, binary64, ofBits};
 ghost use Rattle.laws.specs.Bytes.{overwrite};
-ghost use Rattle.card.specs.Card.{at as valueAt, row, cardDouble, cardSingle, bits32, bits64, flagByte, packed};
+ghost use Rattle.card.specs.Card.{at as valueAt, numbersAt, cardDouble, cardSingle, bits32, bits64, flagByte, packed};
 
 pub(crate) fn u32_at(a: &[u8], at: usize) -> u32
     requires { ⌜ at + 4 ≤ length (now a) ⌝ }
@@ -38,7 +38,7 @@ pub(crate) fn f32_at(a: &[u8], at: usize) -> f32
 
 pub(crate) fn u32s17(a: &[u8], at: usize) -> [u32; 17]
     requires { ⌜ at + 68 ≤ length (now a) ⌝ }
-    ensures { λ r. ⌜ r ≡ row 4 17 (now (a .entry)) at ⌝ }
+    ensures { λ r. ⌜ r ≡ numbersAt 4 17 (now (a .entry)) at ⌝ }
 {
     let mut x = [0u32; 17];
     let mut l: usize = 0;
@@ -51,7 +51,7 @@ pub(crate) fn u32s17(a: &[u8], at: usize) -> [u32; 17]
 
 pub(crate) fn u32s6(a: &[u8], at: usize) -> [u32; 6]
     requires { ⌜ at + 24 ≤ length (now a) ⌝ }
-    ensures { λ r. ⌜ r ≡ row 4 6 (now (a .entry)) at ⌝ }
+    ensures { λ r. ⌜ r ≡ numbersAt 4 6 (now (a .entry)) at ⌝ }
 {
     let mut x = [0u32; 6];
     let mut l: usize = 0;
@@ -64,7 +64,7 @@ pub(crate) fn u32s6(a: &[u8], at: usize) -> [u32; 6]
 
 pub(crate) fn f64s17(a: &[u8], at: usize) -> [f64; 17]
     requires { ⌜ at + 136 ≤ length (now a) ⌝ }
-    ensures { λ r. ⌜ r ≡ map (ofBits binary64) (row 8 17 (now (a .entry)) at) ⌝ }
+    ensures { λ r. ⌜ r ≡ map (ofBits binary64) (numbersAt 8 17 (now (a .entry)) at) ⌝ }
 {
     let mut x: [f64; 17] = [0.0; 17];
     let mut l: usize = 0;
@@ -77,7 +77,7 @@ pub(crate) fn f64s17(a: &[u8], at: usize) -> [f64; 17]
 
 pub(crate) fn f64s6(a: &[u8], at: usize) -> [f64; 6]
     requires { ⌜ at + 48 ≤ length (now a) ⌝ }
-    ensures { λ r. ⌜ r ≡ map (ofBits binary64) (row 8 6 (now (a .entry)) at) ⌝ }
+    ensures { λ r. ⌜ r ≡ map (ofBits binary64) (numbersAt 8 6 (now (a .entry)) at) ⌝ }
 {
     let mut x: [f64; 6] = [0.0; 6];
     let mut l: usize = 0;
@@ -90,7 +90,7 @@ pub(crate) fn f64s6(a: &[u8], at: usize) -> [f64; 6]
 
 pub(crate) fn f32s17(a: &[u8], at: usize) -> [f32; 17]
     requires { ⌜ at + 68 ≤ length (now a) ⌝ }
-    ensures { λ r. ⌜ r ≡ map (ofBits binary32) (row 4 17 (now (a .entry)) at) ⌝ }
+    ensures { λ r. ⌜ r ≡ map (ofBits binary32) (numbersAt 4 17 (now (a .entry)) at) ⌝ }
 {
     let mut x: [f32; 17] = [0.0; 17];
     let mut l: usize = 0;

@@ -16,7 +16,7 @@ use Rattle.frames.specs.Slots.{pushAll, slotsFrom, unheldSlots, incrementSlots,
 use Rattle.frames.specs.declared.slots.Added.{Added}
 use Rattle.frames.specs.declared.slots.Slot.{Slot}
 use Rattle.frames.specs.declared.slots.Slots.{Slots}
-use Rattle.frames.specs.Frames.{framesWritten, Fit}
+use Rattle.frames.specs.Frames.{framesWritten, SlotsFit}
 use Rattle.plan.specs.declared.Choice.{Choice}
 use Rattle.plan.specs.declared.Planned.{Planned}
 use Rattle.record.specs.Setters.{withLink, withCounts, withAtPeer, withLastBurst, withAwaiting, withNumber, withNext, withWaiting, withFlying, withPieces}
@@ -130,4 +130,4 @@ module _ (q : Harq) (c : Choice) (payload : ℕ) (merging : Bool) (s : Sender) (
     pub slots : gone .0 .slots .n ≤ maxSlots
     pub sized : 10 ≤ size
     pub shown : length (frameBytesGone size) ≤ length out
-    pub fit : Fit size (length (gone .1)) (slotsFrom (gone .0 .slots) 0 (gone .0 .slots .n))
+    pub fit : SlotsFit size (length (gone .1)) (slotsFrom (gone .0 .slots) 0 (gone .0 .slots .n))

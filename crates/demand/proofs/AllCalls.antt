@@ -32,7 +32,7 @@ use Rattle.verdicts.proofs.Passed.{frames-passed}
 use Rattle.reception.specs.Reception.{Decoded, decodedIn, isRead, flagsOf}
 use Rattle.reception.specs.declared.Reception.{Reception}
 use Rattle.reception.proofs.Laws.{read-long, read-info}
-use Rattle.demand.specs.Lists.{Call, queues, hears, receives, bursts, State, Given, shown, repliesIn, next, told}
+use Rattle.demand.specs.Lists.{Call, queues, hears, receives, bursts, State, Given, shown, repliesIn, next, callTold}
 use Rattle.demand.specs.AsSingles.{singlesOf, Typed}
 use Rattle.demand.proofs.Answers.{queue-no, queue-told, hear-no, hear-told, frames-no, frames-told, burst-no, burst-silent}
 use Rattle.demand.proofs.AsSingles.{single, EachBytes, each-bytes, Takes, takes, after-takes, next-is, finds, as-singles}
@@ -72,13 +72,13 @@ module _ (p : Profile) (rg : Ranged p) (io : inOrder p ≡ true) (six : length (
 
       -- a frame that is read
       one-does : (f : Decoded) (c : State) → isRead f ≡ true → Bytes (f .payload) → Good c → Takes p rg ir io h ok c
-          → Does p rg io six (single h f) c (C.hears (longAck (infoOf (f .payload) .burst) (infoOf (f .payload) .bitmap)) (keeps p (c .0 .sender .gear) (flagsOf (f .flags) .stored)))
+          → Does p rg io six (single h f) c (C.ackMove (longAck (infoOf (f .payload) .burst) (infoOf (f .payload) .bitmap)) (keeps p (c .0 .sender .gear) (flagsOf (f .flags) .stored)))
       one-does f c e b w k =
           subst (λ (x : AckRead). Does p rg io six (single h f) c (longCallOf p rg io six (c .0 .sender) (flagsOf (f .flags)) x)) (read-info (f .payload) (read-long f e))
           (does-hear p rg io six h c w (quiet c k) (LongAck (flagsOf (f .flags))) (f .payload) b (takes p rg ir io h ok c k f e))
 
       all-step : (fs : List Decoded) (c : State) → EachBytes fs → Good c → Takes p rg ir io h ok c
-          → (shown (run (next p) (singlesOf h fs) c) ≡ C.step z (C.receives (heardIn fs c)) (shown c)) × Good (run (next p) (singlesOf h fs) c)
+          → (shown (run (next p) (singlesOf h fs) c) ≡ C.step z (C.acksMove (heardIn fs c)) (shown c)) × Good (run (next p) (singlesOf h fs) c)
       all-step [] c b w k = (refl, w)
       all-step (f ∷ fs) c b w k =
           test (isRead f)
@@ -86,7 +86,7 @@ module _ (p : Profile) (rg : Ranged p) (io : inOrder p ≡ true) (six : length (
           let d = one-does f c e (b .0) w k in
           let k′ = subst (Takes p rg ir io h ok) (sym (next-is p rg ir io h ok f c k e)) (after-takes p rg ir io h ok f c e (b .0) k) in
           let i = all-step fs (next p (single h f) c) (b .1) (d .keeps) k′ in
-          rw e (i .0 ∙ ap (C.step z (C.receives (heardIn fs (next p (single h f) c)))) (d .steps), i .1))
+          rw e (i .0 ∙ ap (C.step z (C.acksMove (heardIn fs (next p (single h f) c)))) (d .steps), i .1))
           (λ e. rw e (all-step fs c (b .1) w k))
 
   pub typed : (c : State) → Good c → Typed c
@@ -103,7 +103,7 @@ module _ (p : Profile) (rg : Ranged p) (io : inOrder p ≡ true) (six : length (
       }
 
   does-frames : (h : Heard) (r : Reception) (b : List ℕ) (c : State) → Bytes b → Good c → passed (framesVerdict p (c .0) (c .1) h (r .n)) ≡ true
-      → Does p rg io six (receives h r b) c (C.receives (heardIn h (decodedIn r b) c))
+      → Does p rg io six (receives h r b) c (C.acksMove (heardIn h (decodedIn r b) c))
   does-frames h r b c by8 w e =
       let ty = typed c w in
       let q = frames-passed p (c .0) (c .1) h (r .n) e in
@@ -121,10 +121,10 @@ module _ (p : Profile) (rg : Ranged p) (io : inOrder p ≡ true) (six : length (
   -- ---- all calls
 
   abbrev pub call : Call → State → C.Move
-  call (queues k l bs) c = cond (passed (queueVerdict p (c .0) (c .1) k l (length bs))) (C.queues k l bs) idle
+  call (queues k l bs) c = cond (passed (queueVerdict p (c .0) (c .1) k l (length bs))) (C.queueMove k l bs) idle
   call (hears h r b) c = cond (passed (receiveVerdict p (c .0) (c .1) h r (length b))) (callOf p rg io six (c .0 .sender) r b) idle
-  call (receives h r b) c = cond (passed (framesVerdict p (c .0) (c .1) h (r .n))) (C.receives (heardIn h (decodedIn r b) c)) idle
-  call (bursts out) c = cond (passed (burstVerdict p (c .0) (c .1) (length out))) (C.bursts (planOf z (choice p (c .0 .sender)) (shown c .sender))) idle
+  call (receives h r b) c = cond (passed (framesVerdict p (c .0) (c .1) h (r .n))) (C.acksMove (heardIn h (decodedIn r b) c)) idle
+  call (bursts out) c = cond (passed (burstVerdict p (c .0) (c .1) (length out))) (C.burstMove (planOf z (choice p (c .0 .sender)) (shown c .sender))) idle
 
   pub does : (i : Call) (c : State) → Given i c → Good c → Quiet c → Does p rg io six i c (call i c)
   does (queues k l bs) c g w q =

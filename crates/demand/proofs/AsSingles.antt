@@ -61,8 +61,8 @@ use Rattle.reception.specs.Reception.{Decoded, decodedFrom, decodedIn, isRead, 
 use Rattle.reception.specs.declared.Reception.{Reception}
 use Rattle.reception.proofs.Laws.{read-long, read-info}
 use Rattle.sender.proofs.Refused.{receive-verdict, frames-verdict}
-use Rattle.demand.specs.Lists.{Call, hears, receives, State, longEvent, repliesIn, next, told}
-use Rattle.demand.specs.Single.{Said, justVerdict, said}
+use Rattle.demand.specs.Lists.{Call, hears, receives, State, longEvent, repliesIn, next, callTold}
+use Rattle.demand.specs.Single.{CallAnswer, justVerdict, callAnswer}
 use Rattle.demand.specs.AsSingles.{singlesOf, Typed, Equals, AsSingles}
 use Rattle.demand.proofs.Answers.{hear-yes, hear-no, hear-told, frames-yes, frames-no, frames-told}
 use Rattle.demand.proofs.Connected.{stands-on}
@@ -97,7 +97,7 @@ module _ (p : Profile) (h : Heard) where
       λ i. firstOf (few-stands (standing p (c .0) (c .1) false) n l i)
       (heard-same (c .0 .sender .link .«last_time») h (flagsOf (f .flags)) (length (f .payload)) (read-long f e) i)
 
-  said-single : (f : Decoded) (c : State) → said p (single h f) c ≡ justVerdict (singleVerdict f c)
+  said-single : (f : Decoded) (c : State) → callAnswer p (single h f) c ≡ justVerdict (singleVerdict f c)
   said-single f c = ap justVerdict (receive-verdict p (c .0) (c .1) h (LongAck (flagsOf (f .flags))) (f .payload))
 
   -- ---- refused: so is every single call
@@ -111,18 +111,18 @@ module _ (p : Profile) (h : Heard) where
     none-run (f ∷ fs) =
         by (λ (is : List Call). run (next p) is c ≡ c) (isRead f) (λ e. ap (run (next p) (singlesOf h fs)) (stays f e) ∙ none-run fs) (λ e. none-run fs)
 
-    none-told : (fs : List Decoded) (t : Tally) → tally (next p) (told p) (singlesOf h fs) c t ≡ t
+    none-told : (fs : List Decoded) (t : Tally) → tally (next p) (callTold p) (singlesOf h fs) c t ≡ t
     none-told [] t = refl
     none-told (f ∷ fs) t =
-        by (λ (is : List Call). tally (next p) (told p) is c t ≡ t) (isRead f)
+        by (λ (is : List Call). tally (next p) (callTold p) is c t ≡ t) (isRead f)
         (λ e.
-        ap (λ (d : State). tally (next p) (told p) (singlesOf h fs) d (feed (told p (single h f) c) t)) (stays f e)
-        ∙ ap (λ (x : Event). tally (next p) (told p) (singlesOf h fs) c (feed x t)) (hear-told p c h (LongAck (flagsOf (f .flags))) (f .payload) false (no f e .1))
+        ap (λ (d : State). tally (next p) (callTold p) (singlesOf h fs) d (feed (callTold p (single h f) c) t)) (stays f e)
+        ∙ ap (λ (x : Event). tally (next p) (callTold p) (singlesOf h fs) c (feed x t)) (hear-told p c h (LongAck (flagsOf (f .flags))) (f .payload) false (no f e .1))
         ∙ none-told fs t)
         (λ e. none-told fs t)
 
     abbrev Says : Call → State → Type 0
-    Says i d = said p i d ≡ justVerdict v
+    Says i d = callAnswer p i d ≡ justVerdict v
 
     none-said : (fs : List Decoded) → Along (next p) Says (singlesOf h fs) c
     none-said [] = tt
@@ -254,11 +254,11 @@ module _ (p : Profile) (rg : Ranged p) (ir : inRange p ≡ true) (io : inOrder p
       (λ e. all-run fs (after f c) (b .1) (after-takes f c e (b .0) k) ∙ ap (run (next p) (singlesOf h fs)) (sym (next-is f c k e)))
       (λ e. all-run fs c (b .1) k)
 
-  pub told-is : (f : Decoded) (c : State) → Takes c → isRead f ≡ true → told p (single h f) c ≡ reply (longAck (infoOf (f .payload) .burst) (infoOf (f .payload) .bitmap))
+  pub told-is : (f : Decoded) (c : State) → Takes c → isRead f ≡ true → callTold p (single h f) c ≡ reply (longAck (infoOf (f .payload) .burst) (infoOf (f .payload) .bitmap))
   told-is f c k e =
       hear-told p c h (LongAck (flagsOf (f .flags))) (f .payload) true (takes c k f e) ∙ ap longEvent (read-info (f .payload) (read-long f e))
 
-  all-told : (fs : List Decoded) (c : State) (t : Tally) → EachBytes fs → Takes c → heardAll (repliesIn fs) t ≡ tally (next p) (told p) (singlesOf h fs) c t
+  all-told : (fs : List Decoded) (c : State) (t : Tally) → EachBytes fs → Takes c → heardAll (repliesIn fs) t ≡ tally (next p) (callTold p) (singlesOf h fs) c t
   all-told [] c t b k = refl
   all-told (f ∷ fs) c t b k =
       test (isRead f)
@@ -266,17 +266,17 @@ module _ (p : Profile) (rg : Ranged p) (ir : inRange p ≡ true) (io : inOrder p
       let i = infoOf (f .payload) in
       rw e
       (all-told fs (after f c) (feed (reply (longAck (i .burst) (i .bitmap))) t) (b .1) (after-takes f c e (b .0) k)
-      ∙ ap (λ (d : State). tally (next p) (told p) (singlesOf h fs) d (feed (reply (longAck (i .burst) (i .bitmap))) t)) (sym (next-is f c k e))
-      ∙ ap (λ (x : Event). tally (next p) (told p) (singlesOf h fs) (next p (single h f) c) (feed x t)) (sym (told-is f c k e))))
+      ∙ ap (λ (d : State). tally (next p) (callTold p) (singlesOf h fs) d (feed (reply (longAck (i .burst) (i .bitmap))) t)) (sym (next-is f c k e))
+      ∙ ap (λ (x : Event). tally (next p) (callTold p) (singlesOf h fs) (next p (single h f) c) (feed x t)) (sym (told-is f c k e))))
       (λ e. rw e (all-told fs c t (b .1) k))
 
-  all-said : (fs : List Decoded) (c : State) → EachBytes fs → Takes c → Along (next p) (λ (i : Call) (d : State). said p i d ≡ justVerdict Accepted) (singlesOf h fs) c
+  all-said : (fs : List Decoded) (c : State) → EachBytes fs → Takes c → Along (next p) (λ (i : Call) (d : State). callAnswer p i d ≡ justVerdict Accepted) (singlesOf h fs) c
   all-said [] c b k = tt
   all-said (f ∷ fs) c b k =
-      by (λ (is : List Call). Along (next p) (λ (i : Call) (d : State). said p i d ≡ justVerdict Accepted) is c) (isRead f)
+      by (λ (is : List Call). Along (next p) (λ (i : Call) (d : State). callAnswer p i d ≡ justVerdict Accepted) is c) (isRead f)
       (λ e. (
         said-single p h f c ∙ ap justVerdict (takes-it c k f e),
-        subst (Along (next p) (λ (i : Call) (d : State). said p i d ≡ justVerdict Accepted) (singlesOf h fs)) (sym (next-is f c k e))
+        subst (Along (next p) (λ (i : Call) (d : State). callAnswer p i d ≡ justVerdict Accepted) (singlesOf h fs)) (sym (next-is f c k e))
             (all-said fs (after f c) (b .1) (after-takes f c e (b .0) k)),
       ))
       (λ e. all-said fs c (b .1) k)
@@ -316,10 +316,10 @@ module _ (p : Profile) (c : State) (h : Heard) (r : Reception) (bs : List ℕ) (
       let k = finds p rg io h c (r .n) ty q in
       let b = each-bytes r bs by8 in
       let run-is = frames-yes p c h r bs e ∙ all-run p rg ir io h ok fs c b k in
-      let whole-says : said p (receives h r bs) c ≡ justVerdict Accepted = ap justVerdict (frames-verdict p (c .0) (c .1) h r bs ∙ takes-all p rg ir io h ok c k (r .n) few) in
+      let whole-says : callAnswer p (receives h r bs) c ≡ justVerdict Accepted = ap justVerdict (frames-verdict p (c .0) (c .1) h r bs ∙ takes-all p rg ir io h ok c k (r .n) few) in
       record {
         state = run-is;
-        answers = subst (λ (x : Said). Along (next p) (λ (i : Call) (d : State). said p i d ≡ x) (singlesOf h fs) c) (sym whole-says) (all-said p rg ir io h ok fs c b k);
+        answers = subst (λ (x : CallAnswer). Along (next p) (λ (i : Call) (d : State). callAnswer p i d ≡ x) (singlesOf h fs) c) (sym whole-says) (all-said p rg ir io h ok fs c b k);
         tallied = λ t. ap (λ (x : Event). feed x t) (frames-told p c h r bs true e) ∙ all-told p rg ir io h ok fs c t b k;
         unread = λ n. run-is ∙ ap (λ (is : List Call). run (next p) is c) n;
       }
@@ -331,7 +331,7 @@ module _ (p : Profile) (c : State) (h : Heard) (r : Reception) (bs : List ℕ) (
       let stay = frames-no p c h r bs e in
       record {
         state = stay ∙ sym (none-run p h c v no fs);
-        answers = subst (λ (x : Said). Along (next p) (λ (i : Call) (d : State). said p i d ≡ x) (singlesOf h fs) c) (sym (ap justVerdict (frames-verdict p (c .0) (c .1) h r bs))) (none-said p h c v no fs);
+        answers = subst (λ (x : CallAnswer). Along (next p) (λ (i : Call) (d : State). callAnswer p i d ≡ x) (singlesOf h fs) c) (sym (ap justVerdict (frames-verdict p (c .0) (c .1) h r bs))) (none-said p h c v no fs);
         tallied = λ t. ap (λ (x : Event). feed x t) (frames-told p c h r bs false e) ∙ sym (none-told p h c v no fs t);
         unread = λ n. stay;
       }

@@ -15,7 +15,7 @@ use Rattle.config.specs.declared.Profile.{Profile}
 use Rattle.config.specs.Durations.{durationAt, dataAt}
 use Rattle.gear.specs.declared.Gear.{Gear}
 use Rattle.ledger.specs.Ledger as L
-use Rattle.ledger.specs.Ledger.{Sent, Plan, increments, wholes, kept, oldOffs, newPieces, offs, dataBurst}
+use Rattle.ledger.specs.Ledger.{Sent, Plan, increments, wholes, keptAtPeer, oldOffs, newPieces, offs, dataBurst}
 use Rattle.ledger.specs.Plan.{Choice, planOf, parity, burstBitsSent, KeepsAir}
 use Rattle.plan.specs.Planning.{fits}
 use Rattle.record.specs.Profiles.{sizesOf}
@@ -64,7 +64,7 @@ module _ (p : Profile) (s : Sender) (a : List ℕ) where
       test (eqb (parity (sizesOf p) K W) 0)
       (λ e.
       absurd (false≢true (sym (increment-wholes Q (oldOffs Q W ++ offs (newPieces Q W)))
-      ∙ subst (λ (n : ℕ). anyIncrement (increments Q (take n (kept Q W)) ++ wholes Q (oldOffs Q W ++ offs (newPieces Q W))) ≡ true) (eqb-true (parity (sizesOf p) K W) 0 e) h)))
+      ∙ subst (λ (n : ℕ). anyIncrement (increments Q (take n (keptAtPeer Q W)) ++ wholes Q (oldOffs Q W ++ offs (newPieces Q W))) ≡ true) (eqb-true (parity (sizesOf p) K W) 0 e) h)))
       (λ e. omega (arith, eqb-false (parity (sizesOf p) K W) 0 e))
 
   premise : (2 ≤ length gone) ⊎ (anyIncrement gone ≡ true) → (2 ≤ length gone) ⊎ (1 ≤ parity (sizesOf p) K W)

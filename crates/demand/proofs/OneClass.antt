@@ -9,7 +9,7 @@ use lib.Dec.{leb, eqb}
 use lib.ListN.{length}
 use borrow.Author.Tests.{le-leb}
 use Rattle.laws.proofs.Picks.{by}
-use Rattle.ledger.specs.Queue.{Message, Queue, messageBytes, goes, insert, first, behind, those, withdraws, enqueue, superseded}
+use Rattle.ledger.specs.Queue.{Message, Queue, messageBytes, goes, insertByClass, firstIfBegun, behind, those, withdraws, enqueue, superseded}
 use Rattle.ledger.specs.Queue.{fliesFrom, flies}
 use Rattle.ledger.proofs.Queue.{bytes-append, first-behind}
 
@@ -17,7 +17,7 @@ abbrev pub AllOf : ℕ → List Message → Type 0
 AllOf c [] = Unit {0}
 AllOf c (m ∷ ms) = (m .class ≡ c) × AllOf c ms
 
-insert-last : (c : ℕ) (m : Message) (ms : List Message) → m .class ≡ c → AllOf c ms → insert m ms ≡ ms ++ (m ∷ [])
+insert-last : (c : ℕ) (m : Message) (ms : List Message) → m .class ≡ c → AllOf c ms → insertByClass m ms ≡ ms ++ (m ∷ [])
 insert-last c m [] e h = refl
 insert-last c m (x ∷ xs) e h = rw (le-leb (x .class) (m .class) (omega (arith, h .0, e)), insert-last c m xs e (h .1))
 
@@ -45,7 +45,7 @@ unfolding enqueue
 single c [] q h = sym (append-nil (goes q))
 single c (b ∷ bs) q h =
     let m : Message = record { class = c; label = 0; bytes = b ∷ bs } in
-    let f = first (q .begun) (q .messages) in
+    let f = firstIfBegun (q .begun) (q .messages) in
     let r = behind (q .begun) (q .messages) in
     rw (stays-all r, insert-last c m r refl (behind-all c (q .begun) (q .messages) h))
     (rw (bytes-append f (r ++ (m ∷ [])), bytes-append r (m ∷ []))
@@ -53,7 +53,7 @@ single c (b ∷ bs) q h =
 
 -- ---- a single class stays one
 
-insert-all : (c : ℕ) (m : Message) (ms : List Message) → m .class ≡ c → AllOf c ms → AllOf c (insert m ms)
+insert-all : (c : ℕ) (m : Message) (ms : List Message) → m .class ≡ c → AllOf c ms → AllOf c (insertByClass m ms)
 insert-all c m [] e h = (e, tt)
 insert-all c m (x ∷ xs) e h = by (AllOf c) (leb (x .class) (m .class)) (λ _. (h .0, insert-all c m xs e (h .1))) (λ _. (e, h))
 
@@ -61,7 +61,7 @@ all-append : (c : ℕ) (xs ys : List Message) → AllOf c xs → AllOf c ys → 
 all-append c [] ys h g = g
 all-append c (x ∷ xs) ys h g = (h .0, all-append c xs ys (h .1) g)
 
-first-all : (c : ℕ) (b : Bool) (ms : List Message) → AllOf c ms → AllOf c (first b ms)
+first-all : (c : ℕ) (b : Bool) (ms : List Message) → AllOf c ms → AllOf c (firstIfBegun b ms)
 first-all c false ms h = tt
 first-all c true [] h = tt
 first-all c true (x ∷ xs) h = (h .0, tt)
@@ -73,7 +73,7 @@ enqueue-all c (b ∷ bs) q h =
     let m : Message = record { class = c; label = 0; bytes = b ∷ bs } in
     let late = behind (q .begun) (q .messages) in
     rw (stays-all late)
-    (all-append c (first (q .begun) (q .messages)) (insert m late) (first-all c (q .begun) (q .messages) h)
+    (all-append c (firstIfBegun (q .begun) (q .messages)) (insertByClass m late) (first-all c (q .begun) (q .messages) h)
     (insert-all c m late refl (behind-all c (q .begun) (q .messages) h)))
 
 flies-from-all : (c k : ℕ) (b : Bool) (ms : List Message) → AllOf c ms → AllOf c (fliesFrom k b ms .messages)

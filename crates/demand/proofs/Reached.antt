@@ -33,10 +33,10 @@ use Rattle.refusals.specs.declared.Verdict.{Verdict}
 use Rattle.refusals.specs.Refusals.{kindOf}
 use Rattle.verdicts.specs.Verdicts.{passed, takenBy, standing, firstOf, queueVerdict, receiveVerdict, framesVerdict, burstVerdict}
 use Rattle.verdicts.proofs.Passed.{standing-three, frames-passed}
-use Rattle.demand.specs.Lists.{Call, queues, hears, receives, bursts, State, Given, freshStart, shown, next, told}
+use Rattle.demand.specs.Lists.{Call, queues, hears, receives, bursts, State, Given, freshStart, shown, next, callTold}
 use Rattle.demand.specs.Page.{messages, c, s, t}
-use Rattle.demand.specs.PageCode.{sizesFor, Reached}
-use Rattle.demand.proofs.Answers.{queue-no, queue-told, hear-no, hear-told, frames-no, frames-told, burst-no, burst-silent, burst-verdict}
+use Rattle.demand.specs.PageCode.{sizesFor, AfterCalls}
+use Rattle.demand.proofs.Answers.{queue-no, queue-told, hear-no, hear-told, frames-no, frames-told, burst-no, burst-silent, verdict-of-burst}
 use Rattle.demand.proofs.Steps.{sizes, Ok, waiting-length}
 use Rattle.demand.proofs.AllCalls.{call, does}
 use Rattle.demand.proofs.Connected.{Quiet, quiet-next}
@@ -58,7 +58,7 @@ module _ (p : Profile) (rg : Ranged p) (io : inOrder p ≡ true) (six : length (
   abbrev pub Fit : State → Type 0
   Fit c = Ok p rg io six c × Quiet c
 
-  refines : Refines (sizesOf p) (sizes p rg io six) State Call Given Fit (next p) shown (call p rg io six) (told p)
+  refines : Refines (sizesOf p) (sizes p rg io six) State Call Given Fit (next p) shown (call p rg io six) (callTold p)
   refines =
       record {
         allowed = λ i c g so ok. does p rg io six i c g (ok .0) (ok .1) .allowed;
@@ -75,19 +75,19 @@ module _ (p : Profile) (rg : Ranged p) (io : inOrder p ≡ true) (six : length (
 
   module _ (n : ℕ) (large : areaBytes ≤ n) (is : List Call) (gs : Along (next p) Given is (freshStart n)) where
     through : (i : Call) → Given i (c p n is)
-        → LedgerClaim (sizesOf p) (messages p n is) (s p n is) (t p n is) (told p i (c p n is)) (shown (next p i (c p n is)) .sender)
+        → LedgerClaim (sizesOf p) (messages p n is) (s p n is) (t p n is) (callTold p i (c p n is)) (shown (next p i (c p n is)) .sender)
     through i g =
-        refined (sizesOf p) (sizes p rg io six) State Call Given Fit (next p) shown (call p rg io six) (told p) refines (freshStart n) (fresh-shows (replicate n 0)) (fresh-fit n large) is gs i g
+        refined (sizesOf p) (sizes p rg io six) State Call Given Fit (next p) shown (call p rg io six) (callTold p) refines (freshStart n) (fresh-shows (replicate n 0)) (fresh-fit n large) is gs i g
 
     pub well : Ok p rg io six (c p n is)
-    well = ok-after (sizesOf p) (sizes p rg io six) State Call Given Fit (next p) shown (call p rg io six) (told p) refines (freshStart n) (fresh-shows (replicate n 0)) (fresh-fit n large) is gs .0
+    well = ok-after (sizesOf p) (sizes p rg io six) State Call Given Fit (next p) shown (call p rg io six) (callTold p) refines (freshStart n) (fresh-shows (replicate n 0)) (fresh-fit n large) is gs .0
 
     -- the bytes taken, those withdrawn among them, are within their limit
     few-taken : takenBy (c p n is .0 .sender .counts) (c p n is .0 .messages) ≤ maxTaken
     unfolding viewStation view
     few-taken =
         let so =
-        sound-after (sizesOf p) (sizes p rg io six) State Call Given Fit (next p) shown (call p rg io six) (told p) refines (freshStart n)
+        sound-after (sizesOf p) (sizes p rg io six) State Call Given Fit (next p) shown (call p rg io six) (callTold p) refines (freshStart n)
         (fresh-shows (replicate n 0)) (fresh-fit n large) is gs in
         omega (arith, so .taken, waiting-length p rg io six (c p n is .0 .sender) (c p n is .1) (well .well))
 
@@ -97,7 +97,7 @@ first-no : (v w : Verdict) → passed v ≡ false → passed (firstOf v w) ≡ f
 first-no v w e = ap (λ (t : Bool). passed (cond t w v)) e ∙ e
 
 module _ (p : Profile) (n : ℕ) (refused : (connect : Bool) → passed (standing p freshStation (replicate n 0) connect) ≡ false) where
-  pub stays : (i : Call) → (next p i (freshStart n) ≡ freshStart n) × (told p i (freshStart n) ≡ silent)
+  pub stays : (i : Call) → (next p i (freshStart n) ≡ freshStart n) × (callTold p i (freshStart n) ≡ silent)
   unfolding queueVerdict receiveVerdict burstVerdict
   stays (queues k l bs) =
       let e = first-no (standing p freshStation (replicate n 0) false) _ (refused false) in
@@ -115,23 +115,23 @@ module _ (p : Profile) (n : ℕ) (refused : (connect : Bool) → passed (standin
       (burst-no p (freshStart n) out e, burst-silent p (freshStart n) out e)
 
   module _ (z : Sizes) (zr : SizeRange z) where
-    idles : Refines z zr State Call Given (λ (c : State). c ≡ freshStart n) (next p) shown (λ (i : Call) (c : State). idle) (told p)
+    idles : Refines z zr State Call Given (λ (c : State). c ≡ freshStart n) (next p) shown (λ (i : Call) (c : State). idle) (callTold p)
     idles =
         record {
           allowed = λ i c g so e. tt;
           steps = λ i c g so e. subst (λ (x : State). shown (next p i x) ≡ shown x) (sym e) (ap shown (stays i .0));
-          tells = λ i c g so e. subst (λ (x : State). told p i x ≡ silent) (sym e) (stays i .1);
+          tells = λ i c g so e. subst (λ (x : State). callTold p i x ≡ silent) (sym e) (stays i .1);
           keeps = λ i c g so e. ap (next p i) e ∙ stays i .0;
         }
 
     module _ (is : List Call) (gs : Along (next p) Given is (freshStart n)) where
       refused-all : (i : Call) → Given i (c p n is)
-          → LedgerClaim z (messages p n is) (s p n is) (t p n is) (told p i (c p n is)) (shown (next p i (c p n is)) .sender)
+          → LedgerClaim z (messages p n is) (s p n is) (t p n is) (callTold p i (c p n is)) (shown (next p i (c p n is)) .sender)
       refused-all i g =
-          refined z zr State Call Given (λ (c : State). c ≡ freshStart n) (next p) shown (λ (j : Call) (c : State). idle) (told p) idles (freshStart n) (fresh-shows (replicate n 0)) refl is gs i g
+          refined z zr State Call Given (λ (c : State). c ≡ freshStart n) (next p) shown (λ (j : Call) (c : State). idle) (callTold p) idles (freshStart n) (fresh-shows (replicate n 0)) refl is gs i g
 
       at-start : c p n is ≡ freshStart n
-      at-start = ok-after z zr State Call Given (λ (c : State). c ≡ freshStart n) (next p) shown (λ (j : Call) (c : State). idle) (told p) idles (freshStart n) (fresh-shows (replicate n 0)) refl is gs
+      at-start = ok-after z zr State Call Given (λ (c : State). c ≡ freshStart n) (next p) shown (λ (j : Call) (c : State). idle) (callTold p) idles (freshStart n) (fresh-shows (replicate n 0)) refl is gs
 
 -- a call that stands finds a profile that is not refused, and a work area that is large enough
 stands-finds : (p : Profile) (n : ℕ) (connect : Bool) → passed (standing p freshStation (replicate n 0) connect) ≡ true → ((inRange p && inOrder p) ≡ true) × (areaBytes ≤ n)
@@ -153,13 +153,13 @@ least-sizes = record { least = omega arith; order = omega arith; most = omega ar
 
 module _ (p : Profile) (six : length (p .codes .ends) ≤ 6) (n : ℕ) (is : List Call) (gs : Along (next p) Given is (freshStart n)) where
   abbrev Claimed : Sizes → Call → Type 0
-  Claimed z i = LedgerClaim z (messages p n is) (s p n is) (t p n is) (told p i (c p n is)) (shown (next p i (c p n is)) .sender)
+  Claimed z i = LedgerClaim z (messages p n is) (s p n is) (t p n is) (callTold p i (c p n is)) (shown (next p i (c p n is)) .sender)
 
   sizes-for : (b : Bool) → (inRange p && inOrder p) ≡ b → sizesFor p ≡ cond b (sizesOf p) (record { short = minPayload; long = minPayload; top = 0 })
   sizes-for b e = ap (λ (x : Bool). cond x (sizesOf p) (record { short = minPayload; long = minPayload; top = 0 })) e
 
   -- where the profile is refused or the work area is too short
-  turned-down : (z : Sizes) → SizeRange z → sizesFor p ≡ z → ((inRange p && inOrder p) ≡ true → areaBytes ≤ n → ⊥) → (i : Call) → Given i (c p n is) → Reached p n is i
+  turned-down : (z : Sizes) → SizeRange z → sizesFor p ≡ z → ((inRange p && inOrder p) ≡ true → areaBytes ≤ n → ⊥) → (i : Call) → Given i (c p n is) → AfterCalls p n is i
   unfolding burstVerdict
   turned-down z zr e f i g =
       let refused = refused-by p n f in
@@ -169,10 +169,10 @@ module _ (p : Profile) (six : length (p .codes .ends) ≤ 6) (n : ℕ) (is : Lis
       record {
         ledger = subst (λ (x : Sizes). Claimed x i) (sym e) (refused-all p n refused z zr is gs i g);
         sound = λ v l. absurd (f v l);
-        sends = λ out ok. absurd (none out (ap passed (sym (burst-verdict p (c p n is) out)) ∙ ok));
+        sends = λ out ok. absurd (none out (ap passed (sym (verdict-of-burst p (c p n is) out)) ∙ ok));
       }
 
-  taken-up : (v : (inRange p && inOrder p) ≡ true) → areaBytes ≤ n → (i : Call) → Given i (c p n is) → Reached p n is i
+  taken-up : (v : (inRange p && inOrder p) ≡ true) → areaBytes ≤ n → (i : Call) → Given i (c p n is) → AfterCalls p n is i
   taken-up v l i g =
       let rg = ranged p (and-first (inRange p) (inOrder p) v) in
       let io = and-second (inRange p) (inOrder p) v in
@@ -185,7 +185,7 @@ module _ (p : Profile) (six : length (p .codes .ends) ≤ 6) (n : ℕ) (is : Lis
         sends = λ out ok. sends p rg io six n is w out (through p rg io six n l is gs (bursts out) tt) ok;
       }
 
-  pub reached : (i : Call) → Given i (c p n is) → Reached p n is i
+  pub reached : (i : Call) → Given i (c p n is) → AfterCalls p n is i
   reached i g =
       test (inRange p && inOrder p)
       (λ v. test (leb areaBytes n)

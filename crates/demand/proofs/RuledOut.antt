@@ -13,7 +13,7 @@ use Rattle.ledger.specs.Queue.{enqueue, superseded, flies, begins, message}
 use Rattle.ledger.specs.Station.{Station}
 use Rattle.ledger.specs.Tally.{Event, start, queued, sentOut, heard}
 use Rattle.ledger.specs.Calls.{run, history, tally}
-use Rattle.ledger.specs.CallsCode.{Move, idle, queues, hears, receives, turns, bursts, freshStation, step, event}
+use Rattle.ledger.specs.CallsCode.{Move, idle, queueMove, ackMove, acksMove, turnMove, burstMove, freshLedgerStation, step, event}
 use Rattle.demand.specs.Page.{Accounts}
 
 abbrev sizes : Sizes
@@ -40,90 +40,90 @@ other-byte x = record { waiting = x .waiting; next = x .next; acked = x .acked; 
 
 -- acks settle nothing
 abbrev nothing-settled : Move → Station → Station
-nothing-settled (hears r keep) s = with clearBurst s
+nothing-settled (ackMove r keep) s = with clearBurst s
 nothing-settled idle s = s
-nothing-settled (queues c l bs) s = step sizes (queues c l bs) s
-nothing-settled (receives xs) s = step sizes (receives xs) s
-nothing-settled turns s = step sizes turns s
-nothing-settled (bursts g) s = step sizes (bursts g) s
+nothing-settled (queueMove c l bs) s = step sizes (queueMove c l bs) s
+nothing-settled (acksMove xs) s = step sizes (acksMove xs) s
+nothing-settled turnMove s = step sizes turnMove s
+nothing-settled (burstMove g) s = step sizes (burstMove g) s
 
 -- a first ack settles all
 abbrev all-settled : Move → Station → Station
-all-settled (hears r keep) s = with (hearAck 2 (all (r .number)) keep) s
+all-settled (ackMove r keep) s = with (hearAck 2 (all (r .number)) keep) s
 all-settled idle s = s
-all-settled (queues c l bs) s = step sizes (queues c l bs) s
-all-settled (receives xs) s = step sizes (receives xs) s
-all-settled turns s = step sizes turns s
-all-settled (bursts g) s = step sizes (bursts g) s
+all-settled (queueMove c l bs) s = step sizes (queueMove c l bs) s
+all-settled (acksMove xs) s = step sizes (acksMove xs) s
+all-settled turnMove s = step sizes turnMove s
+all-settled (burstMove g) s = step sizes (burstMove g) s
 
 -- an invented count
 abbrev count-invented : Move → Station → Station
-count-invented (hears r keep) s = with invented (step sizes (hears r keep) s)
+count-invented (ackMove r keep) s = with invented (step sizes (ackMove r keep) s)
 count-invented idle s = s
-count-invented (queues c l bs) s = step sizes (queues c l bs) s
-count-invented (receives xs) s = step sizes (receives xs) s
-count-invented turns s = step sizes turns s
-count-invented (bursts g) s = step sizes (bursts g) s
+count-invented (queueMove c l bs) s = step sizes (queueMove c l bs) s
+count-invented (acksMove xs) s = step sizes (acksMove xs) s
+count-invented turnMove s = step sizes turnMove s
+count-invented (burstMove g) s = step sizes (burstMove g) s
 
 abbrev byte-altered : Move → Station → Station
-byte-altered (bursts g) s = with other-byte (step sizes (bursts g) s)
+byte-altered (burstMove g) s = with other-byte (step sizes (burstMove g) s)
 byte-altered idle s = s
-byte-altered (queues c l bs) s = step sizes (queues c l bs) s
-byte-altered (hears r keep) s = step sizes (hears r keep) s
-byte-altered (receives xs) s = step sizes (receives xs) s
-byte-altered turns s = step sizes turns s
+byte-altered (queueMove c l bs) s = step sizes (queueMove c l bs) s
+byte-altered (ackMove r keep) s = step sizes (ackMove r keep) s
+byte-altered (acksMove xs) s = step sizes (acksMove xs) s
+byte-altered turnMove s = step sizes turnMove s
 
 -- a new message goes last, whatever its class
 abbrev in-order-of-arrival : Move → Station → Station
-in-order-of-arrival (queues c l bs) s =
+in-order-of-arrival (queueMove c l bs) s =
     record {
       sender = requeue (s .sender .waiting ++ bs) (s .sender);
       queue = record { begun = s .queue .begun; messages = s .queue .messages ++ message c l bs };
       withdrawn = s .withdrawn;
     }
 in-order-of-arrival idle s = s
-in-order-of-arrival (hears r keep) s = step sizes (hears r keep) s
-in-order-of-arrival (receives xs) s = step sizes (receives xs) s
-in-order-of-arrival turns s = step sizes turns s
-in-order-of-arrival (bursts g) s = step sizes (bursts g) s
+in-order-of-arrival (ackMove r keep) s = step sizes (ackMove r keep) s
+in-order-of-arrival (acksMove xs) s = step sizes (acksMove xs) s
+in-order-of-arrival turnMove s = step sizes turnMove s
+in-order-of-arrival (burstMove g) s = step sizes (burstMove g) s
 
 -- the older bulletin is not withdrawn
 abbrev older-stays : Move → Station → Station
-older-stays (queues c l bs) s = step sizes (queues c 0 bs) s
+older-stays (queueMove c l bs) s = step sizes (queueMove c 0 bs) s
 older-stays idle s = s
-older-stays (hears r keep) s = step sizes (hears r keep) s
-older-stays (receives xs) s = step sizes (receives xs) s
-older-stays turns s = step sizes turns s
-older-stays (bursts g) s = step sizes (bursts g) s
+older-stays (ackMove r keep) s = step sizes (ackMove r keep) s
+older-stays (acksMove xs) s = step sizes (acksMove xs) s
+older-stays turnMove s = step sizes turnMove s
+older-stays (burstMove g) s = step sizes (burstMove g) s
 
 -- a queuing withdraws the begun message too
 abbrev begun-withdrawn : Move → Station → Station
-begun-withdrawn (queues c l bs) s =
-    step sizes (queues c l bs)
+begun-withdrawn (queueMove c l bs) s =
+    step sizes (queueMove c l bs)
     (record { sender = s .sender; queue = record { begun = false; messages = s .queue .messages }; withdrawn = s .withdrawn })
 begun-withdrawn idle s = s
-begun-withdrawn (hears r keep) s = step sizes (hears r keep) s
-begun-withdrawn (receives xs) s = step sizes (receives xs) s
-begun-withdrawn turns s = step sizes turns s
-begun-withdrawn (bursts g) s = step sizes (bursts g) s
+begun-withdrawn (ackMove r keep) s = step sizes (ackMove r keep) s
+begun-withdrawn (acksMove xs) s = step sizes (acksMove xs) s
+begun-withdrawn turnMove s = step sizes turnMove s
+begun-withdrawn (burstMove g) s = step sizes (burstMove g) s
 
 -- the bytes withdrawn are not counted
 abbrev uncounted : Move → Station → Station
-uncounted (queues c l bs) s =
-    let x = step sizes (queues c l bs) s in
+uncounted (queueMove c l bs) s =
+    let x = step sizes (queueMove c l bs) s in
     record { sender = x .sender; queue = x .queue; withdrawn = s .withdrawn }
 uncounted idle s = s
-uncounted (hears r keep) s = step sizes (hears r keep) s
-uncounted (receives xs) s = step sizes (receives xs) s
-uncounted turns s = step sizes turns s
-uncounted (bursts g) s = step sizes (bursts g) s
+uncounted (ackMove r keep) s = step sizes (ackMove r keep) s
+uncounted (acksMove xs) s = step sizes (acksMove xs) s
+uncounted turnMove s = step sizes turnMove s
+uncounted (burstMove g) s = step sizes (burstMove g) s
 
 module _ (wrong : Move → Station → Station) where
   abbrev says : Move → Station → Event
   says c s = event c (wrong c s .sender)
 
   abbrev Holds : List Move → Type 0
-  Holds cs = Accounts (history wrong says cs freshStation) (tally wrong says cs freshStation start) (run wrong cs freshStation)
+  Holds cs = Accounts (history wrong says cs freshLedgerStation) (tally wrong says cs freshLedgerStation start) (run wrong cs freshLedgerStation)
 
 -- bursts of one frame and of two
 abbrev frames : ℕ → Plan
@@ -134,9 +134,9 @@ nine = 1 ∷ 2 ∷ 3 ∷ 4 ∷ 5 ∷ 6 ∷ 7 ∷ 8 ∷ 9 ∷ []
 
 -- nine bytes in two frames, and an ack with this bitmap
 abbrev calls : ℕ → List Move
-calls bitmap = queues 3 0 nine ∷ bursts (frames 2) ∷ hears (shortAck 1 bitmap) false ∷ []
+calls bitmap = queueMove 3 0 nine ∷ burstMove (frames 2) ∷ ackMove (shortAck 1 bitmap) false ∷ []
 
-pub right-first : run (step sizes) (calls 1) freshStation .sender .acked ≡ 8
+pub right-first : run (step sizes) (calls 1) freshLedgerStation .sender .acked ≡ 8
 unfolding requeue enqueue flies begins dataBurst hearAck settleBurst clearBurst
 right-first = refl
 
@@ -153,25 +153,25 @@ unfolding requeue enqueue superseded flies begins dataBurst hearAck settleBurst 
 no-inventing d = omega (arith, d .acked)
 
 -- the first byte is 1
-pub no-altering : Holds byte-altered (queues 3 0 (1 ∷ 2 ∷ 3 ∷ []) ∷ bursts (frames 2) ∷ []) → ⊥
+pub no-altering : Holds byte-altered (queueMove 3 0 (1 ∷ 2 ∷ 3 ∷ []) ∷ burstMove (frames 2) ∷ []) → ⊥
 unfolding requeue enqueue superseded flies begins dataBurst hearAck settleBurst clearBurst queued sentOut heard
 no-altering d = omega (arith, ap (λ (l : List ℕ). getD l 0 0) (d .holds .1))
 
 -- routine and then flash: the flash message waits first
-pub no-arrival-order : Holds in-order-of-arrival (queues 3 0 (1 ∷ []) ∷ queues 0 0 (2 ∷ []) ∷ []) → ⊥
+pub no-arrival-order : Holds in-order-of-arrival (queueMove 3 0 (1 ∷ []) ∷ queueMove 0 0 (2 ∷ []) ∷ []) → ⊥
 unfolding requeue enqueue queued
 no-arrival-order d = omega (arith, ap (λ (l : List ℕ). getD l 0 0) (d .waiting))
 
 -- two bulletins with the label 7
 abbrev bulletins : List Move
-bulletins = queues 3 7 (1 ∷ []) ∷ queues 3 7 (2 ∷ []) ∷ []
+bulletins = queueMove 3 7 (1 ∷ []) ∷ queueMove 3 7 (2 ∷ []) ∷ []
 
-pub right-withdrawn : run (step sizes) bulletins freshStation .withdrawn ≡ 1
+pub right-withdrawn : run (step sizes) bulletins freshLedgerStation .withdrawn ≡ 1
 unfolding requeue enqueue superseded
 right-withdrawn = refl
 
 -- a message withdrawn never flies
-pub no-withdrawn-flying : Holds older-stays (queues 3 7 (1 ∷ []) ∷ queues 3 7 (2 ∷ []) ∷ bursts (frames 2) ∷ []) → ⊥
+pub no-withdrawn-flying : Holds older-stays (queueMove 3 7 (1 ∷ []) ∷ queueMove 3 7 (2 ∷ []) ∷ burstMove (frames 2) ∷ []) → ⊥
 unfolding requeue enqueue superseded flies begins dataBurst queued sentOut
 no-withdrawn-flying d = omega (arith, ap length (d .holds .1))
 
@@ -185,6 +185,6 @@ unfolding requeue enqueue superseded queued
 no-uncounted d = omega (arith, d .withdrawn)
 
 -- eight of nine bytes fly, and the ninth still waits when a newer bulletin comes
-pub no-begun-withdrawn : Holds begun-withdrawn (queues 3 7 nine ∷ bursts (frames 1) ∷ queues 3 7 (10 ∷ []) ∷ []) → ⊥
+pub no-begun-withdrawn : Holds begun-withdrawn (queueMove 3 7 nine ∷ burstMove (frames 1) ∷ queueMove 3 7 (10 ∷ []) ∷ []) → ⊥
 unfolding requeue enqueue superseded flies begins dataBurst queued sentOut
 no-begun-withdrawn d = omega (arith, ap length (d .waiting))

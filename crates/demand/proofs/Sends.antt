@@ -15,7 +15,7 @@ use Rattle.laws.proofs.Picks.{by}
 use Rattle.limits.specs.Limits.{maxSlots}
 use Rattle.level.specs.Ladder.{longFrame}
 use Rattle.frame.specs.Frame.{maxPayload}
-use Rattle.frame.proofs.Laws.{room}
+use Rattle.frame.proofs.Laws.{frame-room}
 use Rattle.config.specs.declared.Profile.{Profile}
 use Rattle.config.specs.Durations.{frameBytes, dataAt}
 use Rattle.config.specs.Ranged.{Ranged}
@@ -45,21 +45,20 @@ use Rattle.invariant.proofs.Bursts.{burst-kept, choice-fits, choice-keeps-air}
 use Rattle.data_burst.proofs.burst.Sends.{frame-least}
 use Rattle.verdicts.specs.Verdicts.{passed, burstVerdict}
 use Rattle.verdicts.proofs.Passed.{burst-passed}
-use Rattle.sender.specs.declared.Bursted.{Bursted}
-use Rattle.sender.specs.Calls.{burstCall}
-use Rattle.demand.specs.Lists.{Call, bursts, shown, framesAnswered, next, told}
+use Rattle.sender.specs.Calls.{Bursted, burstCall}
+use Rattle.demand.specs.Lists.{Call, bursts, shown, framesAnswered, next, callTold}
 use Rattle.demand.specs.Page.{byOffset, Taken, framesOfTaken, sumOf, onAir, allowance, anyIncrement, messages, bytes, c, s, t, answer, leaves, Sends}
-use Rattle.demand.proofs.Answers.{burst-is, burst-told, burst-verdict}
+use Rattle.demand.proofs.Answers.{burst-is, burst-told, verdict-of-burst}
 use Rattle.demand.proofs.Steps.{sizes, Ok, does-burst, taken}
 use Rattle.demand.proofs.Payloads.{sent-taken, sent-bytes, within, none-reserved, with-room}
 use Rattle.demand.proofs.OnTime.{on-time, sum-bits}
 
 module _ (p : Profile) (rg : Ranged p) (io : inOrder p ≡ true) (six : length (p .codes .ends) ≤ 6) (n : ℕ) (is : List Call)
     (w : Ok p rg io six (c p n is)) (out : List ℕ)
-    (q : LedgerClaim (sizesOf p) (messages p n is) (s p n is) (t p n is) (told p (bursts out) (c p n is)) (shown (next p (bursts out) (c p n is)) .sender))
+    (q : LedgerClaim (sizesOf p) (messages p n is) (s p n is) (t p n is) (callTold p (bursts out) (c p n is)) (shown (next p (bursts out) (c p n is)) .sender))
     (ok : passed (burstCall p (c p n is .0) (c p n is .1) out .0 .verdict) ≡ true) where
   go : passed (burstVerdict p (c p n is .0) (c p n is .1) (length out)) ≡ true
-  go = ap passed (sym (burst-verdict p (c p n is) out)) ∙ ok
+  go = ap passed (sym (verdict-of-burst p (c p n is) out)) ∙ ok
 
   -- the ledger's sender after the burst
   abbrev s′ : L.Sender
@@ -74,7 +73,7 @@ module _ (p : Profile) (rg : Ranged p) (io : inOrder p ≡ true) (six : length (
   answered = ap (λ (x : Bursted × (List ℕ × List ℕ)). x .0 .outgoing) (burst-is p (c p n is) out true go)
 
   -- what the tally is told: the answer's number and frames
-  said : told p (bursts out) (c p n is) ≡ went (answer p n is out .number) (framesAnswered (answer p n is out .frames))
+  said : callTold p (bursts out) (c p n is) ≡ went (answer p n is out .number) (framesAnswered (answer p n is out .frames))
   said = rw ok refl
 
   -- the answer's frames are those of the pieces that the burst leaves
@@ -82,14 +81,14 @@ module _ (p : Profile) (rg : Ranged p) (io : inOrder p ≡ true) (six : length (
   unfolding viewStation
   frames-are = sym (ap framesTold said) ∙ ap framesTold (does-burst p rg io six out (c p n is) w go .tells)
 
-  carried : Carry (map byteOf (feed (told p (bursts out) (c p n is)) (t p n is) .flown)) (s′ .pieces) (framesAnswered (answer p n is out .frames))
+  carried : Carry (map byteOf (feed (callTold p (bursts out) (c p n is)) (t p n is) .flown)) (s′ .pieces) (framesAnswered (answer p n is out .frames))
   carried =
-      subst (λ (x : L.Sender). Carry (map byteOf (feed (told p (bursts out) (c p n is)) (t p n is) .flown)) (x .pieces) (framesAnswered (answer p n is out .frames))) stepped
-      (subst (Carry (map byteOf (feed (told p (bursts out) (c p n is)) (t p n is) .flown)) (shown (next p (bursts out) (c p n is)) .sender .pieces)) (ap framesTold said) (q .carries))
+      subst (λ (x : L.Sender). Carry (map byteOf (feed (callTold p (bursts out) (c p n is)) (t p n is) .flown)) (x .pieces) (framesAnswered (answer p n is out .frames))) stepped
+      (subst (Carry (map byteOf (feed (callTold p (bursts out) (c p n is)) (t p n is) .flown)) (shown (next p (bursts out) (c p n is)) .sender .pieces)) (ap framesTold said) (q .carries))
 
   -- a burst moves bytes from waiting to flown, and no byte taken is another then
   abbrev t′ : T.Tally
-  t′ = feed (told p (bursts out) (c p n is)) (t p n is)
+  t′ = feed (callTold p (bursts out) (c p n is)) (t p n is)
 
   same-bytes : byOffset t′ ≡ bytes p n is
   same-bytes =
@@ -184,7 +183,7 @@ module _ (p : Profile) (rg : Ranged p) (io : inOrder p ≡ true) (six : length (
         frames = subst (λ (b : List ℕ). Taken b (framesAnswered (answer p n is out .frames))) same-bytes (within _ _ _ (framesAnswered (answer p n is out .frames)) carried);
         lengths = none-reserved _ _ _ _ (framesAnswered (answer p n is out .frames)) (sizes p rg io six .most) (kept .sound .ascend) carried;
         output = written;
-        room = with-room (maxPayload size) _ size _ _ (framesAnswered (answer p n is out .frames)) (room size _ (frame-least p rg _) (omega arith)) ascends carried;
+        room = with-room (maxPayload size) _ size _ _ (framesAnswered (answer p n is out .frames)) (frame-room size _ (frame-least p rg _) (omega arith)) ascends carried;
         fits = all-fit;
         some = some-frame;
         air = in-time;

@@ -27,7 +27,7 @@ use Rattle.ledger.specs.Ledger as L
 use Rattle.ledger.specs.Queue.{Message, messageBytes, goes, enqueue}
 use Rattle.ledger.specs.Station as St
 use Rattle.ledger.specs.Station.{takeIn}
-use Rattle.messages.specs.Messages.{messagesOk, queueIn, total, withdrawnIn}
+use Rattle.messages.specs.Messages.{messagesOk, queueIn, totalLeft, withdrawnIn}
 use Rattle.messages.specs.declared.Withdrawal.{Withdrawal}
 use Rattle.messages.proofs.Withdrawn.{superseded-none}
 use Rattle.messages.proofs.Kept.{sound-ok, sound-none}
@@ -57,11 +57,9 @@ use Rattle.reception.specs.declared.Reception.{Reception}
 use Rattle.outgoing.specs.Outgoing.{burstOf}
 use Rattle.outgoing.specs.declared.Outgoing.{Outgoing}
 use Rattle.sender.specs.Base.{standingBase, queueVerdictBase, queueBase, receiveBase, framesBase, burstBase}
-use Rattle.sender.specs.Calls.{queueOf, receiveOf, framesOf, noBurst, burstCall}
-use Rattle.sender.specs.declared.Answer.{Answer}
-use Rattle.sender.specs.declared.Bursted.{Bursted}
+use Rattle.sender.specs.Calls.{Answer, Bursted, queueOf, receiveOf, framesOf, noBurst, burstCall}
 use Rattle.demand.specs.Lists.{Call, queues, hears, receives, bursts, State, Given, freshStart, shown, next}
-use Rattle.demand.specs.Single.{BaseCall, plain, Said, justVerdict, BaseState, nextBase, saidBase, allSaidBase, said, tooMany, erased, allSaid, OneClass, SingleClass}
+use Rattle.demand.specs.Single.{BaseCall, plain, CallAnswer, justVerdict, BaseState, nextBase, baseAnswer, baseAnswers, callAnswer, tooMany, erased, callAnswers, OneClass, SingleClass}
 use Rattle.laws.specs.Bytes.{Bytes}
 use Rattle.messages.specs.SoundCode.{SoundMessages}
 use Rattle.sender.proofs.Refused.{queue-verdict, receive-verdict, frames-verdict, burst-verdict}
@@ -129,7 +127,7 @@ module _ (p : Profile) (c : State) (ok : Listed c) where
       let w = s .counts .waiting in
       let b = ltb 0 n && leb maxMessages (m .n) in
       let none = superseded-none 0 n m (or-right (eqb n 0) true refl) in
-      let left : w - total (withdrawnIn 0 n m) ≡ w = omega (arith, ap (λ (x : Withdrawal). x .bytes) none) in
+      let left : w - totalLeft (withdrawnIn 0 n m) ≡ w = omega (arith, ap (λ (x : Withdrawal). x .bytes) none) in
       let taken : takenBy (s .counts) m ≡ s .counts .«next_offset» + w = omega (arith, ok .1) in
       let rows : m .n - length (withdrawnIn 0 n m) ≡ m .n = omega (arith, ap (λ (x : Withdrawal). x .n) none) in
       let judge : ℕ → ℕ → Verdict =
@@ -143,7 +141,7 @@ module _ (p : Profile) (c : State) (ok : Listed c) where
 -- ---- a call that is not refused by 12 does what the base's does
 
 abbrev Same : Profile → State → Call → Type 0
-Same p c i = (core (next p i c) ≡ nextBase p (plain i) (core c)) × (said p i c ≡ saidBase p (plain i) (core c))
+Same p c i = (core (next p i c) ≡ nextBase p (plain i) (core c)) × (callAnswer p i c ≡ baseAnswer p (plain i) (core c))
 
 module _ (p : Profile) (c : State) (ok : Listed c) where
   abbrev s : Sender
@@ -200,7 +198,7 @@ module _ (p : Profile) (c : State) (ok : Listed c) where
     burst-same = (
       by₂ (λ (y : Bursted × (List ℕ × List ℕ)) (z : Made). _≡_ {A = BaseState} (y .0 .next .sender, y .1 .0) (z .0 .1, z .1 .0)) (passed vb) (λ t. refl) (λ t. refl)
           ∙ ap (λ (v : Verdict). let x = made v in (x .0 .1, x .1 .0)) burst-verdict-same,
-      by₂ (λ (y : Bursted × (List ℕ × List ℕ)) (z : Made). _≡_ {A = Said} (record { verdict = y .0 .verdict; outgoing = y .0 .outgoing; out = y .1 .1 })
+      by₂ (λ (y : Bursted × (List ℕ × List ℕ)) (z : Made). _≡_ {A = CallAnswer} (record { verdict = y .0 .verdict; outgoing = y .0 .outgoing; out = y .1 .1 })
           (record { verdict = vb; outgoing = z .0 .0; out = z .1 .1 })) (passed vb) (λ t. refl) (λ t. refl)
           ∙ ap (λ (v : Verdict). let x = made v in record { verdict = v; outgoing = x .0 .0; out = x .1 .1 }) burst-verdict-same,
     )
@@ -238,7 +236,7 @@ module _ (p : Profile) (c : State) (ok : Listed c) where
         )
 
 abbrev Ends : Profile → List Call → State → Type 0
-Ends p is c = (core (run (next p) is c) ≡ run (nextBase p) (erased p is c) (core c)) × (allSaid p is c ≡ allSaidBase p (erased p is c) (core c))
+Ends p is c = (core (run (next p) is c) ≡ run (nextBase p) (erased p is c) (core c)) × (callAnswers p is c ≡ baseAnswers p (erased p is c) (core c))
 
 -- ---- lists, by any invariant under which one call does what the base's does
 
@@ -251,11 +249,11 @@ module _ (p : Profile) (k : ℕ) (Inv : State → Type 0)
   lists (i ∷ is) c gs os v =
       let c′ = next p i c in
       let z = lists is c′ (gs .1) (os .1) (keeps i c (gs .0) (os .0) v) in
-      by₂ (λ (calls : List BaseCall) (says : List Said). (core (run (next p) is c′) ≡ run (nextBase p) calls (core c)) × (says ≡ allSaidBase p calls (core c))) (tooMany p i c)
-      (λ t. subst (λ (x : BaseState). (core (run (next p) is c′) ≡ run (nextBase p) (erased p is c′) x) × (allSaid p is c′ ≡ allSaidBase p (erased p is c′) x)) (stops i c (gs .0) (os .0) v t) z)
+      by₂ (λ (calls : List BaseCall) (says : List CallAnswer). (core (run (next p) is c′) ≡ run (nextBase p) calls (core c)) × (says ≡ baseAnswers p calls (core c))) (tooMany p i c)
+      (λ t. subst (λ (x : BaseState). (core (run (next p) is c′) ≡ run (nextBase p) (erased p is c′) x) × (callAnswers p is c′ ≡ baseAnswers p (erased p is c′) x)) (stops i c (gs .0) (os .0) v t) z)
       (λ t. let y = same i c (gs .0) (os .0) v t in (
         z .0 ∙ ap (run (nextBase p) (erased p is c′)) (y .0),
-        ap₂ (λ (x : Said) (xs : List Said). x ∷ xs) (y .1) (z .1 ∙ ap (allSaidBase p (erased p is c′)) (y .0)),
+        ap₂ (λ (x : CallAnswer) (xs : List CallAnswer). x ∷ xs) (y .1) (z .1 ∙ ap (baseAnswers p (erased p is c′)) (y .0)),
       ))
 
 -- a call that is refused by 12 changes nothing
@@ -304,7 +302,7 @@ module _ (p : Profile) (rg : Ranged p) (io : inOrder p ≡ true) (six : length (
   reply-plain c (LongAck r) b h = long-plain c r (ackOf b) h
   reply-plain c (Turn r) b h = h
 
-  queue-plain : (c : State) (bs : List ℕ) → Plain (shown c) → After c (C.queues k 0 bs)
+  queue-plain : (c : State) (bs : List ℕ) → Plain (shown c) → After c (C.queueMove k 0 bs)
   queue-plain c bs h = (
     enqueue-all k bs (shown c .queue) (h .0),
     omega (arith, h .1, ap (λ (ms : List Message). length (messageBytes ms)) (superseded-nothing bs (shown c .queue))),
@@ -314,8 +312,8 @@ module _ (p : Profile) (rg : Ranged p) (io : inOrder p ≡ true) (six : length (
   plain-after (queues j l bs) c o h =
       by (After c) (passed (queueVerdict p (c .0) (c .1) j l (length bs)))
       (λ _.
-      subst (λ (x : ℕ). After c (C.queues x l bs)) (sym (o .0))
-      (subst (λ (y : ℕ). After c (C.queues k y bs)) (sym (o .1)) (queue-plain c bs h)))
+      subst (λ (x : ℕ). After c (C.queueMove x l bs)) (sym (o .0))
+      (subst (λ (y : ℕ). After c (C.queueMove k y bs)) (sym (o .1)) (queue-plain c bs h)))
       (λ _. h)
   plain-after (hears h r b) c o a =
       by (After c) (passed (receiveVerdict p (c .0) (c .1) h r (length b))) (λ _. reply-plain c r b a) (λ _. a)

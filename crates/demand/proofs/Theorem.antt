@@ -15,7 +15,7 @@ use Rattle.ledger.specs.CoverCode.{Ascend}
 use Rattle.ledger.specs.Tally.{waits}
 use Rattle.demand.specs.Lists.{Call, queues, Given}
 use Rattle.demand.specs.Page.{Hold, c, s, t, DemandThree}
-use Rattle.demand.specs.PageCode.{Reached}
+use Rattle.demand.specs.PageCode.{AfterCalls}
 use Rattle.demand.proofs.Payloads.{take-drop-more}
 use Rattle.demand.proofs.Reached.{reached}
 
@@ -39,7 +39,7 @@ hold bs ys m k n (q ∷ ps) a f =
 
 pub demand3 : DemandThree
 demand3 p six n is gs =
-    let d : (i : Call) → Given i (c p n is) → Reached p n is i = reached p six n is gs in
+    let d : (i : Call) → Given i (c p n is) → AfterCalls p n is i = reached p six n is gs in
     let q = d (queues 0 0 []) (λ i. omega arith) in
     let l = q .ledger in (
       record {

@@ -1,6 +1,6 @@
 -- A RECEPTION EQUALS THE SINGLE CALLS IN THEIR ORDER, in record, work area and answers, and to the tally too (document 02, Change 7). The claim
 -- is `AsSingles`, at the end. Definitions only.
--- To believe beside it: Lists.antt (a call, what it leaves, what the tally is told of it) and Single.antt's `said` (what it answers); of
+-- To believe beside it: Lists.antt (a call, what it leaves, what the tally is told of it) and Single.antt's `callAnswer` (what it answers); of
 -- crates/reception Reception.antt (the frames as they are handed in, and which of them are read); of crates/ledger Calls.antt.
 use mathlib.Core.Path.{_≡_}
 use mathlib.Core.List.{List, [], _∷_}
@@ -18,8 +18,8 @@ use Rattle.refusals.specs.Refusals.{maxReceived}
 use Rattle.refusals.specs.declared.Reply.the-variants.{LongAck}
 use Rattle.reception.specs.Reception.{Decoded, decodedIn, isRead, flagsOf}
 use Rattle.reception.specs.declared.Reception.{Reception}
-use Rattle.demand.specs.Lists.{Call, hears, receives, State, next, told}
-use Rattle.demand.specs.Single.{said}
+use Rattle.demand.specs.Lists.{Call, hears, receives, State, next, callTold}
+use Rattle.demand.specs.Single.{callAnswer}
 
 -- the frames that are read, each as a long ack of its own with the reception's time, wave and dB
 abbrev pub singlesOf : Heard → List Decoded → List Call
@@ -37,21 +37,21 @@ pub record Typed (c : State) : Type 0 where
   pub bytes : Bytes (c .1)
 
 module _ (p : Profile) (c : State) (h : Heard) (r : Reception) (payloads : List ℕ) where
-  abbrev pub whole : Call
-  whole = receives h r payloads
+  abbrev pub receptionCall : Call
+  receptionCall = receives h r payloads
 
-  abbrev pub singles : List Call
-  singles = singlesOf h (decodedIn r payloads)
+  abbrev pub singleCalls : List Call
+  singleCalls = singlesOf h (decodedIn r payloads)
 
   pub record Equals : Type 0 where
     -- record and work area
-    pub state : next p whole c ≡ run (next p) singles c
+    pub state : next p receptionCall c ≡ run (next p) singleCalls c
     -- each single call, in the state that it finds, answers what the reception answers: all are accepted, or all refused by one number
-    pub answers : Along (next p) (λ (i : Call) (d : State). said p i d ≡ said p whole c) singles c
+    pub answers : Along (next p) (λ (i : Call) (d : State). callAnswer p i d ≡ callAnswer p receptionCall c) singleCalls c
     -- the tally, whatever it was
-    pub tallied : (t : Tally) → feed (told p whole c) t ≡ tally (next p) (told p) singles c t
+    pub tallied : (t : Tally) → feed (callTold p receptionCall c) t ≡ tally (next p) (callTold p) singleCalls c t
     -- "where no frame is read, 4 to 6 are still checked and the record stays, its last time too"
-    pub unread : singles ≡ [] → next p whole c ≡ c
+    pub unread : singleCalls ≡ [] → next p receptionCall c ≡ c
 
 -- THE CLAIM: of every profile, of every record and work area, sound or not, and of every reception of at most 16 frames
 abbrev pub AsSingles : Type 0

@@ -22,7 +22,7 @@ use Rattle.gear.specs.declared.Gear.{Gear}
 use Rattle.ledger.specs.Calls.{Along, run, history, tally}
 use Rattle.ledger.specs.Claim.{covering, flyingAt, ackedAt, settledBy}
 use Rattle.ledger.specs.Ledger.{Sender, Piece, Frame, Sent, len, find, heldOffs}
-use Rattle.ledger.specs.Queue.{Message, messageBytes, behind, rest, count, withdraws, ofClass, Ascending, Sublist}
+use Rattle.ledger.specs.Queue.{Message, messageBytes, behind, rest, countThose, withdraws, ofClass, Ascending, Sublist}
 use Rattle.ledger.specs.Station as L
 use Rattle.ledger.specs.Tally as T
 use Rattle.ledger.specs.Tally.{Tally, Event, byteOf, inFlight, acknowledged, waits, feed}
@@ -30,7 +30,7 @@ use Rattle.area.specs.Layout.{areaBytes}
 use Rattle.outgoing.specs.declared.Outgoing.{Outgoing}
 use Rattle.verdicts.specs.Verdicts.{passed, stationOk}
 use Rattle.sender.specs.Calls.{burstCall}
-use Rattle.demand.specs.Lists.{Call, bursts, State, Given, freshStart, shown, framesAnswered, next, told}
+use Rattle.demand.specs.Lists.{Call, bursts, State, Given, freshStart, shown, framesAnswered, next, callTold}
 
 -- each piece has 1 byte or more, and holds the bytes taken at its offset
 abbrev pub Hold : List ℕ → List Piece → Type 0
@@ -51,7 +51,7 @@ pub record Accounts (ms : List Message) (t : Tally) (s : L.Station) : Type 0 whe
   pub sum : t .taken ≡ length (waits t) + inFlight (t .flown) + acknowledged (t .flown) + length (messageBytes (t .withdrawn))
   pub taken : t .taken ≡ length (messageBytes ms)
   -- each message queued is in exactly one: begun, not begun, or withdrawn; so "a message withdrawn has never been on the air"
-  pub each : (q : Message → Bool) → count q ms ≡ count q (t .began) + count q (unbegun t) + count q (t .withdrawn)
+  pub each : (q : Message → Bool) → countThose q ms ≡ countThose q (t .began) + countThose q (unbegun t) + countThose q (t .withdrawn)
   -- "A message once begun is finished": the flown bytes, acknowledged or not, with what is left of the begun message, are the begun messages one
   -- after the other
   pub whole : map byteOf (t .flown) ++ rest (t .queue) ≡ messageBytes (t .began)
@@ -60,7 +60,7 @@ pub record Accounts (ms : List Message) (t : Tally) (s : L.Station) : Type 0 whe
   pub ascend : Ascending 0 (unbegun t)
   pub earliest : (c : ℕ) → Sublist (ofClass c (t .began) ++ ofClass c (unbegun t)) (ofClass c ms)
   -- "A newer bulletin supersedes the older": of those that have not begun one at most bears a label
-  pub newest : (l : ℕ) → count (λ (m : Message). withdraws l (m .label)) (unbegun t) ≤ 1
+  pub newest : (l : ℕ) → countThose (λ (m : Message). withdraws l (m .label)) (unbegun t) ≤ 1
   -- Of the sender: the messages, and the waiting bytes in their order; each offset in flight in one piece and no other in any; in the pieces
   -- the bytes taken; the count acknowledged; the next offset
   pub queue : s .queue ≡ t .queue
@@ -130,10 +130,10 @@ module _ (p : Profile) (n : ℕ) (is : List Call) where
   s = shown c
 
   abbrev pub t : Tally
-  t = tally (next p) (told p) is (freshStart n) T.start
+  t = tally (next p) (callTold p) is (freshStart n) T.start
 
   abbrev pub messages : List Message
-  messages = history (next p) (told p) is (freshStart n)
+  messages = history (next p) (callTold p) is (freshStart n)
 
   abbrev pub bytes : List ℕ
   bytes = byOffset t
@@ -169,5 +169,6 @@ abbrev pub DemandThree : Type 0
 DemandThree = (p : Profile) → length (p .codes .ends) ≤ 6 → (n : ℕ) (is : List Call) → Along (next p) Given is (freshStart n)
     → Accounts (messages p n is) (t p n is) (s p n is)
     × ((inRange p && inOrder p) ≡ true → areaBytes ≤ n → stationOk p (c p n is .0) (c p n is .1) ≡ true)
-    × ((i : Call) → Given i (c p n is) → Further (t p n is) (s p n is .sender) (told p i (c p n is)) (shown (next p i (c p n is)) .sender))
+    × ((i : Call) → Given i (c p n is)
+    → Further (t p n is) (s p n is .sender) (callTold p i (c p n is)) (shown (next p i (c p n is)) .sender))
     × ((out : List ℕ) → passed (burstCall p (c p n is .0) (c p n is .1) out .0 .verdict) ≡ true → Sends p n is out)

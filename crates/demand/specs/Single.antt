@@ -37,12 +37,12 @@ plain (receives h r b) = hearsFrames h r b
 plain (bursts out) = burstsInto out
 
 -- what a call answers: its verdict, a burst and the output
-pub record Said : Type 0 where
+pub record CallAnswer : Type 0 where
   pub verdict : Verdict
   pub outgoing : Outgoing
   pub out : List ℕ
 
-abbrev pub justVerdict : Verdict → Said
+abbrev pub justVerdict : Verdict → CallAnswer
 justVerdict v = record { verdict = v; outgoing = noBurst; out = [] }
 
 -- ---- the base: its record and work area, what a call leaves and answers
@@ -57,36 +57,37 @@ module _ (p : Profile) where
   nextBase (hearsFrames h r b) c = framesBase p (c .0) (c .1) h r b .1
   nextBase (burstsInto out) c = let x = burstBase p (c .0) (c .1) out .1 in (x .0 .1, x .1 .0)
 
-  abbrev pub saidBase : BaseCall → BaseState → Said
-  saidBase (queuesBytes bs) c = justVerdict (queueBase p (c .0) (c .1) bs .0)
-  saidBase (hearsReply h r b) c = justVerdict (receiveBase p (c .0) (c .1) h r b .0)
-  saidBase (hearsFrames h r b) c = justVerdict (framesBase p (c .0) (c .1) h r b .0)
-  saidBase (burstsInto out) c = let x = burstBase p (c .0) (c .1) out in record { verdict = x .0; outgoing = x .1 .0 .0; out = x .1 .1 .1 }
+  abbrev pub baseAnswer : BaseCall → BaseState → CallAnswer
+  baseAnswer (queuesBytes bs) c = justVerdict (queueBase p (c .0) (c .1) bs .0)
+  baseAnswer (hearsReply h r b) c = justVerdict (receiveBase p (c .0) (c .1) h r b .0)
+  baseAnswer (hearsFrames h r b) c = justVerdict (framesBase p (c .0) (c .1) h r b .0)
+  baseAnswer (burstsInto out) c =
+      let x = burstBase p (c .0) (c .1) out in record { verdict = x .0; outgoing = x .1 .0 .0; out = x .1 .1 .1 }
 
-  abbrev pub allSaidBase : List BaseCall → BaseState → List Said
-  allSaidBase [] c = []
-  allSaidBase (i ∷ is) c = saidBase i c ∷ allSaidBase is (nextBase i c)
+  abbrev pub baseAnswers : List BaseCall → BaseState → List CallAnswer
+  baseAnswers [] c = []
+  baseAnswers (i ∷ is) c = baseAnswer i c ∷ baseAnswers is (nextBase i c)
 
   -- ---- the station
 
-  abbrev pub said : Call → State → Said
-  said (queues k l bs) c = justVerdict (queueOf p (c .0) (c .1) k l bs .0 .verdict)
-  said (hears h r b) c = justVerdict (receiveOf p (c .0) (c .1) h r b .0 .verdict)
-  said (receives h r b) c = justVerdict (framesOf p (c .0) (c .1) h r b .0 .verdict)
-  said (bursts out) c = let x = burstCall p (c .0) (c .1) out in record { verdict = x .0 .verdict; outgoing = x .0 .outgoing; out = x .1 .1 }
+  abbrev pub callAnswer : Call → State → CallAnswer
+  callAnswer (queues k l bs) c = justVerdict (queueOf p (c .0) (c .1) k l bs .0 .verdict)
+  callAnswer (hears h r b) c = justVerdict (receiveOf p (c .0) (c .1) h r b .0 .verdict)
+  callAnswer (receives h r b) c = justVerdict (framesOf p (c .0) (c .1) h r b .0 .verdict)
+  callAnswer (bursts out) c = let x = burstCall p (c .0) (c .1) out in record { verdict = x .0 .verdict; outgoing = x .0 .outgoing; out = x .1 .1 }
 
   -- refused by 12
   abbrev pub tooMany : Call → State → Bool
-  tooMany i c = eqb (numberOf (said i c .verdict)) 12
+  tooMany i c = eqb (numberOf (callAnswer i c .verdict)) 12
 
   -- the calls that are not refused by 12, their classes and labels left off, and what they answer
   abbrev pub erased : List Call → State → List BaseCall
   erased [] c = []
   erased (i ∷ is) c = cond (tooMany i c) (erased is (next p i c)) (plain i ∷ erased is (next p i c))
 
-  abbrev pub allSaid : List Call → State → List Said
-  allSaid [] c = []
-  allSaid (i ∷ is) c = cond (tooMany i c) (allSaid is (next p i c)) (said i c ∷ allSaid is (next p i c))
+  abbrev pub callAnswers : List Call → State → List CallAnswer
+  callAnswers [] c = []
+  callAnswers (i ∷ is) c = cond (tooMany i c) (callAnswers is (next p i c)) (callAnswer i c ∷ callAnswers is (next p i c))
 
 -- all that is queued has class k and no label
 abbrev pub OneClass : ℕ → Call → State → Type 0
@@ -99,4 +100,4 @@ abbrev pub SingleClass : Type 0
 SingleClass = (p : Profile) → length (p .codes .ends) ≤ 6 → (k : ℕ) → k ≤ maxClass → (n : ℕ) (is : List Call)
     → Along (next p) Given is (freshStart n) → Along (next p) (OneClass k) is (freshStart n)
     → let c = run (next p) is (freshStart n) in let calls = erased p is (freshStart n) in
-    ((c .0 .sender, c .1) ≡ run (nextBase p) calls (fresh, replicate n 0)) × (allSaid p is (freshStart n) ≡ allSaidBase p calls (fresh, replicate n 0))
+    ((c .0 .sender, c .1) ≡ run (nextBase p) calls (fresh, replicate n 0)) × (callAnswers p is (freshStart n) ≡ baseAnswers p calls (fresh, replicate n 0))

@@ -69,7 +69,7 @@ use Rattle.refusals.specs.declared.Reply.the-variants.{ConnAck, Ack, LongAck, T
 use Rattle.refusals.specs.Refusals.{timeOk, heardOk}
 use Rattle.verdicts.specs.Verdicts.{passed, queueVerdict, receiveVerdict, framesVerdict, burstVerdict}
 use Rattle.verdicts.proofs.Passed.{reply-passed, Receives, frames-passed}
-use Rattle.demand.specs.Lists.{Call, queues, hears, receives, bursts, State, Given, shown, longEvent, replyEvent, repliesIn, next, told}
+use Rattle.demand.specs.Lists.{Call, queues, hears, receives, bursts, State, Given, shown, longEvent, replyEvent, repliesIn, next, callTold}
 use Rattle.demand.specs.AsSingles.{singlesOf}
 use Rattle.reception.specs.Reception.{Decoded, decodedIn, isRead, flagsOf}
 use Rattle.reception.specs.declared.Reception.{Reception}
@@ -98,11 +98,11 @@ idle-all z (x ∷ xs) s i = idle-all z xs (hearAck (z .top) (x .0) (x .1) s) (id
 idle-step : (z : Sizes) (k : C.Move) (q : Queue) (s : L.Sender) → Idle s → Idle (C.senderAfter z k q s)
 unfolding requeue clearBurst dataBurst
 idle-step z C.idle q s i = i
-idle-step z (C.queues c l bs) q s i = i
-idle-step z (C.hears r keep) q s i = idle-ack z r keep s i
-idle-step z (C.receives xs) q s i = idle-all z xs s i
-idle-step z C.turns q s i = λ e. refl
-idle-step z (C.bursts g) q s i = λ e. absurd (false≢true (sym e))
+idle-step z (C.queueMove c l bs) q s i = i
+idle-step z (C.ackMove r keep) q s i = idle-ack z r keep s i
+idle-step z (C.acksMove xs) q s i = idle-all z xs s i
+idle-step z C.turnMove q s i = λ e. refl
+idle-step z (C.burstMove g) q s i = λ e. absurd (false≢true (sym e))
 
 -- ---- whether a reply is judged: by the tally where it is by the sender
 
@@ -277,18 +277,18 @@ module _ (p : Profile) (rg : Ranged p) (io : inOrder p ≡ true) (six : length (
     pub bounded : Bounded j (c .0 .sender)
 
   hear-bounded : (h : Heard) (r : Reply) (b : List ℕ) (c : State) (t : Tally) (j : Option Float) → Carried c t j
-      → Bounded (judgedBy (hears h r b) (told p (hears h r b) c) (t .out) j) (next p (hears h r b) c .0 .sender)
+      → Bounded (judgedBy (hears h r b) (callTold p (hears h r b) c) (t .out) j) (next p (hears h r b) c .0 .sender)
   hear-bounded h r b c t j k =
       let After : Event → State → Type 0 = λ e d. Bounded (cond (judges e (t .out)) (some (h .time)) j) (d .0 .sender) in
       test (passed (receiveVerdict p (c .0) (c .1) h r (length b)))
       (λ e.
       let v = reply-passed p (c .0) (c .1) h r (length b) e .0 in
       let x = acceptedReply p h r b (c .0 .sender) (c .1) in
-      subst (After (told p (hears h r b) c)) (sym (hear-yes p c h r b e))
+      subst (After (callTold p (hears h r b) c)) (sym (hear-yes p c h r b e))
       (subst (λ (y : Event). After y (withSender (c .0) (x .0), x .1)) (sym (hear-told p c h r b true e))
       (reply-after h c (k .fit .0) t (k .agree) (k .idle) j (k .bounded) (is-late _ (h .time) v) (time-in _ (h .time) v) r b)))
       (λ e.
-      subst (After (told p (hears h r b) c)) (sym (hear-no p c h r b e))
+      subst (After (callTold p (hears h r b) c)) (sym (hear-no p c h r b e))
       (subst (λ (y : Event). After y c) (sym (hear-told p c h r b false e)) (k .bounded)))
 
   shown-sound : (c : State) → Ok p rg io six c → Sound (sizesOf p) (shown c .sender)
@@ -297,8 +297,8 @@ module _ (p : Profile) (rg : Ranged p) (io : inOrder p ≡ true) (six : length (
 
   -- what is carried over a call, where its bound is
   carried-step : (i : Call) (c : State) (t : Tally) (j : Option Float) → Given i c → Carried c t j
-      → Bounded (judgedBy i (told p i c) (t .out) j) (next p i c .0 .sender)
-      → Carried (next p i c) (feed (told p i c) t) (judgedBy i (told p i c) (t .out) j)
+      → Bounded (judgedBy i (callTold p i c) (t .out) j) (next p i c .0 .sender)
+      → Carried (next p i c) (feed (callTold p i c) t) (judgedBy i (callTold p i c) (t .out) j)
   carried-step i c t j g b bound =
       let d = does p rg io six i c g (b .fit .0) (b .fit .1) in
       let k = call p rg io six i c in
@@ -336,7 +336,7 @@ module _ (p : Profile) (rg : Ranged p) (io : inOrder p ≡ true) (six : length (
         (λ e.
         let i = single h f in
         let bound = hear-bounded h (LongAck (flagsOf (f .flags))) (f .payload) c t j k in
-        singles-carried fs (next p i c) (feed (told p i c) t) (judgedBy i (told p i c) (t .out) j) (b .1) (carried-step i c t j (b .0) k bound))
+        singles-carried fs (next p i c) (feed (callTold p i c) t) (judgedBy i (callTold p i c) (t .out) j) (b .1) (carried-step i c t j (b .0) k bound))
         (λ e. singles-carried fs c t j (b .1) k)
 
     module _ (ir : inRange p ≡ true) (ok : heardOk h ≡ true) where
@@ -349,18 +349,18 @@ module _ (p : Profile) (rg : Ranged p) (io : inOrder p ≡ true) (six : length (
           let i = single h f in
           let r = longAck (infoOf (f .payload) .burst) (infoOf (f .payload) .bitmap) in
           let k′ = subst (Takes p rg ir io h ok) (sym (next-is p rg ir io h ok f c k e)) (after-takes p rg ir io h ok f c e (b .0) k) in
-          let j′ = judgedBy i (told p i c) (t .out) j in
+          let j′ = judgedBy i (callTold p i c) (t .out) j in
           let ev = told-is p rg ir io h ok f c k e in
-          let none : judges (replies (repliesIn fs)) (feed (told p i c) t .out) ≡ false =
+          let none : judges (replies (repliesIn fs)) (feed (callTold p i c) t .out) ≡ false =
           ap (λ (x : Event). judges (replies (repliesIn fs)) (feed x t .out)) ev ∙ ap (judges (replies (repliesIn fs))) (heard-none r t) ∙ none-judged (repliesIn fs) in
-          singles-judged fs (next p i c) (feed (told p i c) t) j′ (b .1) k′
+          singles-judged fs (next p i c) (feed (callTold p i c) t) j′ (b .1) k′
           ∙ ap (λ (x : Bool). cond x (some (h .time)) j′) none
           ∙ ap (λ (x : Event). cond (judges x (t .out)) (some (h .time)) j) ev
           ∙ sym (ap (λ (x : Bool). cond x (some (h .time)) j) (first-judged r (repliesIn fs) (t .out))))
           (λ e. singles-judged fs c t j (b .1) k)
 
   frames-bounded : (h : Heard) (r : Reception) (b : List ℕ) (c : State) (t : Tally) (j : Option Float) → Bytes b → Carried c t j
-      → Bounded (judgedBy (receives h r b) (told p (receives h r b) c) (t .out) j) (next p (receives h r b) c .0 .sender)
+      → Bounded (judgedBy (receives h r b) (callTold p (receives h r b) c) (t .out) j) (next p (receives h r b) c .0 .sender)
   frames-bounded h r b c t j by8 k =
       let After : Event → State → Type 0 = λ e d. Bounded (cond (judges e (t .out)) (some (h .time)) j) (d .0 .sender) in
       let fs = decodedIn r b in
@@ -370,16 +370,16 @@ module _ (p : Profile) (rg : Ranged p) (io : inOrder p ≡ true) (six : length (
       let ty = typed p rg io six c (k .fit .0) in
       let bs = each-bytes r b by8 in
       let takes = finds p rg io h c (r .n) ty q in
-      subst (After (told p (receives h r b) c)) (sym (as-singles p c h r b (q .few) ty by8 .state))
+      subst (After (callTold p (receives h r b) c)) (sym (as-singles p c h r b (q .few) ty by8 .state))
       (subst (λ (y : Event). After y (run (next p) (singlesOf h fs) c)) (sym (frames-told p c h r b true e))
       (subst (λ (x : Option Float). Bounded x (run (next p) (singlesOf h fs) c .0 .sender))
       (singles-judged h (q .stands .0) (q .heard) fs c t j bs takes) (singles-carried h fs c t j bs k))))
       (λ e.
-      subst (After (told p (receives h r b) c)) (sym (frames-no p c h r b e))
+      subst (After (callTold p (receives h r b) c)) (sym (frames-no p c h r b e))
       (subst (λ (y : Event). After y c) (sym (frames-told p c h r b false e)) (k .bounded)))
 
   call-bounded : (i : Call) (c : State) (t : Tally) (j : Option Float) → Given i c → Carried c t j
-      → Bounded (judgedBy i (told p i c) (t .out) j) (next p i c .0 .sender)
+      → Bounded (judgedBy i (callTold p i c) (t .out) j) (next p i c .0 .sender)
   call-bounded (queues k l bs) c t j g b =
       same-bounded j (c .0 .sender) (next p (queues k l bs) c .0 .sender) (queue-same k l bs c) (b .bounded)
   call-bounded (bursts out) c t j g b = same-bounded j (c .0 .sender) (next p (bursts out) c .0 .sender) (burst-same out c) (b .bounded)
@@ -387,11 +387,11 @@ module _ (p : Profile) (rg : Ranged p) (io : inOrder p ≡ true) (six : length (
   call-bounded (receives h r pl) c t j g b = frames-bounded h r pl c t j g b
 
   carried-next : (i : Call) (c : State) (t : Tally) (j : Option Float) → Given i c → Carried c t j
-      → Carried (next p i c) (feed (told p i c) t) (judgedBy i (told p i c) (t .out) j)
+      → Carried (next p i c) (feed (callTold p i c) t) (judgedBy i (callTold p i c) (t .out) j)
   carried-next i c t j g b = carried-step i c t j g b (call-bounded i c t j g b)
 
   pub all-bounded : (is : List Call) (c : State) (t : Tally) (j : Option Float) → Along (next p) Given is c → Carried c t j
       → Each (EndsBy p (lastJudged p is c t j)) (run (next p) is c .0 .sender .gear)
   all-bounded [] c t j gs b = b .bounded .0
   all-bounded (i ∷ is) c t j gs b =
-      all-bounded is (next p i c) (feed (told p i c) t) (judgedBy i (told p i c) (t .out) j) (gs .1) (carried-next i c t j (gs .0) b)
+      all-bounded is (next p i c) (feed (callTold p i c) t) (judgedBy i (callTold p i c) (t .out) j) (gs .1) (carried-next i c t j (gs .0) b)

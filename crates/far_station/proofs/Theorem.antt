@@ -24,7 +24,7 @@ use Rattle.record.specs.Fresh.{fresh}
 use Rattle.queuing.specs.Station.{freshStation}
 use Rattle.queuing.proofs.Shown.{fresh-shows}
 use Rattle.verdicts.specs.Verdicts.{passed, standing}
-use Rattle.demand.specs.Lists.{Call, queues, hears, receives, bursts, State, Given, freshStart, shown, next, told}
+use Rattle.demand.specs.Lists.{Call, queues, hears, receives, bursts, State, Given, freshStart, shown, next, callTold}
 use Rattle.demand.specs.Page.{c as reached}
 use Rattle.demand.proofs.Reached.{stays, refused-by, fresh-fit, well}
 use Rattle.far_station.specs.CannotForce.{judgedBy, lastJudged, EndsBy, NeverStopped, HoldsEnd, CannotForce}
@@ -44,7 +44,7 @@ never-held p k h = go k 17 h
 -- ---- every call is refused
 
 module _ (p : Profile) (n : ℕ) (refused : (connect : Bool) → passed (standing p freshStation (replicate n 0) connect) ≡ false) where
-  unjudged : (i : Call) (t : Tally) → judgedBy i (told p i (freshStart n)) (t .out) none ≡ none
+  unjudged : (i : Call) (t : Tally) → judgedBy i (callTold p i (freshStart n)) (t .out) none ≡ none
   unjudged (queues k l bs) t = refl
   unjudged (bursts out) t = refl
   unjudged (receives h r b) t = ap (λ (e : Event). judgedBy (receives h r b) e (t .out) none) (stays p n refused (receives h r b) .1)
@@ -55,9 +55,9 @@ module _ (p : Profile) (n : ℕ) (refused : (connect : Bool) → passed (standin
   all-stay [] c t e = (e, refl)
   all-stay (i ∷ is) c t e =
       let a : next p i c ≡ freshStart n = ap (next p i) e ∙ stays p n refused i .0 in
-      let j : judgedBy i (told p i c) (t .out) none ≡ none = ap (λ (x : State). judgedBy i (told p i x) (t .out) none) e ∙ unjudged i t in
-      let q = all-stay is (next p i c) (feed (told p i c) t) a in
-      (q .0, ap (lastJudged p is (next p i c) (feed (told p i c) t)) j ∙ q .1)
+      let j : judgedBy i (callTold p i c) (t .out) none ≡ none = ap (λ (x : State). judgedBy i (callTold p i x) (t .out) none) e ∙ unjudged i t in
+      let q = all-stay is (next p i c) (feed (callTold p i c) t) a in
+      (q .0, ap (lastJudged p is (next p i c) (feed (callTold p i c) t)) j ∙ q .1)
 
 -- ---- both
 

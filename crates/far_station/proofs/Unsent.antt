@@ -17,12 +17,11 @@ use Rattle.ledger.specs.ClaimCode.{Carry}
 use Rattle.ledger.specs.Ledger.{Frame, Piece, len, find}
 use Rattle.ledger.specs.Tally.{Tally, Event, silent, went, Flown, start, within, feed, framesTold}
 use Rattle.ledger.proofs.PerOffset.{acked-exactly}
-use Rattle.sender.specs.declared.Bursted.{Bursted}
-use Rattle.sender.specs.Calls.{burstCall}
+use Rattle.sender.specs.Calls.{Bursted, burstCall}
 use Rattle.verdicts.specs.Verdicts.{passed}
-use Rattle.demand.specs.Lists.{Call, bursts, State, Given, freshStart, shown, framesAnswered, next, told}
+use Rattle.demand.specs.Lists.{Call, bursts, State, Given, freshStart, shown, framesAnswered, next, callTold}
 use Rattle.demand.specs.Page.{c as reached, t as tallied, answer}
-use Rattle.demand.proofs.Answers.{burst-is, burst-verdict}
+use Rattle.demand.proofs.Answers.{burst-is, verdict-of-burst}
 use Rattle.demand.proofs.Reached as D
 use Rattle.demand.proofs.Theorem.{demand3}
 use Rattle.far_station.specs.CannotForce.{inFrames, NotSentAgain}
@@ -35,11 +34,11 @@ module _ (p : Profile) where
   run-append (i ∷ is) js c = run-append is js (next p i c)
 
   abbrev tells : List Call → State → Tally → Tally
-  tells = tally (next p) (told p)
+  tells = tally (next p) (callTold p)
 
   tally-append : (is js : List Call) (c : State) (t : Tally) → tells (is ++ js) c t ≡ tells js (run (next p) is c) (tells is c t)
   tally-append [] js c t = refl
-  tally-append (i ∷ is) js c t = tally-append is js (next p i c) (feed (told p i c) t)
+  tally-append (i ∷ is) js c t = tally-append is js (next p i c) (feed (callTold p i c) t)
 
   along-one : (is : List Call) (i : Call) (c : State) → Along (next p) Given is c → Given i (run (next p) is c)
       → Along (next p) Given (is ++ i ∷ []) c
@@ -49,7 +48,7 @@ module _ (p : Profile) where
   -- what is acknowledged stays so
   acked-later : (js : List Call) (o : ℕ) (c : State) (t : Tally) → ackedAt o (t .flown) ≡ true → ackedAt o (tells js c t .flown) ≡ true
   acked-later [] o c t e = e
-  acked-later (j ∷ js) o c t e = acked-later js o (next p j c) (feed (told p j c) t) (acked-exactly (told p j c) t o ∙ rw e)
+  acked-later (j ∷ js) o c t e = acked-later js o (next p j c) (feed (callTold p j c) t) (acked-exactly (callTold p j c) t o ∙ rw e)
 
 -- ---- a frame's bytes are in flight
 
@@ -84,14 +83,14 @@ module _ (p : Profile) (c : State) (out : List ℕ) where
   x = burstCall p (c .0) (c .1) out .0
 
   told-if : (b : Bool) → passed (x .verdict) ≡ b
-      → told p (bursts out) c ≡ cond b (went (x .outgoing .number) (framesAnswered (x .outgoing .frames))) silent
+      → callTold p (bursts out) c ≡ cond b (went (x .outgoing .number) (framesAnswered (x .outgoing .frames))) silent
   told-if b e = ap (λ (y : Bool). cond y (went (x .outgoing .number) (framesAnswered (x .outgoing .frames))) silent) e
 
-  frames-told : framesTold (told p (bursts out) c) ≡ framesAnswered (x .outgoing .frames)
+  frames-told : framesTold (callTold p (bursts out) c) ≡ framesAnswered (x .outgoing .frames)
   frames-told =
       test (passed (x .verdict)) (λ e. ap framesTold (told-if true e))
       (λ e.
-      let none = burst-is p c out false (ap passed (sym (burst-verdict p c out)) ∙ e) in
+      let none = burst-is p c out false (ap passed (sym (verdict-of-burst p c out)) ∙ e) in
       ap framesTold (told-if false e) ∙ sym (ap (λ (y : Bursted × (List ℕ × List ℕ)). framesAnswered (y .0 .outgoing .frames)) none))
 
 module _ (p : Profile) (six : length (p .codes .ends) ≤ 6) (n : ℕ) (is js : List Call) (gs : Along (next p) Given (is ++ js) (freshStart n))
@@ -103,7 +102,7 @@ module _ (p : Profile) (six : length (p .codes .ends) ≤ 6) (n : ℕ) (is js : 
   t = tallied p n (is ++ js)
 
   abbrev e : Event
-  e = told p (bursts out) c
+  e = callTold p (bursts out) c
 
   -- after the burst the pieces cover what is in flight
   covers : (o : ℕ) → covering o (shown (next p (bursts out) c) .sender .pieces) ≡ flyingAt o (feed e t .flown)

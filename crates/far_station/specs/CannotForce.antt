@@ -26,7 +26,7 @@ use Rattle.ledger.specs.Plan.{planOf}
 use Rattle.ledger.specs.Tally.{Tally, start, Event, silent, took, reply, replies, turn, went, Outstanding, nothing, outstanding, within, feed}
 use Rattle.outgoing.specs.Choosing.{choice}
 use Rattle.record.specs.Profiles.{sizesOf}
-use Rattle.demand.specs.Lists.{Call, queues, hears, receives, bursts, State, Given, freshStart, framesAnswered, next, told}
+use Rattle.demand.specs.Lists.{Call, queues, hears, receives, bursts, State, Given, freshStart, framesAnswered, next, callTold}
 use Rattle.demand.specs.Page.{c as reached, s as shows, t as tallied, answer}
 
 -- ---- 1. acknowledged bytes
@@ -79,7 +79,7 @@ module _ (p : Profile) where
   -- the same after a list of calls, from record and work area c, a tally t and the time j
   abbrev pub lastJudged : List Call → State → Tally → Option Float → Option Float
   lastJudged [] c t j = j
-  lastJudged (i ∷ is) c t j = lastJudged is (next p i c) (feed (told p i c) t) (judgedBy i (told p i c) (t .out) j)
+  lastJudged (i ∷ is) c t j = lastJudged is (next p i c) (feed (callTold p i c) t) (judgedBy i (callTold p i c) (t .out) j)
 
   -- "plus the larger of fail_hold_max_s and loss_hold_s, that sum rounded once"
   abbrev pub latest : Float → Float

@@ -14,8 +14,8 @@ use Rattle.frame.specs.V42.{fcs, number}
 use Rattle.frame.specs.Frame.{maxPayload, headOf, bodyOf, frameOf}
 
 -- a payload that is no longer than the most
-pub room : (size n : ℕ) → 10 ≤ size → n ≤ maxPayload size → n + 10 ≤ size
-room size n h k = omega (arith, min-le-left (size - 10) longestPayload)
+pub frame-room : (size n : ℕ) → 10 ≤ size → n ≤ maxPayload size → n + 10 ≤ size
+frame-room size n h k = omega (arith, min-le-left (size - 10) longestPayload)
 
 pub short : (size n : ℕ) → n ≤ maxPayload size → n < 255
 short size n k = omega (arith, min-le-right (size - 10) longestPayload)

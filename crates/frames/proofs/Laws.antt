@@ -12,14 +12,14 @@ use Rattle.frame.proofs.Laws.{length-frame}
 use Rattle.frames.specs.Slots.{nthSlot, slotsFrom}
 use Rattle.frames.specs.declared.slots.Slot.{Slot}
 use Rattle.frames.specs.declared.slots.Slots.{Slots}
-use Rattle.frames.specs.Frames.{framesWritten, Fit}
+use Rattle.frames.specs.Frames.{framesWritten, SlotsFit}
 
 slots-turn : (s : Slots) (i n : ℕ) → i < n → slotsFrom s i (n - i) ≡ nthSlot s i ∷ slotsFrom s (i + 1) (n - (i + 1))
 slots-turn s i n h = ap (slotsFrom s i) (let e : n - i ≡ suc (n - (i + 1)) = omega arith in e)
 
-module _ (size : ℕ) (a : List ℕ) (s : Slots) (i n : ℕ) (z : 10 ≤ size) (h : i < n) (f : Fit size (length a) (slotsFrom s i (n - i))) where
-  pub fit-turn : (nthSlot s i .len ≤ maxPayload size) × (nthSlot s i .start + nthSlot s i .len ≤ length a) × Fit size (length a) (slotsFrom s (i + 1) (n - (i + 1)))
-  fit-turn = subst (λ (x : List Slot). Fit size (length a) x) (slots-turn s i n h) f
+module _ (size : ℕ) (a : List ℕ) (s : Slots) (i n : ℕ) (z : 10 ≤ size) (h : i < n) (f : SlotsFit size (length a) (slotsFrom s i (n - i))) where
+  pub fit-turn : (nthSlot s i .len ≤ maxPayload size) × (nthSlot s i .start + nthSlot s i .len ≤ length a) × SlotsFit size (length a) (slotsFrom s (i + 1) (n - (i + 1)))
+  fit-turn = subst (λ (x : List Slot). SlotsFit size (length a) x) (slots-turn s i n h) f
 
   abbrev one : List ℕ
   one = frameOf size (nthSlot s i .off) (part a (nthSlot s i .start) (nthSlot s i .len))

@@ -11,6 +11,6 @@ framesWritten size [] a = []
 framesWritten size (x ∷ xs) a = frameOf size (x .off) (part a (x .start) (x .len)) ++ framesWritten size xs a
 
 -- each slot's bytes lie within n bytes, and fit a frame
-abbrev pub Fit : ℕ → ℕ → List Slot → Type 0
-Fit size n [] = Unit {0}
-Fit size n (x ∷ xs) = (x .len ≤ maxPayload size) × (x .start + x .len ≤ n) × Fit size n xs
+abbrev pub SlotsFit : ℕ → ℕ → List Slot → Type 0
+SlotsFit size n [] = Unit {0}
+SlotsFit size n (x ∷ xs) = (x .len ≤ maxPayload size) × (x .start + x .len ≤ n) × SlotsFit size n xs

@@ -14,7 +14,7 @@ use Rattle.config.specs.declared.Profile.{Profile}
 use Rattle.config.specs.Durations.{ackAt, dataAt}
 use Rattle.gear.specs.declared.Gear.{Gear}
 use Rattle.gear.specs.Goodput.{cueFor}
-use Rattle.gear.specs.Setters.{some, withBurst, withReport}
+use Rattle.gear.specs.Setters.{someDb, withBurst, withReport}
 
 -- `clean_burst_s`
 unfoldable pub cleanBurst : Profile → ℕ → Bool → Float
@@ -55,4 +55,4 @@ adapted p at loss snr g =
     (cond (eq loss (w32 0) && eqb (g .level) at && steady (g .«last_report_db») (p .lengths .«burst_steady_db») snr && far (p .plain) (p .lengths .«burst_climb_db») at (p .«max_level») snr)
     (minF (mul binary64 (burstSeconds (p .lengths .«max_burst_s») (g .«burst_s»)) (w64 2)) (maxF (p .lengths .«max_burst_long_s») (p .lengths .«max_burst_s»)))
     (p .lengths .«max_burst_s»)))
-    (some snr)
+    (someDb snr)

@@ -14,7 +14,7 @@ use Rattle.report.specs.declared.ChanClass.{ChanClass}
 use Rattle.levels.specs.declared.memory.Tries.{Tries}
 use Rattle.gear.specs.declared.Gear.{Gear}
 use Rattle.gear.specs.declared.Outcome.{Outcome}
-use Rattle.gear.specs.Setters.{some, withLevel, withBurst, withAim, withTries, withHolds}
+use Rattle.gear.specs.Setters.{someDb, withLevel, withBurst, withAim, withTries, withHolds}
 use Rattle.levels.specs.Usable.{airDb, heeded, familyOk, levelFor, usableBelow, climbAbove, stepDown}
 use Rattle.levels.specs.Rates.{levelRate}
 use Rattle.gear.specs.Goodput.{marksOf, cueFor, pickByGoodput}
@@ -33,7 +33,7 @@ unfoldable pub aimed : Profile → Gear → Float → Gear
 aimed p g snr =
     let r = pushed (g .«snr_reports») (sub binary32 snr (airDb (p .power) (g .level))) in
     let aim = aimOf r (p .«smooth_target») in
-    withAim g r (some aim) (levelFor (marksOf p) (p .power) (heededClass p g) (p .«max_level») aim)
+    withAim g r (someDb aim) (levelFor (marksOf p) (p .power) (heededClass p g) (p .«max_level») aim)
 
 -- `usable_below`(l.min(target).min(max_level), now)
 unfoldable pub capped : Profile → Gear → ℕ → Float → ℕ

@@ -8,7 +8,7 @@ use Rattle.config.specs.declared.Profile.{Profile}
 use Rattle.report.specs.declared.ChanClass.{ChanClass}
 use Rattle.gear.specs.declared.Gear.{Gear}
 use Rattle.gear.specs.Goodput.{marksOf}
-use Rattle.gear.specs.Setters.{some, withLevel, withBurst, withPeer}
+use Rattle.gear.specs.Setters.{someDb, withLevel, withBurst, withPeer}
 use Rattle.levels.specs.Usable.{airDb, heeded, levelFor}
 use Rattle.gear.specs.declared.Outcome.{Outcome}
 use Rattle.gear.specs.Judging.{heededClass, capped, onAck}
@@ -24,7 +24,7 @@ startLevel p g aim now =
 unfoldable pub connected : Profile → Gear → ChanClass → Bool → Float → Float → Gear
 connected p g class cue snr now =
     let aim = sub binary32 snr (airDb (p .power) 0) in
-    let h = withPeer g cue (some aim) class (levelFor (marksOf p) (p .power) (heeded (p .«pick_family») class) (p .«max_level») aim) in
+    let h = withPeer g cue (someDb aim) class (levelFor (marksOf p) (p .power) (heeded (p .«pick_family») class) (p .«max_level») aim) in
     withLevel h (startLevel p h aim now)
 
 -- level.min(top_level_in(wave)), and burst_s = max_burst_s

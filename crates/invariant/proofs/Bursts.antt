@@ -24,7 +24,7 @@ use Rattle.outgoing.specs.Choosing.{choice}
 use Rattle.outgoing.specs.Outgoing.{after, countedAir}
 use Rattle.outgoing.proofs.Choices.{choice-ranged, choice-long}
 use Rattle.soundness.proofs.fields.Sound.{profile-sizes, sound-level, sound-settling}
-use Rattle.invariant.proofs.Ledgers.{Kept, PieceBytes, bytes-append, bytes-of}
+use Rattle.invariant.proofs.Ledgers.{Kept, PieceBytes, bytes-joined, bytes-of}
 use Rattle.invariant.proofs.Well.{Well, well-gear, well-kept, stored-well, airtime-well}
 use Rattle.ledger.specs.Sizes.{Sizes}
 use Rattle.ledger.specs.SizesCode.{SizeRange}
@@ -49,7 +49,7 @@ pub burst-kept : (z : Sizes) → SizeRange z → (l : L.Sender) (g : Plan) → F
 burst-kept z zr l g fit k =
     let ps = dataBurst g l .pieces in
     let w = dataBurst g l .waiting in
-    let all : Bytes (bytesOf ps ++ w) = subst Bytes (sym (stream-burst g l)) (bytes-append (bytesOf (l .pieces)) (l .waiting) (bytes-of (l .pieces) (k .pieces)) (k .waiting)) in
+    let all : Bytes (bytesOf ps ++ w) = subst Bytes (sym (stream-burst g l)) (bytes-joined (bytesOf (l .pieces)) (l .waiting) (bytes-of (l .pieces) (k .pieces)) (k .waiting)) in
     record { sound = burst-sound z zr l g (k .sound) fit; pieces = each-bytes ps (bytes-first (bytesOf ps) w all); waiting = bytes-second (bytesOf ps) w all }
 
 -- ---- the record

@@ -27,13 +27,13 @@ use Rattle.pieces.specs.Pieces.{piecesOf}
 use Rattle.pieces.proofs.Room.{ascend-small}
 use Rattle.record.specs.View.{view, rowsOf, storeArea, storeHeld, storeSent, store}
 use Rattle.record.specs.declared.Sender.{Sender}
-use Rattle.record.proofs.View.{Fits, Holds, Arrays}
+use Rattle.record.proofs.View.{ViewFits, Holds, Arrays}
 use Rattle.ledger.specs.Sizes.{Sizes}
 use Rattle.ledger.specs.SizesCode.{SizeRange}
 
 -- ---- room
 
-pub sound-fits : (z : Sizes) → SizeRange z → (l : L.Sender) → Sound z l → (a : List ℕ) → areaBytes ≤ length a → Fits l a
+pub sound-fits : (z : Sizes) → SizeRange z → (l : L.Sender) → Sound z l → (a : List ℕ) → areaBytes ≤ length a → ViewFits l a
 sound-fits z zr l so a h =
     record {
       area = h;
@@ -60,10 +60,10 @@ store-arrays l s ar =
 
 -- ---- bytes
 
-pub bytes-append : (xs ys : List ℕ) → Bytes xs → Bytes ys → Bytes (xs ++ ys)
-bytes-append [] ys h k i = k i
-bytes-append (x ∷ xs) ys h k zero = h zero
-bytes-append (x ∷ xs) ys h k (suc i) = bytes-append xs ys (λ j. h (suc j)) k i
+pub bytes-joined : (xs ys : List ℕ) → Bytes xs → Bytes ys → Bytes (xs ++ ys)
+bytes-joined [] ys h k i = k i
+bytes-joined (x ∷ xs) ys h k zero = h zero
+bytes-joined (x ∷ xs) ys h k (suc i) = bytes-joined xs ys (λ j. h (suc j)) k i
 
 bytes-over : (l : List ℕ) (at : ℕ) (bs : List ℕ) → Bytes l → Bytes bs → Bytes (overwrite l at bs)
 unfolding overwrite
@@ -81,7 +81,7 @@ bytes-le (suc n) v (suc i) = bytes-le n (v / 256) i
 
 bytes-table : (rs : List Row) → Bytes (tableBytes rs)
 bytes-table [] i = lit< tt
-bytes-table (r ∷ rs) i = bytes-append (le 4 (r .off)) (le 4 (r .len) ++ tableBytes rs) (bytes-le 4 (r .off)) (bytes-append (le 4 (r .len)) (tableBytes rs) (bytes-le 4 (r .len)) (bytes-table rs)) i
+bytes-table (r ∷ rs) i = bytes-joined (le 4 (r .off)) (le 4 (r .len) ++ tableBytes rs) (bytes-le 4 (r .off)) (bytes-joined (le 4 (r .len)) (tableBytes rs) (bytes-le 4 (r .len)) (bytes-table rs)) i
 
 -- those of pieces
 abbrev pub PieceBytes : List Piece → Type 0
@@ -90,7 +90,7 @@ PieceBytes (p ∷ ps) = Bytes (p .bytes) × PieceBytes ps
 
 pub bytes-of : (ps : List Piece) → PieceBytes ps → Bytes (bytesOf ps)
 bytes-of [] h i = lit< tt
-bytes-of (p ∷ ps) h i = bytes-append (p .bytes) (bytesOf ps) (h .0) (bytes-of ps (h .1)) i
+bytes-of (p ∷ ps) h i = bytes-joined (p .bytes) (bytesOf ps) (h .0) (bytes-of ps (h .1)) i
 
 read-bytes : (rs : List Row) (st : List ℕ) → Bytes st → PieceBytes (piecesOf rs st)
 read-bytes [] st h = tt
@@ -120,7 +120,7 @@ unfolding storeArea
 store-bytes z l a by k =
     let st = bytesOf (l .pieces) ++ l .waiting in
     bytes-over (overwrite a 0 st) (place 0) (tableBytes (rowsOf (l .pieces)))
-    (bytes-over a 0 st by (bytes-append (bytesOf (l .pieces)) (l .waiting) (bytes-of (l .pieces) (k .pieces)) (k .waiting))) (bytes-table (rowsOf (l .pieces)))
+    (bytes-over a 0 st by (bytes-joined (bytesOf (l .pieces)) (l .waiting) (bytes-of (l .pieces) (k .pieces)) (k .waiting))) (bytes-table (rowsOf (l .pieces)))
 
 module _ (z : Sizes) (zr : SizeRange z) (l : L.Sender) (k : Kept z l) where
   pub on-ack-kept : (r : Reply) (keep : Bool) → Kept z (hearAck (z .top) r keep l)

@@ -27,7 +27,7 @@ use Rattle.record.specs.Profiles.{sizesOf}
 use Rattle.record.specs.View.{view, storeArea, storeCounts, storeHeld, storeSent, storeLink, store}
 use Rattle.record.specs.declared.Link.{Link}
 use Rattle.record.specs.declared.Sender.{Sender}
-use Rattle.record.proofs.View.{Fits, Arrays, bytes-pieces, pieces-stored, view-store}
+use Rattle.record.proofs.View.{ViewFits, Arrays, bytes-pieces, pieces-stored, view-store}
 use Rattle.soundness.proofs.fields.Sound.{fresh-is-sound, fresh-arrays}
 use Rattle.invariant.specs.Invariant.{TypedGear}
 use Rattle.invariant.proofs.Gears.{WellGear}
@@ -78,7 +78,7 @@ module _ (p : Profile) where
       }
 
   module _ (zr : SizeRange (sizesOf p)) (l : L.Sender) (kept : Kept (sizesOf p) l) (s : Sender) (a : List ℕ) (ar : Arrays s) (by : Bytes a) (big : areaBytes ≤ length a) where
-    ft : Fits l a
+    ft : ViewFits l a
     ft = sound-fits (sizesOf p) zr l (kept .sound) a big
 
     area-same : length (storeArea l a) ≡ length a

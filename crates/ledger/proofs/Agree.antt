@@ -5,7 +5,7 @@ use mathlib.Core.Bool.{cond}
 use mathlib.Core.List.{map}
 use Rattle.ledger.specs.Ledger.{Sender}
 use Rattle.ledger.specs.Tally.{Outstanding, outstanding, nothing, Tally, waits, start}
-use Rattle.ledger.specs.CoverCode.{flyingByte, byOffset}
+use Rattle.ledger.specs.CoverCode.{flyingByte, flyingByOffset}
 use Rattle.ledger.specs.LedgerCode.{frames, freshLedger}
 
 -- the outstanding burst as the tally has it
@@ -14,7 +14,7 @@ outOf s = cond (s .awaited) (outstanding (s .number) (frames (s .pieces) (s .sen
 
 pub record Agree (s : Sender) (t : Tally) : Type 0 where
   pub waiting : waits t ≡ s .waiting
-  pub flown : map flyingByte (t .flown) ≡ byOffset 0 (s .next) (s .pieces)
+  pub flown : map flyingByte (t .flown) ≡ flyingByOffset 0 (s .next) (s .pieces)
   pub out : t .out ≡ outOf s
 
 pub start-agree : Agree freshLedger start

@@ -14,7 +14,7 @@ use borrow.Author.Tests.{eqb-false, ltb-true, ltb-false}
 use Rattle.laws.specs.Lists.{occurs}
 use Rattle.laws.proofs.Picks.{test, by}
 use Rattle.laws.proofs.Lists.{map-map, occurs-append, occurs-take, map-append}
-use Rattle.ledger.specs.Ledger.{size, Piece, find, increments, Plan, Held, Sent, wholes, Sender, heldOffs, recut, split, kept, offs, oldOffs, unheld, newPieces, slots, sentOffs, dataBurst}
+use Rattle.ledger.specs.Ledger.{size, Piece, find, increments, Plan, Held, Sent, wholes, Sender, heldOffs, recut, split, keptAtPeer, offs, oldOffs, unheld, newPieces, slots, sentOffs, dataBurst}
 use Rattle.ledger.specs.Tally.{unacked, furthest, Tally, sentOut}
 use Rattle.ledger.specs.Cover.{ceil}
 use Rattle.ledger.specs.Sound.{HeldBits, SentBits, Sound, Fits}
@@ -28,7 +28,7 @@ use Rattle.ledger.proofs.Offsets.{Within, flying-within, offs-append, l
 use Rattle.ledger.proofs.ShortFrames.{size-few, shortFrames-few, shortFrames-split, shortFrames-merge}
 use Rattle.limits.specs.Limits.{maxTop, maxBits, maxSlots, maxFlying, longestPayload, minPayload, maxPieces}
 use Rattle.ledger.specs.Sizes.{Sizes}
-use Rattle.ledger.specs.CoverCode.{flyingByte, Ascend, shortFrames, byOffset}
+use Rattle.ledger.specs.CoverCode.{flyingByte, Ascend, shortFrames, flyingByOffset}
 use Rattle.ledger.specs.LedgerCode.{frames, takenOf}
 use Rattle.ledger.specs.SizesCode.{SizeRange}
 
@@ -103,10 +103,10 @@ module _ (z : Sizes) (zr : SizeRange z) (s : Sender) (g : Plan) (so : Sound z s)
       let a = ascend-split (g .payload) (z .long) 0 (s .next) (s .pieces) (omega (arith, payload-least)) (so .ascend) in
       by (λ (r : List Piece). Ascend (g .payload) 0 (s .next) r) (g .merging) (λ e. ascend-merge _ (g .payload) 0 (s .next) (split (g .payload) (s .pieces)) a) (λ e. a)
 
-  recut-byOffset : byOffset 0 (s .next) (recut g s) ≡ byOffset 0 (s .next) (s .pieces)
+  recut-byOffset : flyingByOffset 0 (s .next) (recut g s) ≡ flyingByOffset 0 (s .next) (s .pieces)
   recut-byOffset =
       let a = byOffset-split (g .payload) 0 (s .next) (s .pieces) in
-      by (λ (r : List Piece). byOffset 0 (s .next) r ≡ byOffset 0 (s .next) (s .pieces)) (g .merging)
+      by (λ (r : List Piece). flyingByOffset 0 (s .next) r ≡ flyingByOffset 0 (s .next) (s .pieces)) (g .merging)
       (λ e. byOffset-merge _ (g .payload) 0 (s .next) (split (g .payload) (s .pieces)) ∙ a) (λ e. a)
 
   recut-shortFrames : shortFrames (z .short) (recut g s) ≤ shortFrames (z .short) (s .pieces)
@@ -122,34 +122,34 @@ module _ (z : Sizes) (zr : SizeRange z) (s : Sender) (g : Plan) (so : Sound z s)
   nothing-cut : 1 ≤ g .parity → split (g .payload) (s .pieces) ≡ s .pieces
   nothing-cut h = split-fits (g .payload) 0 (s .next) (s .pieces) (rw (fi .parity h) (so .ascend))
 
-  kept-le : (o : ℕ) → occurs o (heldOffs (kept g s)) ≤ occurs o (heldOffs (s .held))
+  kept-le : (o : ℕ) → occurs o (heldOffs (keptAtPeer g s)) ≤ occurs o (heldOffs (s .held))
   kept-le o = by (λ (r : List Held). occurs o (heldOffs r) ≤ occurs o (heldOffs (s .held))) (eqb (g .parity) 0) (λ e. omega arith) (λ e. omega arith)
 
-  kept-parity : (o : ℕ) → 1 ≤ occurs o (heldOffs (kept g s)) → 1 ≤ g .parity
+  kept-parity : (o : ℕ) → 1 ≤ occurs o (heldOffs (keptAtPeer g s)) → 1 ≤ g .parity
   kept-parity o h =
       test (eqb (g .parity) 0)
       (λ e. absurd (let h′ : 1 ≤ occurs o (heldOffs (cond true [] (s .held))) = rw e at h in omega arith))
       (λ e. omega (arith, eqb-false (g .parity) 0 e))
 
   -- held pieces stay
-  find-kept : (o : ℕ) → 1 ≤ occurs o (heldOffs (kept g s)) → find o (recut g s) ≡ find o (s .pieces)
+  find-kept : (o : ℕ) → 1 ≤ occurs o (heldOffs (keptAtPeer g s)) → find o (recut g s) ≡ find o (s .pieces)
   find-kept o h =
       let u = nothing-cut (kept-parity o h) in
       by (λ (r : List Piece). find o r ≡ find o (s .pieces)) (g .merging)
-      (λ f. find-merge (heldOffs (kept g s)) (g .payload) o (split (g .payload) (s .pieces)) h ∙ rw u)
+      (λ f. find-merge (heldOffs (keptAtPeer g s)) (g .payload) o (split (g .payload) (s .pieces)) h ∙ rw u)
       (λ f. rw u)
 
-  occurs-kept : (o : ℕ) → occurs o (heldOffs (kept g s)) ≤ occurs o (offs (recut g s))
+  occurs-kept : (o : ℕ) → occurs o (heldOffs (keptAtPeer g s)) ≤ occurs o (offs (recut g s))
   occurs-kept o =
-      test (ltb 0 (occurs o (heldOffs (kept g s))))
+      test (ltb 0 (occurs o (heldOffs (keptAtPeer g s))))
       (λ e.
-      let h = ltb-true 0 (occurs o (heldOffs (kept g s))) e in
+      let h = ltb-true 0 (occurs o (heldOffs (keptAtPeer g s))) e in
       let u = nothing-cut (kept-parity o h) in
-      let k : occurs o (heldOffs (kept g s)) ≤ occurs o (offs (split (g .payload) (s .pieces))) = rw u (omega (arith, kept-le o, held-in o)) in
-      by (λ (r : List Piece). occurs o (heldOffs (kept g s)) ≤ occurs o (offs r)) (g .merging)
-      (λ f. rw (occurs-merge (heldOffs (kept g s)) (g .payload) o (split (g .payload) (s .pieces)) h) k)
+      let k : occurs o (heldOffs (keptAtPeer g s)) ≤ occurs o (offs (split (g .payload) (s .pieces))) = rw u (omega (arith, kept-le o, held-in o)) in
+      by (λ (r : List Piece). occurs o (heldOffs (keptAtPeer g s)) ≤ occurs o (offs r)) (g .merging)
+      (λ f. rw (occurs-merge (heldOffs (keptAtPeer g s)) (g .payload) o (split (g .payload) (s .pieces)) h) k)
       (λ f. k))
-      (λ e. omega (arith, ltb-false 0 (occurs o (heldOffs (kept g s))) e))
+      (λ e. omega (arith, ltb-false 0 (occurs o (heldOffs (keptAtPeer g s))) e))
 
   old-few : length (oldOffs g s) ≤ g .room
   old-few = taken-few (g .room) _
@@ -174,9 +174,9 @@ module _ (z : Sizes) (zr : SizeRange z) (s : Sender) (g : Plan) (so : Sound z s)
         old-few,
         new-few,
         fi .room,
-        length-take (g .room) (unheld (heldOffs (kept g s)) (recut g s)),
-        pieces-few (g .payload) 0 (s .next) (heldOffs (kept g s)) (recut g s) recut-ascend,
-        length-heldOffs (kept g s),
+        length-take (g .room) (unheld (heldOffs (keptAtPeer g s)) (recut g s)),
+        pieces-few (g .payload) 0 (s .next) (heldOffs (keptAtPeer g s)) (recut g s) recut-ascend,
+        length-heldOffs (keptAtPeer g s),
         length-append (recut g s) (newPieces g s),
       )
 
@@ -199,38 +199,38 @@ module _ (z : Sizes) (zr : SizeRange z) (s : Sender) (g : Plan) (so : Sound z s)
       (λ e. few-shorts z zr (s .next + size (newPieces g s)) (recut g s ++ newPieces g s) all-long (all-few (ltb-true 0 (length (newPieces g s)) e)))
       (λ e. rw (none-new (ltb-false 0 (length (newPieces g s)) e)) (omega (arith, recut-shortFrames, so .shorts)))
 
-  slots-offs : sentOffs (slots g s) ≡ heldOffs (take (g .parity) (kept g s)) ++ (oldOffs g s ++ offs (newPieces g s))
-  slots-offs = rw (sentOffs-append (increments g (take (g .parity) (kept g s))) (wholes g (oldOffs g s ++ offs (newPieces g s))), sentOffs-increments g (take (g .parity) (kept g s)), sentOffs-wholes g (oldOffs g s ++ offs (newPieces g s)))
+  slots-offs : sentOffs (slots g s) ≡ heldOffs (take (g .parity) (keptAtPeer g s)) ++ (oldOffs g s ++ offs (newPieces g s))
+  slots-offs = rw (sentOffs-append (increments g (take (g .parity) (keptAtPeer g s))) (wholes g (oldOffs g s ++ offs (newPieces g s))), sentOffs-increments g (take (g .parity) (keptAtPeer g s)), sentOffs-wholes g (oldOffs g s ++ offs (newPieces g s)))
 
-  kept-parts : (o : ℕ) → occurs o (heldOffs (take (g .parity) (kept g s))) + occurs o (heldOffs (drop (g .parity) (kept g s))) ≡ occurs o (heldOffs (kept g s))
+  kept-parts : (o : ℕ) → occurs o (heldOffs (take (g .parity) (keptAtPeer g s))) + occurs o (heldOffs (drop (g .parity) (keptAtPeer g s))) ≡ occurs o (heldOffs (keptAtPeer g s))
   kept-parts o =
-      sym (occurs-append o (heldOffs (take (g .parity) (kept g s))) (heldOffs (drop (g .parity) (kept g s))))
-      ∙ rw (← heldOffs-append (take (g .parity) (kept g s)) (drop (g .parity) (kept g s)), take-append-drop (g .parity) (kept g s))
+      sym (occurs-append o (heldOffs (take (g .parity) (keptAtPeer g s))) (heldOffs (drop (g .parity) (keptAtPeer g s))))
+      ∙ rw (← heldOffs-append (take (g .parity) (keptAtPeer g s)) (drop (g .parity) (keptAtPeer g s)), take-append-drop (g .parity) (keptAtPeer g s))
 
-  out-in : (o : ℕ) → occurs o (sentOffs (slots g s)) + occurs o (heldOffs (drop (g .parity) (kept g s))) ≤ occurs o (offs (recut g s ++ newPieces g s))
+  out-in : (o : ℕ) → occurs o (sentOffs (slots g s)) + occurs o (heldOffs (drop (g .parity) (keptAtPeer g s))) ≤ occurs o (offs (recut g s ++ newPieces g s))
   out-in o =
-      rw (slots-offs, offs-append (recut g s) (newPieces g s), occurs-append o (heldOffs (take (g .parity) (kept g s))) (oldOffs g s ++ offs (newPieces g s)), occurs-append o (oldOffs g s) (offs (newPieces g s)), occurs-append o (offs (recut g s)) (offs (newPieces g s)))
-      (omega (arith, kept-parts o, held-and-unheld (heldOffs (kept g s)) o (recut g s) (occurs-kept o), occurs-take o (g .room) (unheld (heldOffs (kept g s)) (recut g s))))
+      rw (slots-offs, offs-append (recut g s) (newPieces g s), occurs-append o (heldOffs (take (g .parity) (keptAtPeer g s))) (oldOffs g s ++ offs (newPieces g s)), occurs-append o (oldOffs g s) (offs (newPieces g s)), occurs-append o (offs (recut g s)) (offs (newPieces g s)))
+      (omega (arith, kept-parts o, held-and-unheld (heldOffs (keptAtPeer g s)) o (recut g s) (occurs-kept o), occurs-take o (g .room) (unheld (heldOffs (keptAtPeer g s)) (recut g s))))
 
-  kept-few : length (kept g s) ≤ length (s .held)
+  kept-few : length (keptAtPeer g s) ≤ length (s .held)
   kept-few = by (λ (r : List Held). length r ≤ length (s .held)) (eqb (g .parity) 0) (λ e. omega arith) (λ e. omega arith)
 
-  kept-bits : HeldBits (z .top) (kept g s)
+  kept-bits : HeldBits (z .top) (keptAtPeer g s)
   kept-bits = by (λ (r : List Held). HeldBits (z .top) r) (eqb (g .parity) 0) (λ e. tt) (λ e. so .heldBits)
 
-  out-few : length (slots g s) + length (drop (g .parity) (kept g s)) ≤ maxSlots
+  out-few : length (slots g s) + length (drop (g .parity) (keptAtPeer g s)) ≤ maxSlots
   out-few =
-      rw (← length-sentOffs (slots g s), slots-offs, length-append (heldOffs (take (g .parity) (kept g s))) (oldOffs g s ++ offs (newPieces g s)), length-heldOffs (take (g .parity) (kept g s)), length-append (oldOffs g s) (offs (newPieces g s)), length-offs (newPieces g s))
-      (omega (arith, old-few, new-few, fi .room, length-append (take (g .parity) (kept g s)) (drop (g .parity) (kept g s)), ap length (take-append-drop (g .parity) (kept g s))))
+      rw (← length-sentOffs (slots g s), slots-offs, length-append (heldOffs (take (g .parity) (keptAtPeer g s))) (oldOffs g s ++ offs (newPieces g s)), length-heldOffs (take (g .parity) (keptAtPeer g s)), length-append (oldOffs g s) (offs (newPieces g s)), length-offs (newPieces g s))
+      (omega (arith, old-few, new-few, fi .room, length-append (take (g .parity) (keptAtPeer g s)) (drop (g .parity) (keptAtPeer g s)), ap length (take-append-drop (g .parity) (keptAtPeer g s))))
 
   new-le : size (newPieces g s) ≤ length (s .waiting)
   new-le = chunks-le (g .room - length (oldOffs g s)) (g .payload) (s .next) (s .waiting)
 
-  all-in : Within (heldOffs (kept g s)) (recut g s ++ newPieces g s)
+  all-in : Within (heldOffs (keptAtPeer g s)) (recut g s ++ newPieces g s)
   all-in o = rw (offs-append (recut g s) (newPieces g s), occurs-append o (offs (recut g s)) (offs (newPieces g s))) (omega (arith, occurs-kept o))
 
-  out-within : Within (sentOffs (slots g s) ++ heldOffs (drop (g .parity) (kept g s))) (recut g s ++ newPieces g s)
-  out-within o = rw (occurs-append o (sentOffs (slots g s)) (heldOffs (drop (g .parity) (kept g s)))) (out-in o)
+  out-within : Within (sentOffs (slots g s) ++ heldOffs (drop (g .parity) (keptAtPeer g s))) (recut g s ++ newPieces g s)
+  out-within o = rw (occurs-append o (sentOffs (slots g s)) (heldOffs (drop (g .parity) (keptAtPeer g s)))) (out-in o)
 
   -- a burst takes no byte in
   pub burst-taken : takenOf (dataBurst g s) ≡ takenOf s
@@ -245,16 +245,16 @@ module _ (z : Sizes) (zr : SizeRange z) (s : Sender) (g : Plan) (so : Sound z s)
         bytes = bytes;
         shorts = shorts;
         heldFew = omega (arith, kept-few, so .heldFew);
-        heldFlying = within-flying (z .long) 0 (s .next + size (newPieces g s)) (heldOffs (kept g s)) (recut g s ++ newPieces g s) all-long all-in;
+        heldFlying = within-flying (z .long) 0 (s .next + size (newPieces g s)) (heldOffs (keptAtPeer g s)) (recut g s ++ newPieces g s) all-long all-in;
         heldBits = kept-bits;
-        tail = (take (g .parity) (kept g s), sym (take-append-drop (g .parity) (kept g s)));
+        tail = (take (g .parity) (keptAtPeer g s), sym (take-append-drop (g .parity) (keptAtPeer g s)));
         outFew = out-few;
         outFlying =
-            within-flying (z .long) 0 (s .next + size (newPieces g s)) (sentOffs (slots g s) ++ heldOffs (drop (g .parity) (kept g s))) (recut g s ++ newPieces g s)
+            within-flying (z .long) 0 (s .next + size (newPieces g s)) (sentOffs (slots g s) ++ heldOffs (drop (g .parity) (keptAtPeer g s))) (recut g s ++ newPieces g s)
             all-long out-within;
         sentBits =
-            sentBits-append (increments g (take (g .parity) (kept g s))) (wholes g (oldOffs g s ++ offs (newPieces g s)))
-            (increments-bits g (z .top) (take (g .parity) (kept g s)) (zr .bits) (fi .increment) (heldBits-take (z .top) (g .parity) (kept g s) kept-bits))
+            sentBits-append (increments g (take (g .parity) (keptAtPeer g s))) (wholes g (oldOffs g s ++ offs (newPieces g s)))
+            (increments-bits g (z .top) (take (g .parity) (keptAtPeer g s)) (zr .bits) (fi .increment) (heldBits-take (z .top) (g .parity) (keptAtPeer g s) kept-bits))
             (wholes-bits g (oldOffs g s ++ offs (newPieces g s)) (fi .slot .0) (fi .slot .1));
         waitingFew = omega (arith, length-drop (size (newPieces g s)) (s .waiting), so .waitingFew);
         takenFew = omega (arith, burst-taken, so .takenFew);
@@ -265,10 +265,10 @@ module _ (z : Sizes) (zr : SizeRange z) (s : Sender) (g : Plan) (so : Sound z s)
   -- the tally takes as many waiting bytes as the burst
   furthest-burst : furthest (frames (recut g s ++ newPieces g s) (slots g s)) - s .next ≡ size (newPieces g s)
   furthest-burst =
-      furthest-new g (g .payload) (s .next) (g .room - length (oldOffs g s)) (s .waiting) (recut g s) (increments g (take (g .parity) (kept g s))) (oldOffs g s) all-ascend
+      furthest-new g (g .payload) (s .next) (g .room - length (oldOffs g s)) (s .waiting) (recut g s) (increments g (take (g .parity) (keptAtPeer g s))) (oldOffs g s) all-ascend
       (λ o h. omega (arith, out-in o))
 
-  all-byOffset : byOffset 0 (s .next + size (newPieces g s)) (recut g s ++ newPieces g s) ≡ byOffset 0 (s .next) (s .pieces) ++ map some (take (size (newPieces g s)) (s .waiting))
+  all-byOffset : flyingByOffset 0 (s .next + size (newPieces g s)) (recut g s ++ newPieces g s) ≡ flyingByOffset 0 (s .next) (s .pieces) ++ map some (take (size (newPieces g s)) (s .waiting))
   all-byOffset =
       byOffset-append (g .payload) 0 (s .next) (s .next + size (newPieces g s)) (recut g s) (newPieces g s) recut-ascend new-ascend
       ∙ rw (recut-byOffset, byOffset-chunks (g .room - length (oldOffs g s)) (g .payload) (s .next) (s .waiting))

@@ -13,7 +13,7 @@ use Rattle.ledger.specs.Tally.{Tally, waits, inFlight, acknowledged, sta
 use Rattle.ledger.specs.Plan.{parity, room}
 use Rattle.ledger.specs.Calls.{run, tally}
 use Rattle.ledger.specs.Sizes.{Sizes}
-use Rattle.ledger.specs.CallsCode.{Move, bursts, queues, hears, receives, turns, step, moveTold, freshStation}
+use Rattle.ledger.specs.CallsCode.{Move, burstMove, queueMove, ackMove, acksMove, turnMove, step, moveTold, freshLedgerStation}
 use Rattle.ledger.specs.LedgerCode.{freshLedger}
 
 -- offset and length of each piece
@@ -64,33 +64,33 @@ sizes = record { short = 8; long = 30; top = 11520 }
 
 abbrev plan : ℕ → ℕ → ℕ → ℕ → Move
 plan payload parity room number =
-    bursts (record { payload = payload; merging = true; parity = parity; room = room; slot = 2880; increment = λ h. 1440; number = number })
+    burstMove (record { payload = payload; merging = true; parity = parity; room = room; slot = 2880; increment = λ h. 1440; number = number })
 
 -- 200 bytes; four frames of 30, of which the second and fourth arrive and the others are held; increments and two more; all but the last arrive; an ack
 -- that is not awaited; a short level; a turn; an ack that is not awaited
 calls : List Move
 calls =
-    queues 3 0 (replicate 200 5) ∷ plan 30 0 4 1 ∷ hears (shortAck 1 10) true ∷ plan 30 2 2 2 ∷ hears (shortAck 2 7) true ∷ hears (shortAck 2 63) false
-    ∷ plan 8 0 3 3 ∷ turns ∷ hears (shortAck 3 7) false ∷ []
+    queueMove 3 0 (replicate 200 5) ∷ plan 30 0 4 1 ∷ ackMove (shortAck 1 10) true ∷ plan 30 2 2 2 ∷ ackMove (shortAck 2 7) true ∷ ackMove (shortAck 2 63) false
+    ∷ plan 8 0 3 3 ∷ turnMove ∷ ackMove (shortAck 3 7) false ∷ []
 
-after-calls : spans (run (step sizes) calls freshStation .sender .pieces) ≡ 150 ∷ 8 ∷ 158 ∷ 8 ∷ 166 ∷ 8 ∷ 174 ∷ 6 ∷ []
+after-calls : spans (run (step sizes) calls freshLedgerStation .sender .pieces) ≡ 150 ∷ 8 ∷ 158 ∷ 8 ∷ 166 ∷ 8 ∷ 174 ∷ 6 ∷ []
 unfolding calls dataBurst hearAck settleBurst clearBurst requeue enqueue flies
 after-calls = refl
 
 abbrev counts : Tally → List ℕ
 counts t = t .taken ∷ length (waits t) ∷ inFlight (t .flown) ∷ acknowledged (t .flown) ∷ length (messageBytes (t .withdrawn)) ∷ []
 
-after-tally : counts (tally (step sizes) (moveTold sizes) calls freshStation start) ≡ 200 ∷ 20 ∷ 30 ∷ 150 ∷ 0 ∷ []
+after-tally : counts (tally (step sizes) (moveTold sizes) calls freshLedgerStation start) ≡ 200 ∷ 20 ∷ 30 ∷ 150 ∷ 0 ∷ []
 unfolding calls dataBurst hearAck settleBurst clearBurst requeue enqueue superseded flies begins queued sentOut heard noneOutstanding
 after-tally = refl
 
 -- ---- a reception: of its acks the first alone can settle, and another burst's number first settles nothing
 
 abbrev receptionOf : List (Reply × Bool) → List Move
-receptionOf xs = queues 3 0 (replicate 200 5) ∷ plan 30 0 4 1 ∷ receives xs ∷ []
+receptionOf xs = queueMove 3 0 (replicate 200 5) ∷ plan 30 0 4 1 ∷ acksMove xs ∷ []
 
 abbrev afterReception : List (Reply × Bool) → List ℕ
-afterReception xs = counts (tally (step sizes) (moveTold sizes) (receptionOf xs) freshStation start)
+afterReception xs = counts (tally (step sizes) (moveTold sizes) (receptionOf xs) freshLedgerStation start)
 
 first-settles : afterReception ((longAck 1 10, true) ∷ (longAck 1 15, true) ∷ []) ≡ 200 ∷ 80 ∷ 60 ∷ 60 ∷ 0 ∷ []
 unfolding dataBurst hearAck settleBurst clearBurst requeue enqueue superseded flies begins queued sentOut heard
@@ -116,7 +116,7 @@ sentRows (f ∷ fs) = f .off ∷ f .bits ∷ f .held ∷ sentRows fs
 
 -- four frames of 30, of which the second and fourth arrive, the others held or not; then a burst
 abbrev twice : Bool → Move → Sender
-twice keep c = run (step sizes) (queues 3 0 (replicate 200 5) ∷ plan 30 0 4 1 ∷ hears (shortAck 1 10) keep ∷ c ∷ []) freshStation .sender
+twice keep c = run (step sizes) (queueMove 3 0 (replicate 200 5) ∷ plan 30 0 4 1 ∷ ackMove (shortAck 1 10) keep ∷ c ∷ []) freshLedgerStation .sender
 
 -- parity first, then new pieces; of two held one goes, and the other is the unsent rest
 parity-first : sentRows (twice true (plan 30 1 2 2) .sent) ≡ 0 ∷ 1440 ∷ 4320 ∷ 120 ∷ 2880 ∷ 2880 ∷ 150 ∷ 2880 ∷ 2880 ∷ []
@@ -198,12 +198,12 @@ begun-goes-on = refl
 
 -- the same in a run: a bulletin of 100 bytes, of which 60 fly; a second, which waits behind it; and a third, which withdraws the second
 bulletins : List Move
-bulletins = queues 3 7 (replicate 100 5) ∷ plan 30 0 2 1 ∷ queues 2 7 (replicate 50 6) ∷ queues 1 7 (replicate 20 8) ∷ []
+bulletins = queueMove 3 7 (replicate 100 5) ∷ plan 30 0 2 1 ∷ queueMove 2 7 (replicate 50 6) ∷ queueMove 1 7 (replicate 20 8) ∷ []
 
-after-bulletins : counts (tally (step sizes) (moveTold sizes) bulletins freshStation start) ≡ 170 ∷ 60 ∷ 60 ∷ 0 ∷ 50 ∷ []
+after-bulletins : counts (tally (step sizes) (moveTold sizes) bulletins freshLedgerStation start) ≡ 170 ∷ 60 ∷ 60 ∷ 0 ∷ 50 ∷ []
 unfolding bulletins dataBurst requeue enqueue superseded flies begins queued sentOut
 after-bulletins = refl
 
-withdrawn-counted : run (step sizes) bulletins freshStation .withdrawn ≡ 50
+withdrawn-counted : run (step sizes) bulletins freshLedgerStation .withdrawn ≡ 50
 unfolding bulletins dataBurst requeue enqueue superseded flies
 withdrawn-counted = refl

@@ -12,8 +12,8 @@ use Rattle.laws.proofs.Picks.{either}
 use Rattle.laws.proofs.Lists.{map-map, map-id, map-append}
 use Rattle.ledger.specs.Reply.{Reply}
 use Rattle.ledger.specs.Ledger.{Frame}
-use Rattle.ledger.specs.Tally.{unacked, byteOf, acknowledge, Flown, acknowledgeAll, acknowledgedBy, Outstanding, nothing, outstanding, Tally, Event, feed, queuedIn, queued, sentOut, heard, turn, noneOutstanding, silent, took, reply, replies, went, heardAll, furthest, start}
-use Rattle.ledger.specs.Queue.{Message, messageBytes, goes, behind, rest, message, count, ofClass, withdraws, Ascending, Sublist}
+use Rattle.ledger.specs.Tally.{unacked, byteOf, acknowledge, Flown, acknowledgeAll, acknowledgedBy, Outstanding, nothing, outstanding, Tally, Event, feed, messagesTold, queued, sentOut, heard, turn, noneOutstanding, silent, took, reply, replies, went, heardAll, furthest, start}
+use Rattle.ledger.specs.Queue.{Message, messageBytes, goes, behind, rest, message, countThose, ofClass, withdraws, Ascending, Sublist}
 use Rattle.ledger.specs.Queue.{enqueue, superseded, flies, begins}
 use Rattle.ledger.specs.Calls.{tally, history}
 use Rattle.ledger.proofs.Queue.{Ready, bytes-append, length-bytes-append, count-append, of-append}
@@ -47,9 +47,9 @@ pub record Told (ms : List Message) (t : Tally) : Type 0 where
   pub taken : t .taken ≡ length (messageBytes ms)
   pub sum : t .taken ≡ length (goes (t .queue)) + length (t .flown) + length (messageBytes (t .withdrawn))
   pub each : (p : Message → Bool) →
-      count p ms ≡ count p (t .began) + count p (behind (t .queue .begun) (t .queue .messages)) + count p (t .withdrawn)
+      countThose p ms ≡ countThose p (t .began) + countThose p (behind (t .queue .begun) (t .queue .messages)) + countThose p (t .withdrawn)
   pub earliest : (c : ℕ) → Sublist (ofClass c (t .began) ++ ofClass c (behind (t .queue .begun) (t .queue .messages))) (ofClass c ms)
-  pub newest : (l : ℕ) → count (λ (m : Message). withdraws l (m .label)) (behind (t .queue .begun) (t .queue .messages)) ≤ 1
+  pub newest : (l : ℕ) → countThose (λ (m : Message). withdraws l (m .label)) (behind (t .queue .begun) (t .queue .messages)) ≤ 1
   pub history : map byteOf (t .flown) ++ rest (t .queue) ≡ messageBytes (t .began)
 
 start-told : Told [] start
@@ -162,7 +162,7 @@ replies-told : (rs : List Reply) (ms : List Message) (t : Tally) → Told ms t �
 replies-told [] ms t k = same ms t t refl refl refl refl refl k
 replies-told (r ∷ rs) ms t k = replies-told rs ms (heard r t) (subst (λ (x : List Message). Told x (heard r t)) (append-nil ms) (heard-told r ms t k))
 
-fed : (e : Event) (ms : List Message) (t : Tally) → Told ms t → Told (ms ++ queuedIn e) (feed e t)
+fed : (e : Event) (ms : List Message) (t : Tally) → Told ms t → Told (ms ++ messagesTold e) (feed e t)
 unfolding noneOutstanding
 fed silent ms t k = same ms t t refl refl refl refl refl k
 fed (took c l bs) ms t k = took-told ms t k c l bs
@@ -175,8 +175,8 @@ module _ {C I : Type 0} (next : I → C → C) (told : I → C → Event) where
   fed-all : (is : List I) (c : C) (ms : List Message) (t : Tally) → Told ms t → Told (ms ++ history next told is c) (tally next told is c t)
   fed-all [] c ms t k = rw append-nil k
   fed-all (i ∷ is) c ms t k =
-      subst (λ (x : List Message). Told x (tally next told is (next i c) (feed (told i c) t))) (append-assoc ms (queuedIn (told i c)) (history next told is (next i c)))
-      (fed-all is (next i c) (ms ++ queuedIn (told i c)) (feed (told i c) t) (fed (told i c) ms t k))
+      subst (λ (x : List Message). Told x (tally next told is (next i c) (feed (told i c) t))) (append-assoc ms (messagesTold (told i c)) (history next told is (next i c)))
+      (fed-all is (next i c) (ms ++ messagesTold (told i c)) (feed (told i c) t) (fed (told i c) ms t k))
 
   -- no message is lost, doubled, altered or broken into
   pub told-is : (is : List I) (c : C) → Told (history next told is c) (tally next told is c start)

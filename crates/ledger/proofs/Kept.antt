@@ -22,11 +22,11 @@ use Rattle.ledger.proofs.Agree.{Agree}
 use Rattle.ledger.proofs.Burst.{burst-taken, burst-sound, burst-agree, burst-takes, burst-keeps}
 use Rattle.ledger.proofs.HeldPieces.{heldOffs-append}
 use Rattle.ledger.proofs.Offsets.{flying-within, Within, within-flying}
-use Rattle.ledger.proofs.Sentences.{not-awaited}
+use Rattle.ledger.proofs.Sentences.{not-awaited, ack-ends}
 use Rattle.ledger.proofs.Settle.{ascend-remaining, missed-remaining, ackedBytes-remaining, missed-few, shortFrames-remaining, acknowledgeAll-remaining, find-remaining}
 use Rattle.limits.specs.Limits.{maxSlots, maxWaiting, maxTaken}
 use Rattle.ledger.specs.Sizes.{Sizes}
-use Rattle.ledger.specs.CallsCode.{Allowed, queues, step, Move, idle, hears, receives, hearAll, repliesOf, turns, bursts, event, moveTold, SoundStation}
+use Rattle.ledger.specs.CallsCode.{Allowed, queueMove, step, Move, idle, ackMove, acksMove, hearAll, repliesOf, turnMove, burstMove, event, moveTold, SoundStation}
 use Rattle.ledger.specs.CoverCode.{Ascend}
 use Rattle.ledger.specs.LedgerCode.{frames, takenOf, freshLedger}
 use Rattle.ledger.specs.SizesCode.{SizeRange}
@@ -204,35 +204,35 @@ module _ (z : Sizes) where
     sender-sound : (c : Move) (st : Station) → Allowed z c st → Sound z (st .sender) → st .sender .waiting ≡ goes (st .queue) →
         Sound z (step z c st .sender)
     sender-sound idle st al so sh = so
-    sender-sound (queues c l bs) st al so sh =
+    sender-sound (queueMove c l bs) st al so sh =
         queue-sound (goes (enqueue c l bs (st .queue))) (st .sender) (al .0)
         (omega (arith, al .1, length-enqueue c l (st .queue) bs, ap length sh)) so
-    sender-sound (hears r keep) st al so sh = ack-sound r keep (st .sender) so
-    sender-sound (receives xs) st al so sh = hear-all (Sound z) ack-sound xs (st .sender) so
-    sender-sound turns st al so sh = clear-sound (st .sender) so
-    sender-sound (bursts g) st al so sh = burst-sound z zr (st .sender) g so al
+    sender-sound (ackMove r keep) st al so sh = ack-sound r keep (st .sender) so
+    sender-sound (acksMove xs) st al so sh = hear-all (Sound z) ack-sound xs (st .sender) so
+    sender-sound turnMove st al so sh = clear-sound (st .sender) so
+    sender-sound (burstMove g) st al so sh = burst-sound z zr (st .sender) g so al
 
     -- the waiting bytes are the messages'
     sender-shows : (c : Move) (st : Station) → st .sender .waiting ≡ goes (st .queue) → step z c st .sender .waiting ≡ goes (step z c st .queue)
     unfolding clearBurst requeue dataBurst
     sender-shows idle st sh = sh
-    sender-shows (queues c l bs) st sh = refl
-    sender-shows (hears r keep) st sh = ack-shows (goes (st .queue)) r keep (st .sender) sh
-    sender-shows (receives xs) st sh = hear-all (λ (x : Sender). x .waiting ≡ goes (st .queue)) (ack-shows (goes (st .queue))) xs (st .sender) sh
-    sender-shows turns st sh = sh
-    sender-shows (bursts g) st sh = let k = size (newPieces g (st .sender)) in ap (drop k) sh ∙ sym (goes-flies k (st .queue))
+    sender-shows (queueMove c l bs) st sh = refl
+    sender-shows (ackMove r keep) st sh = ack-shows (goes (st .queue)) r keep (st .sender) sh
+    sender-shows (acksMove xs) st sh = hear-all (λ (x : Sender). x .waiting ≡ goes (st .queue)) (ack-shows (goes (st .queue))) xs (st .sender) sh
+    sender-shows turnMove st sh = sh
+    sender-shows (burstMove g) st sh = let k = size (newPieces g (st .sender)) in ap (drop k) sh ∙ sym (goes-flies k (st .queue))
 
     -- the bytes taken, those withdrawn among them, grow by those queued alone
     sender-taken : (c : Move) (st : Station) → Allowed z c st → SoundStation z st →
         takenOf (step z c st .sender) + step z c st .withdrawn ≤ maxTaken
     unfolding clearBurst requeue
     sender-taken idle st al ss = ss .taken
-    sender-taken (queues c l bs) st al ss = omega (arith, al .1, length-enqueue c l (st .queue) bs, ap length (ss .shows))
-    sender-taken (hears r keep) st al ss = ack-taken (st .withdrawn) r keep (st .sender) (ss .taken)
-    sender-taken (receives xs) st al ss =
+    sender-taken (queueMove c l bs) st al ss = omega (arith, al .1, length-enqueue c l (st .queue) bs, ap length (ss .shows))
+    sender-taken (ackMove r keep) st al ss = ack-taken (st .withdrawn) r keep (st .sender) (ss .taken)
+    sender-taken (acksMove xs) st al ss =
         hear-all (λ (x : Sender). takenOf x + st .withdrawn ≤ maxTaken) (ack-taken (st .withdrawn)) xs (st .sender) (ss .taken)
-    sender-taken turns st al ss = ss .taken
-    sender-taken (bursts g) st al ss = omega (arith, ss .taken, burst-taken z zr (st .sender) g (ss .sound) al)
+    sender-taken turnMove st al ss = ss .taken
+    sender-taken (burstMove g) st al ss = omega (arith, ss .taken, burst-taken z zr (st .sender) g (ss .sound) al)
 
     pub step-sound : (c : Move) (st : Station) → Allowed z c st → SoundStation z st → SoundStation z (step z c st)
     step-sound c st al so =
@@ -295,18 +295,18 @@ module _ (z : Sizes) where
       all-agree xs (hearAck (z .top) (x .0) (x .1) s) (heard (x .0) t) (ack-sound (x .0) (x .1) s so) (ack-agree (x .0) (x .1) s t so ag)
 
   module _ (zr : SizeRange z) where
-    burst-event : (g : Plan) (s : Sender) (t : Tally) → Fits z s g → Sound z s → Agree s t → Agree (dataBurst g s) (feed (event (bursts g) (dataBurst g s)) t)
+    burst-event : (g : Plan) (s : Sender) (t : Tally) → Fits z s g → Sound z s → Agree s t → Agree (dataBurst g s) (feed (event (burstMove g) (dataBurst g s)) t)
     unfolding dataBurst
     burst-event g s t al so ag = burst-agree z zr s g so al t ag
 
     pub step-agree : (c : Move) (st : Station) (t : Tally) → Allowed z c st → Sound z (st .sender) → t .queue ≡ st .queue →
         Agree (st .sender) t → Agree (step z c st .sender) (feed (moveTold z c st) t)
     step-agree idle st t al so e ag = ag
-    step-agree (queues c l bs) st t al so e ag = queue-agree c l bs (st .queue) (st .sender) t e ag
-    step-agree (hears r keep) st t al so e ag = ack-agree r keep (st .sender) t so ag
-    step-agree (receives xs) st t al so e ag = all-agree xs (st .sender) t so ag
-    step-agree turns st t al so e ag = turn-agree (st .sender) t ag
-    step-agree (bursts g) st t al so e ag = burst-event g (st .sender) t al so ag
+    step-agree (queueMove c l bs) st t al so e ag = queue-agree c l bs (st .queue) (st .sender) t e ag
+    step-agree (ackMove r keep) st t al so e ag = ack-agree r keep (st .sender) t so ag
+    step-agree (acksMove xs) st t al so e ag = all-agree xs (st .sender) t so ag
+    step-agree turnMove st t al so e ag = turn-agree (st .sender) t ag
+    step-agree (burstMove g) st t al so e ag = burst-event g (st .sender) t al so ag
 
     all-queue : (rs : List Reply) (t : Tally) → heardAll rs t .queue ≡ t .queue
     unfolding heard
@@ -323,24 +323,24 @@ module _ (z : Sizes) where
         Agree (st .sender) t → feed (moveTold z c st) t .queue ≡ step z c st .queue
     unfolding queued heard noneOutstanding sentOut dataBurst
     step-queue idle st t al so e ag = e
-    step-queue (queues c l bs) st t al so e ag = ap (enqueue c l bs) e
-    step-queue (hears r keep) st t al so e ag = e
-    step-queue (receives xs) st t al so e ag = all-queue (repliesOf xs) t ∙ e
-    step-queue turns st t al so e ag = e
-    step-queue (bursts g) st t al so e ag = ap₂ flies (burst-takes z zr (st .sender) g so al t ag) e
+    step-queue (queueMove c l bs) st t al so e ag = ap (enqueue c l bs) e
+    step-queue (ackMove r keep) st t al so e ag = e
+    step-queue (acksMove xs) st t al so e ag = all-queue (repliesOf xs) t ∙ e
+    step-queue turnMove st t al so e ag = e
+    step-queue (burstMove g) st t al so e ag = ap₂ flies (burst-takes z zr (st .sender) g so al t ag) e
 
     -- the bytes that it counts as withdrawn are those of the messages that the tally has withdrawn
     pub step-withdrawn : (c : Move) (st : Station) (t : Tally) → t .queue ≡ st .queue → st .withdrawn ≡ length (messageBytes (t .withdrawn))
         → step z c st .withdrawn ≡ length (messageBytes (feed (moveTold z c st) t .withdrawn))
     unfolding queued heard noneOutstanding sentOut
     step-withdrawn idle st t e w = w
-    step-withdrawn (queues c l bs) st t e w =
+    step-withdrawn (queueMove c l bs) st t e w =
         let gone = ap (λ (q : Queue). length (messageBytes (superseded l bs q))) e in
         omega (arith, w, gone, length-bytes-append (t .withdrawn) (superseded l bs (t .queue)))
-    step-withdrawn (hears r keep) st t e w = w
-    step-withdrawn (receives xs) st t e w = w ∙ sym (ap (λ (ms : List Message). length (messageBytes ms)) (all-withdrawn (repliesOf xs) t))
-    step-withdrawn turns st t e w = w
-    step-withdrawn (bursts g) st t e w = w
+    step-withdrawn (ackMove r keep) st t e w = w
+    step-withdrawn (acksMove xs) st t e w = w ∙ sym (ap (λ (ms : List Message). length (messageBytes ms)) (all-withdrawn (repliesOf xs) t))
+    step-withdrawn turnMove st t e w = w
+    step-withdrawn (burstMove g) st t e w = w
 
   -- ---- held pieces
 
@@ -351,15 +351,10 @@ module _ (z : Sizes) where
       find-remaining (z .long) (s .next) (r .bit (length (s .sent))) 0 o (s .sent) (s .pieces) (so .ascend) (omega (arith, after-within r keep s so o))
 
   -- after an ack none is awaited, and one that is not awaited changes nothing
-  ack-ends : (r : Reply) (keep : Bool) (s : Sender) → hearAck (z .top) r keep s .awaited ≡ false
-  unfolding hearAck settleBurst clearBurst
-  ack-ends r keep s =
-      by (λ (x : Sender). x .awaited ≡ false) (s .awaited) (λ _. either (λ (x : Sender). x .awaited ≡ false) (settles r s) _ _ refl refl) (λ w. w)
-
   none-awaited : (xs : List (Reply × Bool)) (s : Sender) → s .awaited ≡ false → hearAll (z .top) xs s ≡ s
   none-awaited [] s e = refl
   none-awaited (x ∷ xs) s e =
-      none-awaited xs (hearAck (z .top) (x .0) (x .1) s) (ack-ends (x .0) (x .1) s) ∙ not-awaited (z .top) (x .0) (x .1) s e
+      none-awaited xs (hearAck (z .top) (x .0) (x .1) s) (ack-ends (z .top) (x .0) (x .1) s) ∙ not-awaited (z .top) (x .0) (x .1) s e
 
   clear-pieces : (s : Sender) → clearBurst s .pieces ≡ s .pieces
   unfolding clearBurst
@@ -382,15 +377,15 @@ module _ (z : Sizes) where
   all-keeps : (xs : List (Reply × Bool)) (s : Sender) (o : ℕ) → Sound z s → KeepsAt o s (hearAll (z .top) xs s)
   all-keeps [] s o so = λ h. refl
   all-keeps (x ∷ xs) s o so =
-      subst (KeepsAt o s) (sym (none-awaited xs (hearAck (z .top) (x .0) (x .1) s) (ack-ends (x .0) (x .1) s))) (ack-keeps (x .0) (x .1) s o so)
+      subst (KeepsAt o s) (sym (none-awaited xs (hearAck (z .top) (x .0) (x .1) s) (ack-ends (z .top) (x .0) (x .1) s))) (ack-keeps (x .0) (x .1) s o so)
 
   module _ (zr : SizeRange z) where
     pub step-keeps : (c : Move) (st : Station) (o : ℕ) → Allowed z c st → Sound z (st .sender) →
         1 ≤ occurs o (heldOffs (step z c st .sender .held)) →
         find o (step z c st .sender .pieces) ≡ find o (st .sender .pieces)
     step-keeps idle st o al so h = refl
-    step-keeps (queues c l bs) st o al so h = rw (queue-pieces (goes (enqueue c l bs (st .queue))) (st .sender))
-    step-keeps (hears r keep) st o al so h = ack-keeps r keep (st .sender) o so h
-    step-keeps (receives xs) st o al so h = all-keeps xs (st .sender) o so h
-    step-keeps turns st o al so h = rw (clear-pieces (st .sender))
-    step-keeps (bursts g) st o al so h = burst-keeps z zr (st .sender) g so al o h
+    step-keeps (queueMove c l bs) st o al so h = rw (queue-pieces (goes (enqueue c l bs (st .queue))) (st .sender))
+    step-keeps (ackMove r keep) st o al so h = ack-keeps r keep (st .sender) o so h
+    step-keeps (acksMove xs) st o al so h = all-keeps xs (st .sender) o so h
+    step-keeps turnMove st o al so h = rw (clear-pieces (st .sender))
+    step-keeps (burstMove g) st o al so h = burst-keeps z zr (st .sender) g so al o h

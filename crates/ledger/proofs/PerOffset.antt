@@ -18,7 +18,7 @@ use Rattle.ledger.specs.Tally.{within, Flown, acknowledge, acknowledgeAl
 use Rattle.ledger.specs.Claim.{covering, flyingAt, ackedAt, bitOver, named, anyNamed, settledBy}
 use Rattle.ledger.proofs.Acknowledge.{within-before, within-in, within-after}
 use Rattle.ledger.proofs.InFlight.{filled, filled-flying}
-use Rattle.ledger.specs.CoverCode.{Ascend, byOffset, flyingByte}
+use Rattle.ledger.specs.CoverCode.{Ascend, flyingByOffset, flyingByte}
 
 -- ---- the pieces cover each offset in flight once and no other
 
@@ -45,7 +45,7 @@ module _ (xs ys : List (Option ℕ)) (i j : ℕ) where
   getD-past : i ≡ length xs + j → getD (xs ++ ys) i none ≡ getD ys j none
   getD-past e = rw e (getD-append-add xs ys j none)
 
-covering-filled : (m k n o : ℕ) (ps : List Piece) → Ascend m k n ps → k ≤ o → covering o ps ≡ filled (getD (byOffset k n ps) (o - k) none)
+covering-filled : (m k n o : ℕ) (ps : List Piece) → Ascend m k n ps → k ≤ o → covering o ps ≡ filled (getD (flyingByOffset k n ps) (o - k) none)
 covering-filled m k n o [] a h = rw (getD-none (n - k) (o - k))
 covering-filled m k n o (p ∷ ps) a h =
     let xs = replicate (p .off - k) none in
@@ -55,25 +55,25 @@ covering-filled m k n o (p ∷ ps) a h =
     test (ltb o (p .off))
     (λ e.
     let q = ltb-true o (p .off) e in
-    rw (within-before (p .off) (len p) o q, covering-low m (end p) n o ps (a .3) (omega arith), getD-before xs (bs ++ byOffset (end p) n ps) (o - k) 0 (omega arith), getD-none (p .off - k) (o - k)))
+    rw (within-before (p .off) (len p) o q, covering-low m (end p) n o ps (a .3) (omega arith), getD-before xs (bs ++ flyingByOffset (end p) n ps) (o - k) 0 (omega arith), getD-none (p .off - k) (o - k)))
     (λ e.
     let q = ltb-false o (p .off) e in
-    rw (getD-past xs (bs ++ byOffset (end p) n ps) (o - k) (o - p .off) (omega arith))
+    rw (getD-past xs (bs ++ flyingByOffset (end p) n ps) (o - k) (o - p .off) (omega arith))
     (test (ltb o (end p))
     (λ d.
     let c = ltb-true o (end p) d in
-    rw (within-in (p .off) (len p) o q c, covering-low m (end p) n o ps (a .3) c, getD-before bs (byOffset (end p) n ps) (o - p .off) 0 (omega arith), filled-some (p .bytes) (o - p .off) (omega arith)))
+    rw (within-in (p .off) (len p) o q c, covering-low m (end p) n o ps (a .3) c, getD-before bs (flyingByOffset (end p) n ps) (o - p .off) 0 (omega arith), filled-some (p .bytes) (o - p .off) (omega arith)))
     (λ d.
     let c = ltb-false o (end p) d in
     let i = covering-filled m (end p) n o ps (a .3) c in
-    rw (within-after (p .off) (len p) o c, getD-past bs (byOffset (end p) n ps) (o - p .off) (o - end p) (omega arith)) (omega (arith, i)))))
+    rw (within-after (p .off) (len p) o c, getD-past bs (flyingByOffset (end p) n ps) (o - p .off) (o - end p) (omega arith)) (omega (arith, i)))))
 
 flyingAt-filled : (o : ℕ) (fl : List Flown) → filled (getD (map flyingByte fl) o none) ≡ flyingAt o fl
 flyingAt-filled o [] = refl
 flyingAt-filled zero (f ∷ fl) = filled-flying (f .acked) (f .byte)
 flyingAt-filled (suc o) (f ∷ fl) = flyingAt-filled o fl
 
-pub covers-once : (m n o : ℕ) (ps : List Piece) (fl : List Flown) → Ascend m 0 n ps → map flyingByte fl ≡ byOffset 0 n ps → covering o ps ≡ flyingAt o fl
+pub covers-once : (m n o : ℕ) (ps : List Piece) (fl : List Flown) → Ascend m 0 n ps → map flyingByte fl ≡ flyingByOffset 0 n ps → covering o ps ≡ flyingAt o fl
 covers-once m n o ps fl a e =
     covering-filled m 0 n o ps a (omega arith) ∙ rw (sub-zero o, ← e) (flyingAt-filled o fl)
 

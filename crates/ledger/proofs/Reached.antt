@@ -14,7 +14,7 @@ use Rattle.ledger.proofs.Queue.{length-enqueue}
 use Rattle.ledger.specs.Calls.{run, Along}
 use Rattle.limits.specs.Limits.{minPayload, longestPayload, maxTop, maxSlots, maxWaiting, maxFlying, maxPieces, maxNumber}
 use Rattle.ledger.specs.Sizes.{Sizes}
-use Rattle.ledger.specs.CallsCode.{Move, queues, bursts, step, Allowed, freshStation}
+use Rattle.ledger.specs.CallsCode.{Move, queueMove, burstMove, step, Allowed, freshLedgerStation}
 use Rattle.ledger.specs.LedgerCode.{freshLedger}
 use Rattle.ledger.specs.SizesCode.{SizeRange}
 
@@ -27,13 +27,13 @@ planFor payload number =
 
 -- the queue filled; a burst of long frames; a burst of short ones
 unfoldable pub full : List Move
-full = queues 3 0 (replicate maxWaiting 0) ∷ bursts (planFor longestPayload 1) ∷ bursts (planFor minPayload 2) ∷ []
+full = queueMove 3 0 (replicate maxWaiting 0) ∷ burstMove (planFor longestPayload 1) ∷ burstMove (planFor minPayload 2) ∷ []
 
-pub full-bytes : size (run (step widest) full freshStation .sender .pieces) ≡ maxFlying
+pub full-bytes : size (run (step widest) full freshLedgerStation .sender .pieces) ≡ maxFlying
 unfolding full dataBurst requeue enqueue
 full-bytes = refl
 
-pub full-pieces : length (run (step widest) full freshStation .sender .pieces) ≡ maxPieces
+pub full-pieces : length (run (step widest) full freshLedgerStation .sender .pieces) ≡ maxPieces
 unfolding full dataBurst requeue enqueue
 full-pieces = refl
 
@@ -52,7 +52,7 @@ planFor-fits payload number s p n =
       number = n;
     }
 
-pub full-allowed : Along (step widest) (Allowed widest) full freshStation
+pub full-allowed : Along (step widest) (Allowed widest) full freshLedgerStation
 unfolding full
 full-allowed =
     let l = length-replicate {A = ℕ} maxWaiting 0 in

@@ -23,7 +23,7 @@ use Rattle.ledger.proofs.Kept.{out-occurs, step-sound, step-agree, step
 use Rattle.ledger.proofs.Offsets.{find-some, flying-within}
 use Rattle.ledger.proofs.ShortFrames.{pieces-shortFrames}
 use Rattle.ledger.specs.Sizes.{Sizes}
-use Rattle.ledger.specs.CallsCode.{Move, Allowed, step, moveTold, idle, queues, hears, receives, turns, bursts, freshStation, SoundStation}
+use Rattle.ledger.specs.CallsCode.{Move, Allowed, step, moveTold, idle, queueMove, ackMove, acksMove, turnMove, burstMove, freshLedgerStation, SoundStation}
 use Rattle.ledger.specs.LedgerCode.{frames, freshLedger}
 use Rattle.ledger.specs.SizesCode.{SizeRange}
 
@@ -43,12 +43,12 @@ module _ (z : Sizes) (zr : SizeRange z) (st : Station) (t : Tally) (ss : SoundSt
     (v : st .withdrawn ≡ length (messageBytes (t .withdrawn))) (ag : Agree (st .sender) t) (c : Move) (al : Allowed z c st) where
   call-carries : (c′ : Move) → Sound z (step z c′ st .sender) → Agree (step z c′ st .sender) (feed (moveTold z c′ st) t) → Carry (map byteOf (feed (moveTold z c′ st) t .flown)) (step z c′ st .sender .pieces) (framesTold (moveTold z c′ st))
   call-carries idle so′ ag′ = tt
-  call-carries (queues d l bs) so′ ag′ = tt
-  call-carries (hears r keep) so′ ag′ = tt
-  call-carries (receives xs) so′ ag′ = tt
-  call-carries turns so′ ag′ = tt
-  call-carries (bursts g) so′ ag′ =
-      carry z zr (dataBurst g (st .sender)) (feed (moveTold z (bursts g) st) t) so′ ag′ (dataBurst g (st .sender) .sent)
+  call-carries (queueMove d l bs) so′ ag′ = tt
+  call-carries (ackMove r keep) so′ ag′ = tt
+  call-carries (acksMove xs) so′ ag′ = tt
+  call-carries turnMove so′ ag′ = tt
+  call-carries (burstMove g) so′ ag′ =
+      carry z zr (dataBurst g (st .sender)) (feed (moveTold z (burstMove g) st) t) so′ ag′ (dataBurst g (st .sender) .sent)
       (λ o h. omega (arith, out-occurs z (dataBurst g (st .sender)) so′ o))
 
   pub claim-of : (ms : List Message) → Told ms t → LedgerClaim z ms st t (moveTold z c st) (step z c st .sender)
@@ -132,7 +132,7 @@ module _ (z : Sizes) (zr : SizeRange z) (C I : Type 0) (Given : I → C → Type
         all-agree is (next i c) (feed (says i c) t) (gs .1) (one-sound i c (gs .0) so ok) (re .keeps i c (gs .0) so ok) (one-agree i c t (gs .0) so ok ag)
 
     -- from a state that shows a fresh sender
-    module _ (c : C) (e : view c ≡ freshStation) (ok : Ok c) (is : List I) (gs : Along next Given is c) where
+    module _ (c : C) (e : view c ≡ freshLedgerStation) (ok : Ok c) (is : List I) (gs : Along next Given is c) where
       first-sound : SoundStation z (view c)
       first-sound = rw e (record { sound = fresh-sound z; shows = refl; taken = omega arith })
 

@@ -8,14 +8,14 @@ use mathlib.Core.List.{_++_}
 use native.Mathlib.Omega.{arith}
 use lib.Dec.{eqb, ltb}
 use borrow.Author.Tests.{eqb-true, eqb-false}
-use Rattle.laws.proofs.Picks.{test, and-second}
+use Rattle.laws.proofs.Picks.{by, either, test, and-second}
 use Rattle.limits.specs.Limits.{maxSlots}
 use Rattle.ledger.specs.Reply.{Reply}
-use Rattle.ledger.specs.Ledger.{Sender, dataBurst, oldOffs, newPieces, offs, wholes, hearAck, clearBurst, settles}
+use Rattle.ledger.specs.Ledger.{Sender, dataBurst, oldOffs, newPieces, offs, wholes, hearAck, settleBurst, clearBurst, settles}
 use Rattle.ledger.specs.Plan.{Choice, planOf, parity, parityBits, offered, cap, stored, oneMore, room, roomFrom}
 use Rattle.ledger.specs.Plan.{wholeFrames, burstBitsSent}
 use Rattle.ledger.specs.Station.{Station}
-use Rattle.ledger.specs.CallsCode.{turns, step}
+use Rattle.ledger.specs.CallsCode.{turnMove, step}
 use Rattle.ledger.specs.Sizes.{Sizes}
 use Rattle.ledger.proofs.Planned.{parity-le, sent-bits, wholeFrames-le}
 
@@ -60,6 +60,12 @@ pub not-awaited : (top : ℕ) (r : Reply) (keep : Bool) (s : Sender) → s .awai
 unfolding hearAck
 not-awaited top r keep s e = rw e
 
+-- after an ack none is awaited
+pub ack-ends : (top : ℕ) (r : Reply) (keep : Bool) (s : Sender) → hearAck top r keep s .awaited ≡ false
+unfolding hearAck settleBurst clearBurst
+ack-ends top r keep s =
+    by (λ (x : Sender). x .awaited ≡ false) (s .awaited) (λ _. either (λ (x : Sender). x .awaited ≡ false) (settles r s) _ _ refl refl) (λ w. w)
+
 -- "An unmatched burst number settles nothing": the held list and the unsent rest stay
 pub unmatched-keeps : (top : ℕ) (r : Reply) (keep : Bool) (s : Sender) → settles r s ≡ false →
     (hearAck top r keep s .held ≡ s .held) × (hearAck top r keep s .rest ≡ s .rest)
@@ -67,6 +73,6 @@ unfolding hearAck clearBurst
 unmatched-keeps top r keep s e = rw e (test (s .awaited) (λ d. (rw d, rw d)) (λ d. (rw d, rw d)))
 
 -- and so they do at a turn, `on_ack` with another number
-pub turn-keeps : (z : Sizes) (s : Station) → (step z turns s .sender .held ≡ s .sender .held) × (step z turns s .sender .rest ≡ s .sender .rest)
+pub turn-keeps : (z : Sizes) (s : Station) → (step z turnMove s .sender .held ≡ s .sender .held) × (step z turnMove s .sender .rest ≡ s .sender .rest)
 unfolding clearBurst
 turn-keeps z s = (refl, refl)

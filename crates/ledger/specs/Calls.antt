@@ -2,7 +2,7 @@
 use Prim.Native.Nat.{ℕ, _+_}
 use mathlib.Core.List.{List, [], _∷_, _++_}
 use Rattle.ledger.specs.Queue.{Message}
-use Rattle.ledger.specs.Tally.{Tally, Event, feed, queuedIn}
+use Rattle.ledger.specs.Tally.{Tally, Event, feed, messagesTold}
 
 -- Any sender: its states C, a call's arguments I, and the state that a call leaves. The ledger's own has `Station`, `Move` and `step`
 module _ {C I : Type 0} (next : I → C → C) where
@@ -24,4 +24,4 @@ module _ {C I : Type 0} (next : I → C → C) where
   -- the messages queued, in order
   abbrev pub history : (I → C → Event) → List I → C → List Message
   history told [] c = []
-  history told (i ∷ is) c = queuedIn (told i c) ++ history told is (next i c)
+  history told (i ∷ is) c = messagesTold (told i c) ++ history told is (next i c)

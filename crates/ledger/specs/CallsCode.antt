@@ -18,18 +18,18 @@ pub data Move : Type 0 where
   -- one that leaves the ledger as it is: refused, or a connect
   idle : Move
   -- bytes queued, with a class and a label
-  queues : ℕ → ℕ → List ℕ → Move
+  queueMove : ℕ → ℕ → List ℕ → Move
   -- a short or long ack, and whether what it misses is held then
-  hears : Reply → Bool → Move
+  ackMove : Reply → Bool → Move
   -- the acks of one reception, each so
-  receives : List (Reply × Bool) → Move
+  acksMove : List (Reply × Bool) → Move
   -- a turn
-  turns : Move
+  turnMove : Move
   -- a burst, with the plan that the gear makes of it
-  bursts : Plan → Move
+  burstMove : Plan → Move
 
-abbrev pub freshStation : Station
-freshStation = record { sender = freshLedger; queue = noQueue; withdrawn = 0 }
+abbrev pub freshLedgerStation : Station
+freshLedgerStation = record { sender = freshLedger; queue = noQueue; withdrawn = 0 }
 
 -- acks one after the other
 abbrev pub hearAll : ℕ → List (Reply × Bool) → Sender → Sender
@@ -43,29 +43,29 @@ repliesOf (x ∷ xs) = x .0 ∷ repliesOf xs
 -- the messages that a call leaves
 abbrev pub queueAfter : Move → Station → Queue
 queueAfter idle s = s .queue
-queueAfter (queues c l bs) s = enqueue c l bs (s .queue)
-queueAfter (hears r keep) s = s .queue
-queueAfter (receives xs) s = s .queue
-queueAfter turns s = s .queue
-queueAfter (bursts g) s = flies (size (newPieces g (s .sender))) (s .queue)
+queueAfter (queueMove c l bs) s = enqueue c l bs (s .queue)
+queueAfter (ackMove r keep) s = s .queue
+queueAfter (acksMove xs) s = s .queue
+queueAfter turnMove s = s .queue
+queueAfter (burstMove g) s = flies (size (newPieces g (s .sender))) (s .queue)
 
 -- the bytes withdrawn after it
 abbrev pub withdrawnAfter : Move → Station → ℕ
 withdrawnAfter idle s = s .withdrawn
-withdrawnAfter (queues c l bs) s = s .withdrawn + length (messageBytes (superseded l bs (s .queue)))
-withdrawnAfter (hears r keep) s = s .withdrawn
-withdrawnAfter (receives xs) s = s .withdrawn
-withdrawnAfter turns s = s .withdrawn
-withdrawnAfter (bursts g) s = s .withdrawn
+withdrawnAfter (queueMove c l bs) s = s .withdrawn + length (messageBytes (superseded l bs (s .queue)))
+withdrawnAfter (ackMove r keep) s = s .withdrawn
+withdrawnAfter (acksMove xs) s = s .withdrawn
+withdrawnAfter turnMove s = s .withdrawn
+withdrawnAfter (burstMove g) s = s .withdrawn
 
 -- the sender that it leaves, where q is what waits then
 abbrev pub senderAfter : Sizes → Move → Queue → Sender → Sender
 senderAfter z idle q s = s
-senderAfter z (queues c l bs) q s = requeue (goes q) s
-senderAfter z (hears r keep) q s = hearAck (z .top) r keep s
-senderAfter z (receives xs) q s = hearAll (z .top) xs s
-senderAfter z turns q s = clearBurst s
-senderAfter z (bursts g) q s = dataBurst g s
+senderAfter z (queueMove c l bs) q s = requeue (goes q) s
+senderAfter z (ackMove r keep) q s = hearAck (z .top) r keep s
+senderAfter z (acksMove xs) q s = hearAll (z .top) xs s
+senderAfter z turnMove q s = clearBurst s
+senderAfter z (burstMove g) q s = dataBurst g s
 
 abbrev pub step : Sizes → Move → Station → Station
 step z c s = record { sender = senderAfter z c (queueAfter c s) (s .sender); queue = queueAfter c s; withdrawn = withdrawnAfter c s }
@@ -73,21 +73,21 @@ step z c s = record { sender = senderAfter z c (queueAfter c s) (s .sender); que
 -- what is told of a call: its arguments, and its answer, from the sender that it leaves
 abbrev pub event : Move → Sender → Event
 event idle s = silent
-event (queues c l bs) s = took c l bs
-event (hears r keep) s = reply r
-event (receives xs) s = replies (repliesOf xs)
-event turns s = turn
-event (bursts g) s = went (s .number) (frames (s .pieces) (s .sent))
+event (queueMove c l bs) s = took c l bs
+event (ackMove r keep) s = reply r
+event (acksMove xs) s = replies (repliesOf xs)
+event turnMove s = turn
+event (burstMove g) s = went (s .number) (frames (s .pieces) (s .sent))
 
 -- an accepted call is within the limits: refusals 8, judged after the withdrawal, and 9, and a plan that fits
 abbrev pub Allowed : Sizes → Move → Station → Type 0
 Allowed z idle s = Unit {0}
-Allowed z (queues c l bs) s =
+Allowed z (queueMove c l bs) s =
     (length (goes (enqueue c l bs (s .queue))) ≤ maxWaiting) × (takenOf (s .sender) + s .withdrawn + length bs ≤ maxTaken)
-Allowed z (hears r keep) s = Unit {0}
-Allowed z (receives xs) s = Unit {0}
-Allowed z turns s = Unit {0}
-Allowed z (bursts g) s = Fits z (s .sender) g
+Allowed z (ackMove r keep) s = Unit {0}
+Allowed z (acksMove xs) s = Unit {0}
+Allowed z turnMove s = Unit {0}
+Allowed z (burstMove g) s = Fits z (s .sender) g
 
 abbrev pub moveTold : Sizes → Move → Station → Event
 moveTold z c s = event c (step z c s .sender)

@@ -8,7 +8,7 @@ use lib.ListN.{length, take, drop}
 use Rattle.laws.specs.Lists.{listed}
 use Rattle.limits.specs.Limits.{maxFlying, maxPieces}
 use Rattle.ledger.specs.Ledger.{Piece, Frame, Sender, size, find, offs, heldOffs}
-use Rattle.ledger.specs.Queue.{Message, messageBytes, behind, rest, count, withdraws, ofClass, Ascending, Sublist}
+use Rattle.ledger.specs.Queue.{Message, messageBytes, behind, rest, countThose, withdraws, ofClass, Ascending, Sublist}
 use Rattle.ledger.specs.Station.{Station}
 use Rattle.ledger.specs.Tally.{Tally, waits, Event, byteOf, inFlight, acknowledged, feed, framesTold}
 use Rattle.ledger.specs.Claim.{covering, flyingAt, ackedAt, settledBy}
@@ -27,14 +27,14 @@ pub record LedgerClaim (z : Sizes) (ms : List Message) (st : Station) (t : Tally
   pub sum : t .taken ≡ length (waits t) + inFlight (t .flown) + acknowledged (t .flown) + length (messageBytes (t .withdrawn))
   pub taken : t .taken ≡ length (messageBytes ms)
   pub each : (p : Message → Bool) →
-      count p ms ≡ count p (t .began) + count p (behind (t .queue .begun) (t .queue .messages)) + count p (t .withdrawn)
+      countThose p ms ≡ countThose p (t .began) + countThose p (behind (t .queue .begun) (t .queue .messages)) + countThose p (t .withdrawn)
   pub history : map byteOf (t .flown) ++ rest (t .queue) ≡ messageBytes (t .began)
   pub waiting : st .sender .waiting ≡ waits t
   pub queue : st .queue ≡ t .queue
   pub withdrawn : st .withdrawn ≡ length (messageBytes (t .withdrawn))
   pub order : Ascending 0 (behind (t .queue .begun) (t .queue .messages))
   pub earliest : (c : ℕ) → Sublist (ofClass c (t .began) ++ ofClass c (behind (t .queue .begun) (t .queue .messages))) (ofClass c ms)
-  pub newest : (l : ℕ) → count (λ (m : Message). withdraws l (m .label)) (behind (t .queue .begun) (t .queue .messages)) ≤ 1
+  pub newest : (l : ℕ) → countThose (λ (m : Message). withdraws l (m .label)) (behind (t .queue .begun) (t .queue .messages)) ≤ 1
   pub covers : (o : ℕ) → covering o (st .sender .pieces) ≡ flyingAt o (t .flown)
   pub inPieces : size (st .sender .pieces) ≡ inFlight (t .flown)
   pub ascends : Ascend (z .long) 0 (st .sender .next) (st .sender .pieces)

@@ -13,9 +13,9 @@ abbrev pub flyingByte : Flown → Option ℕ
 flyingByte f = cond (f .acked) none (some (f .byte))
 
 -- what the pieces have in flight at each offset from k up to n
-abbrev pub byOffset : ℕ → ℕ → List Piece → List (Option ℕ)
-byOffset k n [] = replicate (n - k) none
-byOffset k n (p ∷ ps) = replicate (p .off - k) none ++ (map some (p .bytes) ++ byOffset (end p) n ps)
+abbrev pub flyingByOffset : ℕ → ℕ → List Piece → List (Option ℕ)
+flyingByOffset k n [] = replicate (n - k) none
+flyingByOffset k n (p ∷ ps) = replicate (p .off - k) none ++ (map some (p .bytes) ++ flyingByOffset (end p) n ps)
 
 -- pieces of 1 to m bytes that ascend from offset k, don't overlap and end by n
 abbrev pub Ascend : ℕ → ℕ → ℕ → List Piece → Type 0

@@ -155,16 +155,16 @@ pub record Plan : Type 0 where
 
 module _ (g : Plan) where
   -- `at_peer`: `if parity.is_empty() { self.at_peer.clear() }`
-  abbrev pub kept : Sender → List Held
-  kept s = cond (eqb (g .parity) 0) [] (s .held)
+  abbrev pub keptAtPeer : Sender → List Held
+  keptAtPeer s = cond (eqb (g .parity) 0) [] (s .held)
 
   -- "Splitting comes before merging; merging passes over held pieces"
   abbrev pub recut : Sender → List Piece
-  recut s = cond (g .merging) (mergeInflight (heldOffs (kept s)) (g .payload) (split (g .payload) (s .pieces))) (split (g .payload) (s .pieces))
+  recut s = cond (g .merging) (mergeInflight (heldOffs (keptAtPeer s)) (g .payload) (split (g .payload) (s .pieces))) (split (g .payload) (s .pieces))
 
   -- the oldest pieces that go whole: `.take(room)`
   abbrev pub oldOffs : Sender → List ℕ
-  oldOffs s = take (g .room) (unheld (heldOffs (kept s)) (recut s))
+  oldOffs s = take (g .room) (unheld (heldOffs (keptAtPeer s)) (recut s))
 
   abbrev pub newPieces : Sender → List Piece
   newPieces s = chunks (g .room - length (oldOffs s)) (g .payload) (s .next) (s .waiting)
@@ -185,7 +185,7 @@ module _ (g : Plan) where
 
   -- "Parity first, then oldest pieces, then new"
   abbrev pub slots : Sender → List Sent
-  slots s = increments (take (g .parity) (kept s)) ++ wholes (oldOffs s ++ offs (newPieces s))
+  slots s = increments (take (g .parity) (keptAtPeer s)) ++ wholes (oldOffs s ++ offs (newPieces s))
 
   unfoldable pub dataBurst : Sender → Sender
   dataBurst s =
@@ -194,8 +194,8 @@ module _ (g : Plan) where
         next = s .next + size (newPieces s);
         acked = s .acked;
         pieces = recut s ++ newPieces s;
-        held = kept s;
-        rest = drop (g .parity) (kept s);
+        held = keptAtPeer s;
+        rest = drop (g .parity) (keptAtPeer s);
         sent = slots s;
         awaited = true;
         number = g .number;

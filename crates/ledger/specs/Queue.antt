@@ -34,15 +34,15 @@ goes q = messageBytes (q .messages)
 -- ---- a queuing
 
 -- "the lowest class waiting goes, the earliest of it first": behind those of its class and of lower ones, before those of higher ones
-abbrev pub insert : Message → List Message → List Message
-insert m [] = m ∷ []
-insert m (x ∷ xs) = cond (leb (x .class) (m .class)) (x ∷ insert m xs) (m ∷ x ∷ xs)
+abbrev pub insertByClass : Message → List Message → List Message
+insertByClass m [] = m ∷ []
+insertByClass m (x ∷ xs) = cond (leb (x .class) (m .class)) (x ∷ insertByClass m xs) (m ∷ x ∷ xs)
 
 -- "A message once begun is finished": the first, where it has begun, and those behind it
-abbrev pub first : {A : Type 0} → Bool → List A → List A
-first false ms = []
-first true [] = []
-first true (x ∷ xs) = x ∷ []
+abbrev pub firstIfBegun : {A : Type 0} → Bool → List A → List A
+firstIfBegun false ms = []
+firstIfBegun true [] = []
+firstIfBegun true (x ∷ xs) = x ∷ []
 
 abbrev pub behind : {A : Type 0} → Bool → List A → List A
 behind false ms = ms
@@ -72,7 +72,7 @@ enqueue c l [] q = q
 enqueue c l (b ∷ bs) q =
     record {
       begun = q .begun;
-      messages = first (q .begun) (q .messages) ++ insert (record { class = c; label = l; bytes = b ∷ bs }) (staysBy l q);
+      messages = firstIfBegun (q .begun) (q .messages) ++ insertByClass (record { class = c; label = l; bytes = b ∷ bs }) (staysBy l q);
     }
 
 -- the messages that it withdraws; "A queuing of no bytes withdraws nothing"
@@ -104,9 +104,9 @@ begins k q = beginsFrom k (q .begun) (q .messages)
 -- ---- counting
 
 -- how many messages pass a test: two lists that agree on every test hold the same messages
-abbrev pub count : (Message → Bool) → List Message → ℕ
-count p [] = 0
-count p (m ∷ ms) = one (p m) + count p ms
+abbrev pub countThose : (Message → Bool) → List Message → ℕ
+countThose p [] = 0
+countThose p (m ∷ ms) = one (p m) + countThose p ms
 
 -- those of class c, in order
 abbrev pub ofClass : ℕ → List Message → List Message
@@ -115,7 +115,7 @@ ofClass c (m ∷ ms) = cond (eqb (m .class) c) (m ∷ ofClass c ms) (ofClass c m
 
 -- what is left of the begun one
 abbrev pub rest : Queue → List ℕ
-rest q = messageBytes (first (q .begun) (q .messages))
+rest q = messageBytes (firstIfBegun (q .begun) (q .messages))
 
 -- classes ascend from c on
 abbrev pub Ascending : ℕ → List Message → Type 0

@@ -150,13 +150,13 @@ feed turn t = noneOutstanding t
 feed (went n fs) t = sentOut n fs t
 
 -- the message that an event queues
-abbrev pub queuedIn : Event → List Message
-queuedIn silent = []
-queuedIn (took c l bs) = message c l bs
-queuedIn (reply r) = []
-queuedIn (replies rs) = []
-queuedIn turn = []
-queuedIn (went n fs) = []
+abbrev pub messagesTold : Event → List Message
+messagesTold silent = []
+messagesTold (took c l bs) = message c l bs
+messagesTold (reply r) = []
+messagesTold (replies rs) = []
+messagesTold turn = []
+messagesTold (went n fs) = []
 
 -- the frames that it sends
 abbrev pub framesTold : Event → List Frame

@@ -3,8 +3,8 @@ use mathlib.Core.Path.{_≡_, ap, _∙_}
 use mathlib.Core.Bool.{Bool, true}
 use mathlib.Core.List.{List}
 use Prim.Native.Nat.{ℕ}
-use Rattle.numbered.specs.declared.Left.{Left}
-use Rattle.numbered.specs.declared.LeftBurst.{LeftBurst}
+use Rattle.sender.specs.declared.Left.{Left}
+use Rattle.sender.specs.declared.LeftBurst.{LeftBurst}
 use Rattle.queuing.specs.declared.Station.{Station}
 use Rattle.text.specs.Buffer.{appended}
 use Rattle.words.specs.declared.Read.{Read}

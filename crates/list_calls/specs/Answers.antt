@@ -9,11 +9,11 @@ use Rattle.laws.specs.Text.{text}
 use Rattle.config.specs.Durations.{frameBytes}
 use Rattle.config.specs.declared.Profile.{Profile}
 use Rattle.queuing.specs.declared.Station.{Station}
-use Rattle.numbered.specs.declared.Burst.{Burst}
-use Rattle.numbered.specs.declared.LeftBurst.{LeftBurst}
-use Rattle.numbered.specs.declared.Left.{Left}
-use Rattle.numbered.specs.declared.Place.{Place}
-use Rattle.numbered.specs.Numbered.{burstNumber, findNumber}
+use Rattle.sender.specs.declared.Burst.{Burst}
+use Rattle.sender.specs.declared.LeftBurst.{LeftBurst}
+use Rattle.sender.specs.declared.Left.{Left}
+use Rattle.sender.specs.declared.Place.{Place}
+use Rattle.sender.specs.Numbered.{burstNumber, findNumber}
 use Rattle.sender.specs.Calls.{findOf, pieceOf, burstCall}
 use Rattle.text.specs.Buffer.{appended}
 use Rattle.transcript.specs.Answers.{answerLine, burstLines, pieceLine}

@@ -11,11 +11,10 @@ use Rattle.queuing.specs.declared.Station.{Station}
 use Rattle.replies.specs.declared.Heard.{Heard}
 use Rattle.refusals.specs.declared.Reply.{Reply}
 use Rattle.refusals.specs.declared.Reply.the-variants as R
-use Rattle.numbered.specs.declared.Left.{Left}
-use Rattle.numbered.specs.declared.Message.{Message}
-use Rattle.numbered.specs.Numbered.{answerNumber}
-use Rattle.sender.specs.declared.Answer.{Answer}
-use Rattle.sender.specs.Calls.{queueOf, receiveOf, framesOf}
+use Rattle.sender.specs.declared.Left.{Left}
+use Rattle.sender.specs.declared.Message.{Message}
+use Rattle.sender.specs.Numbered.{answerNumber}
+use Rattle.sender.specs.Calls.{Answer, queueOf, receiveOf, framesOf}
 use Rattle.words.specs.declared.Read.{Read}
 use Rattle.words.specs.Words.{hexInto}
 use Rattle.words.specs.Lines.{charsOf, nextWord}

@@ -6,11 +6,11 @@ use call_lines::names::BURST;
 use call_lines::names::Named;
 use call_lines::names::PIECE;
 use config::Profile;
-use numbered::Burst;
-use numbered::Left;
-use numbered::LeftBurst;
-use numbered::Place;
 use queuing::Station;
+use sender::Burst;
+use sender::Left;
+use sender::LeftBurst;
+use sender::Place;
 use words::Read;
 use words::done;
 use words::whole;
@@ -69,7 +69,7 @@ fn burst(p: Profile, s: Station, area: &mut [u8], out: &mut [u8], t: &mut [u8], 
     ensures { λ q. ⌜ (q, (now (area .exit), (now (out .exit), now (t .exit))))
         ≡ burstSaid p s (now (area .entry)) (now (out .entry)) (n, now (t .entry)) ⌝ }
 {
-    let b = numbered::data_burst(p, s, area, out);
+    let b = sender::data_burst(p, s, area, out);
     burst_said(out, t, n, b, frame_size(p, s.sender.gear.level))
 }
 
@@ -112,7 +112,7 @@ fn piece(line: &[u8], r: Read, p: Profile, s: Station, area: &[u8], t: &mut [u8]
     let ok = done(line, q);
     let off = (q.value % 4294967296) as u32;
     let bytes = sender::piece(p, s, area, off);
-    piece_wrote(bytes, ok, t, n, q.value, numbered::find(p, s, area, off))
+    piece_wrote(bytes, ok, t, n, q.value, sender::find(p, s, area, off))
 }
 
 // The answer to a queuing or a reply, by the first word of its line.

@@ -15,16 +15,16 @@ use call_lines::queue_words;
 use call_lines::short_words;
 use call_lines::turn_words;
 use config::Profile;
-use numbered::Left;
-use numbered::Message;
-use numbered::answered;
-use numbered::queued;
 use queuing::Station;
 use reception::Reception;
 use refusals::MAX_RECEIVED;
 use refusals::Reply;
 use replies::Heard;
 use replies::LongAck;
+use sender::Left;
+use sender::Message;
+use sender::answered;
+use sender::queued;
 use words::Read;
 ghost use mathlib.Core.Path.{_≡_};
 ghost use Rattle.list_calls.specs.Asked.{noLine, replyLine, connectAsks, shortAsks, turnAsks, longAsks};
@@ -185,14 +185,14 @@ pub(crate) fn made(q: AskLine, p: Profile, s: Station, area: &mut [u8], bytes: &
         };
     }
     if q.kind == QUEUE {
-        let left = numbered::queue(p, s, area, q.message, bytes);
+        let left = sender::queue(p, s, area, q.message, bytes);
         return queued(s, left);
     }
     if q.kind == FRAMES {
-        let left = numbered::frames(p, s, area, q.heard, q.reception, bytes);
+        let left = sender::frames_rx(p, s, area, q.heard, q.reception, bytes);
         return answered(s, left);
     }
     let reply = q.reply;
-    let left = numbered::reply(p, s, area, q.heard, reply, bytes);
+    let left = sender::sender_rx(p, s, area, q.heard, reply, bytes);
     answered(s, left)
 }

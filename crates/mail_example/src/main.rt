@@ -6,20 +6,20 @@ use config::Profile;
 use defaults::new_profile;
 use io::write_all;
 use libc::STDOUT_FILENO;
-use numbered::Left;
-use numbered::Message;
-use numbered::answered;
-use numbered::connect;
-use numbered::data_burst;
-use numbered::queue;
-use numbered::queued;
-use numbered::short_ack;
 use queuing::Station;
 use queuing::fresh;
 use replies::Ack;
 use replies::ConnAck;
 use replies::Heard;
 use report::ChanClass;
+use sender::Left;
+use sender::Message;
+use sender::answered;
+use sender::connect;
+use sender::data_burst;
+use sender::queue;
+use sender::queued;
+use sender::short_ack;
 
 // Bytes of a long frame, as the default profile has it.
 const FRAME_BYTES: usize = 180;

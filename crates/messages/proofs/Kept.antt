@@ -11,8 +11,8 @@ use borrow.Author.Tests.{leb-true, leb-false, le-leb, lt-ltb, ltb-true, eqb-true
 use Rattle.laws.proofs.Picks.{by, and-first, and-second}
 use Rattle.limits.specs.Limits.{maxClass, maxMessages}
 use Rattle.messages.specs.declared.Messages.{Messages}
-use Rattle.messages.specs.Messages.{noMessages, Entry, entriesIn, total, entriesOk, messagesOk, storeEntries, withWithdrawn, begunIn, withdrawnIn}
-use Rattle.messages.specs.MessagesCode.{insertRow, goIn, stayIn, withdrawn, Line, flownFrom, flown}
+use Rattle.messages.specs.Messages.{noMessages, Entry, entriesIn, totalLeft, entriesOk, messagesOk, storeEntries, withWithdrawn, begunIn, withdrawnIn}
+use Rattle.messages.specs.MessagesCode.{insertRow, goIn, stayIn, withdrawn, EntryQueue, flownFrom, flown}
 use Rattle.messages.specs.SoundCode.{Each, SoundMessages, Sized}
 use Rattle.messages.proofs.Entries.{length-entries, length-insert}
 use Rattle.messages.proofs.Stored.{entries-stored, entries-withdrawn, sized-stored}
@@ -49,16 +49,16 @@ pub sized-none : Sized noMessages
 sized-none = let e = length-replicate {A = ℕ} maxMessages 0 in record { left = e; class = e; label = e }
 
 pub sound-none : SoundMessages noMessages 0
-unfolding total
+unfolding totalLeft
 sound-none = record { few = omega arith; each = tt; sum = refl }
 
 -- ---- entries that are stored
 
-sound-stored : (m : Messages) → Sized m → (b : Bool) (es : List Entry) (w : ℕ) → length es ≤ maxMessages → Each es → total es ≡ w → SoundMessages (storeEntries b es m) w
+sound-stored : (m : Messages) → Sized m → (b : Bool) (es : List Entry) (w : ℕ) → length es ≤ maxMessages → Each es → totalLeft es ≡ w → SoundMessages (storeEntries b es m) w
 unfolding storeEntries
 sound-stored m z b es w few each sum =
     let e = sym (entries-stored m z b es few) in
-    record { few = few; each = subst Each e each; sum = ap total (sym e) ∙ sum }
+    record { few = few; each = subst Each e each; sum = ap totalLeft (sym e) ∙ sum }
 
 -- ---- a withdrawal
 
@@ -66,11 +66,11 @@ sized-with : (k : ℕ) (m : Messages) → Sized m → Sized (withWithdrawn k m)
 sized-with k m z = record { left = z .left; class = z .class; label = z .label }
 
 -- what a queuing withdraws is among the messages
-pub gone-within : (m : Messages) (w l n : ℕ) → SoundMessages m w → (length (withdrawnIn l n m) ≤ m .n) × (total (withdrawnIn l n m) ≤ w)
-unfolding withdrawnIn total
+pub gone-within : (m : Messages) (w l n : ℕ) → SoundMessages m w → (length (withdrawnIn l n m) ≤ m .n) × (totalLeft (withdrawnIn l n m) ≤ w)
+unfolding withdrawnIn totalLeft
 gone-within m w l n s =
     let i = stay-go l (begunIn m) (entriesIn m) in
-    by (λ (xs : List Entry). (length xs ≤ m .n) × (total xs ≤ w)) (eqb n 0) (λ _. (omega arith, omega arith))
+    by (λ (xs : List Entry). (length xs ≤ m .n) × (totalLeft xs ≤ w)) (eqb n 0) (λ _. (omega arith, omega arith))
     (λ _. (omega (arith, i .0, length-entries m 0 (m .n)), omega (arith, i .1, s .sum)))
 
 -- A WITHDRAWAL KEEPS A SOUND RECORD
@@ -81,19 +81,19 @@ module _ (m : Messages) (w l : ℕ) (z : Sized m) (s : SoundMessages m w) where
   few-stay : length stays ≤ maxMessages
   few-stay = omega (arith, stay-go l (begunIn m) (entriesIn m) .0, length-entries m 0 (m .n), s .few)
 
-  pub withdraw-sound : SoundMessages (withdrawn l m) (total stays)
+  pub withdraw-sound : SoundMessages (withdrawn l m) (totalLeft stays)
   unfolding withdrawn
   withdraw-sound =
-      let k = m .withdrawn + total (goIn l (begunIn m) (entriesIn m)) in
+      let k = m .withdrawn + totalLeft (goIn l (begunIn m) (entriesIn m)) in
       let x = storeEntries (begunIn m) stays m in
-      let i = sound-stored m z (begunIn m) stays (total stays) few-stay (each-stay l (begunIn m) (entriesIn m) (s .each)) refl in
+      let i = sound-stored m z (begunIn m) stays (totalLeft stays) few-stay (each-stay l (begunIn m) (entriesIn m) (s .each)) refl in
       let e = sym (entries-withdrawn k x) in
-      record { few = i .few; each = subst Each e (i .each); sum = ap total (sym e) ∙ i .sum }
+      record { few = i .few; each = subst Each e (i .each); sum = ap totalLeft (sym e) ∙ i .sum }
 
   pub withdraw-sized : Sized (withdrawn l m)
   unfolding withdrawn
   withdraw-sized =
-      sized-with (m .withdrawn + total (goIn l (begunIn m) (entriesIn m))) (storeEntries (begunIn m) stays m) (sized-stored m z (begunIn m) stays)
+      sized-with (m .withdrawn + totalLeft (goIn l (begunIn m) (entriesIn m))) (storeEntries (begunIn m) stays m) (sized-stored m z (begunIn m) stays)
 
   pub withdraw-rows : withdrawn l m .n ≡ length stays
   unfolding withdrawn storeEntries
@@ -103,16 +103,16 @@ module _ (m : Messages) (w l : ℕ) (z : Sized m) (s : SoundMessages m w) where
 
 -- of a list that is no longer than n, and has w bytes
 abbrev Left : ℕ → ℕ → List Entry → Type 0
-Left n w es = (length es ≤ n) × Each es × (total es ≡ w)
+Left n w es = (length es ≤ n) × Each es × (totalLeft es ≡ w)
 
-flown-left : (k : ℕ) (b : Bool) (es : List Entry) → Each es → Left (length es) (total es - k) (flownFrom k b es .entries)
-unfolding total
+flown-left : (k : ℕ) (b : Bool) (es : List Entry) → Each es → Left (length es) (totalLeft es - k) (flownFrom k b es .entries)
+unfolding totalLeft
 flown-left k b [] a = (omega arith, tt, omega arith)
 flown-left k b (e ∷ es) a =
-    by (λ (x : Line). Left (suc (length es)) (e .left + total es - k) (x .entries)) (eqb k 0)
+    by (λ (x : EntryQueue). Left (suc (length es)) (e .left + totalLeft es - k) (x .entries)) (eqb k 0)
     (λ d. let z = eqb-true k 0 d in (omega arith, a, omega arith))
     (λ d.
-    by (λ (x : Line). Left (suc (length es)) (e .left + total es - k) (x .entries)) (leb (e .left) k)
+    by (λ (x : EntryQueue). Left (suc (length es)) (e .left + totalLeft es - k) (x .entries)) (leb (e .left) k)
     (λ f.
     let h = leb-true (e .left) k f in
     let i = flown-left (k - e .left) false es (a .2) in
@@ -130,8 +130,8 @@ fly-sound m w k z s =
 -- ---- a queuing
 
 module _ (e : Entry) where
-  total-insert : (row : ℕ) (es : List Entry) → total (insertRow row e es) ≡ total es + e .left
-  unfolding total
+  total-insert : (row : ℕ) (es : List Entry) → totalLeft (insertRow row e es) ≡ totalLeft es + e .left
+  unfolding totalLeft
   total-insert zero es = omega arith
   total-insert (suc row) [] = omega arith
   total-insert (suc row) (x ∷ es) = omega (arith, total-insert row es)

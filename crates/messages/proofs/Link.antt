@@ -14,12 +14,12 @@ use Rattle.laws.specs.Bytes.{overwrite}
 use Rattle.laws.proofs.Bytes.{over-over}
 use Rattle.laws.proofs.Picks.{by, by₂, and-second}
 use Rattle.limits.specs.Limits.{maxMessages}
-use Rattle.ledger.specs.Queue.{Message, Queue, messageBytes, goes, insert, first, behind, those, withdraws, withdrawnBy, enqueue, superseded, fliesFrom, flies}
+use Rattle.ledger.specs.Queue.{Message, Queue, messageBytes, goes, insertByClass, firstIfBegun, behind, those, withdraws, withdrawnBy, enqueue, superseded, fliesFrom, flies}
 use Rattle.ledger.proofs.Queue.{Ready, goes-flies, ready-enqueue, ready-flies}
 use Rattle.messages.specs.declared.Messages.{Messages}
 use Rattle.messages.specs.declared.Position.{Position}
-use Rattle.messages.specs.Messages.{Entry, entryOf, entriesIn, storeEntries, withWithdrawn, total, begunIn, withdrawnIn, messagesOf, queueIn, entriesOf, storeQueue}
-use Rattle.messages.specs.MessagesCode.{placeIn, insertRow, goIn, stayIn, withdrawn, stayQueue, putQueue, Line, flownFrom, flown, storeLine}
+use Rattle.messages.specs.Messages.{Entry, entryOf, entriesIn, storeEntries, withWithdrawn, totalLeft, begunIn, withdrawnIn, messagesOf, queueIn, entriesOf, storeQueue}
+use Rattle.messages.specs.MessagesCode.{placeIn, insertRow, goIn, stayIn, withdrawn, stayQueue, putQueue, EntryQueue, flownFrom, flown, storeEntryQueue}
 use Rattle.messages.specs.SoundCode.{Sized}
 use Rattle.messages.proofs.Entries.{length-entries, length-insert, with-begun}
 use Rattle.messages.proofs.Placed.{insertEntry, placed, row-placed}
@@ -28,15 +28,15 @@ use Rattle.messages.proofs.Withdrawn.{stay-go, gone-in}
 
 -- ---- entries cut out of bytes
 
-entries-messages : (es : List Entry) (w : List ℕ) → total es ≤ length w → entriesOf (messagesOf es w) ≡ es
-unfolding total
+entries-messages : (es : List Entry) (w : List ℕ) → totalLeft es ≤ length w → entriesOf (messagesOf es w) ≡ es
+unfolding totalLeft
 entries-messages [] w h = refl
 entries-messages (e ∷ es) w h =
     ap₂ (λ (x : Entry) (xs : List Entry). x ∷ xs) (ap (λ (k : ℕ). entryOf k (e .class) (e .label)) (length-take-le (e .left) w (omega arith)))
     (entries-messages es (drop (e .left) w) (omega (arith, length-drop (e .left) w)))
 
-bytes-messages : (es : List Entry) (w : List ℕ) → total es ≡ length w → messageBytes (messagesOf es w) ≡ w
-unfolding total
+bytes-messages : (es : List Entry) (w : List ℕ) → totalLeft es ≡ length w → messageBytes (messagesOf es w) ≡ w
+unfolding totalLeft
 bytes-messages [] [] h = refl
 bytes-messages [] (x ∷ w) h = absurd (omega arith)
 bytes-messages (e ∷ es) w h = ap (λ (r : List ℕ). take (e .left) w ++ r) (bytes-messages es (drop (e .left) w) (omega (arith, length-drop (e .left) w))) ∙ take-append-drop (e .left) w
@@ -52,8 +52,8 @@ drop-take (suc k) (suc n) [] h = sym (take-none (suc n - suc k))
 drop-take (suc k) (suc n) (x ∷ w) h = drop-take k n w (omega arith) ∙ ap (λ (j : ℕ). take j (drop k w)) (let e : n - k ≡ suc n - suc k = omega arith in e)
 
 -- bytes behind those of the entries don't matter
-messages-take : (es : List Entry) (n : ℕ) (w : List ℕ) → total es ≤ n → messagesOf es (take n w) ≡ messagesOf es w
-unfolding total
+messages-take : (es : List Entry) (n : ℕ) (w : List ℕ) → totalLeft es ≤ n → messagesOf es (take n w) ≡ messagesOf es w
+unfolding totalLeft
 messages-take [] n w h = refl
 messages-take (e ∷ es) n w h =
     ap₂ (λ (bs : List ℕ) (ms : List Message). record { class = e .class; label = e .label; bytes = bs } ∷ ms) (take-take (e .left) n w (omega arith))
@@ -70,12 +70,12 @@ messages-entries (x ∷ ms) =
 abbrev entry : Message → Entry
 entry x = entryOf (length (x .bytes)) (x .class) (x .label)
 
-entries-insert : (x : Message) (ms : List Message) → entriesOf (insert x ms) ≡ insertEntry (entry x) (entriesOf ms)
+entries-insert : (x : Message) (ms : List Message) → entriesOf (insertByClass x ms) ≡ insertEntry (entry x) (entriesOf ms)
 entries-insert x [] = refl
 entries-insert x (m ∷ ms) =
     by₂ (λ (xs : List Message) (es : List Entry). entriesOf xs ≡ es) (leb (m .class) (x .class)) (λ _. ap (λ (es : List Entry). entry m ∷ es) (entries-insert x ms)) (λ _. refl)
 
-entries-placed : (x : Message) (b : Bool) (ms : List Message) → entriesOf (first b ms ++ insert x (behind b ms)) ≡ placed (entry x) b (entriesOf ms)
+entries-placed : (x : Message) (b : Bool) (ms : List Message) → entriesOf (firstIfBegun b ms ++ insertByClass x (behind b ms)) ≡ placed (entry x) b (entriesOf ms)
 entries-placed x false ms = entries-insert x ms
 entries-placed x true [] = refl
 entries-placed x true (m ∷ ms) = ap (λ (es : List Entry). entry m ∷ es) (entries-insert x ms)
@@ -98,28 +98,28 @@ bytes-past : (bs u v pre : List ℕ) (w : List ℕ) (k : ℕ) → (pre ++ u) ++ 
 bytes-past bs u v pre w k e = sym (append-assoc pre u v) ∙ e ∙ ap (putBytes k bs) (append-assoc pre u w)
 
 bytes-goes : (x : Message) (ms : List Message) (pre : List ℕ) (r y : ℕ) (b : Bool) → length pre ≡ y →
-    pre ++ messageBytes (first b ms ++ insert x (behind b ms)) ≡ putBytes (found x r y b ms .bytes) (x .bytes) (pre ++ messageBytes ms)
+    pre ++ messageBytes (firstIfBegun b ms ++ insertByClass x (behind b ms)) ≡ putBytes (found x r y b ms .bytes) (x .bytes) (pre ++ messageBytes ms)
 unfolding placeIn
 bytes-goes x [] pre r y true e = put-bytes pre [] (x .bytes) y e
 bytes-goes x [] pre r y false e = put-bytes pre [] (x .bytes) y e
 bytes-goes x (m ∷ ms) pre r y true e =
-    bytes-past (x .bytes) (m .bytes) (messageBytes (insert x ms)) pre (messageBytes ms) (past x m ms r y .bytes) (bytes-goes x ms (pre ++ m .bytes) (r + 1) (y + length (m .bytes)) false (omega (arith, length-append pre (m .bytes), e)))
+    bytes-past (x .bytes) (m .bytes) (messageBytes (insertByClass x ms)) pre (messageBytes ms) (past x m ms r y .bytes) (bytes-goes x ms (pre ++ m .bytes) (r + 1) (y + length (m .bytes)) false (omega (arith, length-append pre (m .bytes), e)))
 bytes-goes x (m ∷ ms) pre r y false e =
     by₂ (λ (p : Position) (xs : List Message). pre ++ messageBytes xs ≡ putBytes (p .bytes) (x .bytes) (pre ++ (m .bytes ++ messageBytes ms))) (leb (m .class) (x .class))
-    (λ _. bytes-past (x .bytes) (m .bytes) (messageBytes (insert x ms)) pre (messageBytes ms) (past x m ms r y .bytes) (bytes-goes x ms (pre ++ m .bytes) (r + 1) (y + length (m .bytes)) false (omega (arith, length-append pre (m .bytes), e))))
+    (λ _. bytes-past (x .bytes) (m .bytes) (messageBytes (insertByClass x ms)) pre (messageBytes ms) (past x m ms r y .bytes) (bytes-goes x ms (pre ++ m .bytes) (r + 1) (y + length (m .bytes)) false (omega (arith, length-append pre (m .bytes), e))))
     (λ _. put-bytes pre (m .bytes ++ messageBytes ms) (x .bytes) y e)
 
 -- ---- a burst
 
-abbrev lineOf : Queue → Line
+abbrev lineOf : Queue → EntryQueue
 lineOf q = record { begun = q .begun; entries = entriesOf (q .messages) }
 
 line-flies : (k : ℕ) (b : Bool) (ms : List Message) → lineOf (fliesFrom k b ms) ≡ flownFrom k b (entriesOf ms)
 line-flies k b [] = refl
 line-flies k b (m ∷ ms) =
-    by₂ (λ (q : Queue) (x : Line). lineOf q ≡ x) (eqb k 0) (λ _. refl)
+    by₂ (λ (q : Queue) (x : EntryQueue). lineOf q ≡ x) (eqb k 0) (λ _. refl)
     (λ _.
-    by₂ (λ (q : Queue) (x : Line). lineOf q ≡ x) (leb (length (m .bytes)) k) (λ _. line-flies (k - length (m .bytes)) false ms)
+    by₂ (λ (q : Queue) (x : EntryQueue). lineOf q ≡ x) (leb (length (m .bytes)) k) (λ _. line-flies (k - length (m .bytes)) false ms)
     (λ _. ap (λ (j : ℕ). record { begun = true; entries = entryOf j (m .class) (m .label) ∷ entriesOf ms }) (length-drop k (m .bytes))))
 
 length-flies : (k : ℕ) (b : Bool) (ms : List Message) → length (fliesFrom k b ms .messages) ≤ length ms
@@ -141,13 +141,13 @@ entries-go l false ms = entries-those (withdraws l) ms
 entries-go l true [] = refl
 entries-go l true (m ∷ ms) = entries-those (withdraws l) ms
 
-entries-stay : (l : ℕ) (b : Bool) (ms : List Message) → entriesOf (first b ms ++ those (λ (x : Message). not (withdraws l (x .label))) (behind b ms)) ≡ stayIn l b (entriesOf ms)
+entries-stay : (l : ℕ) (b : Bool) (ms : List Message) → entriesOf (firstIfBegun b ms ++ those (λ (x : Message). not (withdraws l (x .label))) (behind b ms)) ≡ stayIn l b (entriesOf ms)
 entries-stay l false ms = entries-those (λ (k : ℕ). not (withdraws l k)) ms
 entries-stay l true [] = refl
 entries-stay l true (m ∷ ms) = ap (λ (es : List Entry). entry m ∷ es) (entries-those (λ (k : ℕ). not (withdraws l k)) ms)
 
-total-entries : (ms : List Message) → total (entriesOf ms) ≡ length (messageBytes ms)
-unfolding total
+total-entries : (ms : List Message) → totalLeft (entriesOf ms) ≡ length (messageBytes ms)
+unfolding totalLeft
 total-entries [] = refl
 total-entries (m ∷ ms) = omega (arith, total-entries ms, length-append (m .bytes) (messageBytes ms))
 
@@ -176,7 +176,7 @@ module _ (c l b : ℕ) (bs : List ℕ) (q : Queue) where
   pub enqueue-step : l ≡ 0 → enqueue c l (b ∷ bs) q ≡ putQueue new q
   unfolding enqueue
   enqueue-step e =
-      ap (λ (ms : List Message). record { begun = q .begun; messages = first (q .begun) (q .messages) ++ insert new ms }) (stay-all l e (behind (q .begun) (q .messages)))
+      ap (λ (ms : List Message). record { begun = q .begun; messages = firstIfBegun (q .begun) (q .messages) ++ insertByClass new ms }) (stay-all l e (behind (q .begun) (q .messages)))
 
 -- ---- the record and the waiting bytes
 
@@ -206,7 +206,7 @@ queue-stored q m s r h =
     ap₂ (λ (b : Bool) (ms : List Message). record { begun = b; messages = ms }) (begun-some (q .begun) (length es) (λ f. omega (arith, n, r f)))
     (ap (λ (xs : List Entry). messagesOf xs (goes q)) (entries-stored m s (q .begun) es (omega (arith, n))) ∙ messages-entries (q .messages))
 
-pub queue-take : (m : Messages) (n : ℕ) (w : List ℕ) → total (entriesIn m) ≤ n → queueIn m (take n w) ≡ queueIn m w
+pub queue-take : (m : Messages) (n : ℕ) (w : List ℕ) → totalLeft (entriesIn m) ≤ n → queueIn m (take n w) ≡ queueIn m w
 unfolding queueIn
 queue-take m n w h = ap (λ (ms : List Message). record { begun = begunIn m; messages = ms }) (messages-take (entriesIn m) n w h)
 
@@ -242,7 +242,7 @@ store-twice k p q m h =
       begun = q .begun;
     }
 
-module _ (m : Messages) (w : List ℕ) (sum : total (entriesIn m) ≡ length w) where
+module _ (m : Messages) (w : List ℕ) (sum : totalLeft (entriesIn m) ≡ length w) where
   -- the waiting bytes are the queue's, in its order
   pub shown : goes (queueIn m w) ≡ w
   unfolding queueIn
@@ -263,7 +263,7 @@ module _ (m : Messages) (w : List ℕ) (sum : total (entriesIn m) ≡ length w) 
     same : found x 0 0 (begunIn m) (queueIn m w .messages) ≡ p
     same = ap (placeIn (x .class) 0 0 (begunIn m)) entries-shown ∙ sym at-begun
 
-    -- A MESSAGE PUT IN: its bytes go in where `place` says, and `insert` there stores what the ledger's queue then is
+    -- A MESSAGE PUT IN: its bytes go in where `place` says, and `messages::insert` there stores what the ledger's queue then is
     pub goes-place : goes (putQueue x (queueIn m w)) ≡ putBytes (p .bytes) (x .bytes) w
     unfolding queueIn
     goes-place =
@@ -302,17 +302,17 @@ module _ (m : Messages) (w : List ℕ) (sum : total (entriesIn m) ≡ length w) 
     unfolding queueIn
     stay-shown = entries-stay l (begunIn m) (q .messages) ∙ ap (stayIn l (begunIn m)) entries-shown
 
-    bytes-gone : total (goIn l (begunIn m) (entriesIn m)) ≡ length (messageBytes (withdrawnBy l q))
-    bytes-gone = ap total (sym go-shown) ∙ total-entries (withdrawnBy l q)
+    bytes-gone : totalLeft (goIn l (begunIn m) (entriesIn m)) ≡ length (messageBytes (withdrawnBy l q))
+    bytes-gone = ap totalLeft (sym go-shown) ∙ total-entries (withdrawnBy l q)
 
     -- how many bytes a queuing supersedes
-    pub superseded-bytes : (bs : List ℕ) → length (messageBytes (superseded l bs q)) ≡ total (withdrawnIn l (length bs) m)
-    unfolding superseded withdrawnIn total
+    pub superseded-bytes : (bs : List ℕ) → length (messageBytes (superseded l bs q)) ≡ totalLeft (withdrawnIn l (length bs) m)
+    unfolding superseded withdrawnIn totalLeft
     superseded-bytes [] = refl
-    superseded-bytes (b ∷ bs) = sym (ap total (gone-in l (length (b ∷ bs)) m (omega arith)) ∙ bytes-gone)
+    superseded-bytes (b ∷ bs) = sym (ap totalLeft (gone-in l (length (b ∷ bs)) m (omega arith)) ∙ bytes-gone)
 
-    pub bytes-stay : total (stayIn l (begunIn m) (entriesIn m)) ≡ length (goes (stayQueue l q))
-    bytes-stay = ap total (sym stay-shown) ∙ total-entries (stayQueue l q .messages)
+    pub bytes-stay : totalLeft (stayIn l (begunIn m) (entriesIn m)) ≡ length (goes (stayQueue l q))
+    bytes-stay = ap totalLeft (sym stay-shown) ∙ total-entries (stayQueue l q .messages)
 
     rows-stay : length (stayIn l (begunIn m) (entriesIn m)) ≡ length (stayQueue l q .messages)
     rows-stay = ap length (sym stay-shown) ∙ length-map (stayQueue l q .messages) entry
@@ -330,10 +330,10 @@ module _ (m : Messages) (w : List ℕ) (sum : total (entriesIn m) ≡ length w) 
           ap (λ (x : Messages). queueIn x (goes (stayQueue l q))) withdraw-stores ∙ queue-with sums (storeQueue (stayQueue l q) m) (goes (stayQueue l q))
           ∙ queue-stored (stayQueue l q) m z (ready-stay l q (ready-shown m w)) few-stay
 
-      pub withdraw-sum : total (entriesIn (withdrawn l m)) ≡ length (goes (stayQueue l q))
+      pub withdraw-sum : totalLeft (entriesIn (withdrawn l m)) ≡ length (goes (stayQueue l q))
       unfolding withdrawn
       withdraw-sum =
-          ap total
+          ap totalLeft
           (entries-withdrawn _ (storeEntries (begunIn m) (stayIn l (begunIn m) (entriesIn m)) m)
           ∙ entries-stored m z (begunIn m) (stayIn l (begunIn m) (entriesIn m)) (omega (arith, rows-stay, few-stay)))
           ∙ bytes-stay
@@ -345,7 +345,7 @@ module _ (m : Messages) (w : List ℕ) (sum : total (entriesIn m) ≡ length w) 
   pub fly-stores : (k : ℕ) → flown k m ≡ storeQueue (flies k (queueIn m w)) m
   unfolding flown flies queueIn storeQueue
   fly-stores k =
-      ap (λ (x : Line). storeLine x m)
+      ap (λ (x : EntryQueue). storeEntryQueue x m)
       (with-begun (flownFrom k) refl m ∙ ap (flownFrom k (begunIn m)) (sym entries-shown) ∙ sym (line-flies k (begunIn m) (queueIn m w .messages)))
 
   pub fly-shows : Sized m → m .n ≤ maxMessages → (k : ℕ) → queueIn (flown k m) (drop k w) ≡ flies k (queueIn m w)
@@ -357,7 +357,7 @@ module _ (m : Messages) (w : List ℕ) (sum : total (entriesIn m) ≡ length w) 
       ap₂ queueIn (fly-stores k) (sym (goes-fly k)) ∙ queue-stored q m z (ready-flies k (queueIn m w)) few
 
 -- A MESSAGE PUT IN AFTER A WITHDRAWAL
-module _ (m : Messages) (w : List ℕ) (sum : total (entriesIn m) ≡ length w) (z : Sized m) (most : m .n ≤ maxMessages) (l : ℕ) (x : Message) where
+module _ (m : Messages) (w : List ℕ) (sum : totalLeft (entriesIn m) ≡ length w) (z : Sized m) (most : m .n ≤ maxMessages) (l : ℕ) (x : Message) where
   -- the queue where those that label l withdraws are gone, and the record that holds it
   abbrev stay : Queue
   stay = stayQueue l (queueIn m w)
@@ -371,7 +371,7 @@ module _ (m : Messages) (w : List ℕ) (sum : total (entriesIn m) ≡ length w) 
   shows : queueIn left (goes stay) ≡ stay
   shows = withdraw-shows m w sum l z most
 
-  now-sum : total (entriesIn left) ≡ length (goes stay)
+  now-sum : totalLeft (entriesIn left) ≡ length (goes stay)
   now-sum = withdraw-sum m w sum l z most
 
   pub goes-again : goes (putQueue x stay) ≡ putBytes (spot .bytes) (x .bytes) (goes stay)

@@ -9,10 +9,10 @@ use lib.ListN.{length, length-append}
 use lib.Seq.{take-at, drop-at}
 use lib.Dec.{leb}
 use Rattle.laws.proofs.Picks.{by, by₂}
-use Rattle.ledger.specs.Queue.{first, behind}
+use Rattle.ledger.specs.Queue.{firstIfBegun, behind}
 use Rattle.messages.specs.declared.Messages.{Messages}
 use Rattle.messages.specs.declared.Position.{Position}
-use Rattle.messages.specs.Messages.{Entry, entriesIn, total}
+use Rattle.messages.specs.Messages.{Entry, entriesIn, totalLeft}
 use Rattle.messages.specs.MessagesCode.{placeIn, insertRow}
 use Rattle.messages.specs.SoundCode.{SoundMessages}
 use Rattle.messages.proofs.Entries.{length-entries}
@@ -23,7 +23,7 @@ insertEntry e [] = e ∷ []
 insertEntry e (x ∷ xs) = cond (leb (x .class) (e .class)) (x ∷ insertEntry e xs) (e ∷ x ∷ xs)
 
 abbrev pub placed : Entry → Bool → List Entry → List Entry
-placed e b es = first b es ++ insertEntry e (behind b es)
+placed e b es = firstIfBegun b es ++ insertEntry e (behind b es)
 
 put-at : (pre es : List Entry) (r : ℕ) (e : Entry) → length pre ≡ r → insertRow r e (pre ++ es) ≡ pre ++ (e ∷ es)
 put-at pre es r e h = ap₂ (λ (u v : List Entry). u ++ (e ∷ v)) (take-at pre es r h) (drop-at pre es r h)
@@ -47,11 +47,11 @@ row-placed e (x ∷ es) pre r y false h =
 
 -- ---- within the messages
 
-within : (c r y : ℕ) (b : Bool) (es : List Entry) → (placeIn c r y b es .row ≤ r + length es) × (placeIn c r y b es .bytes ≤ y + total es)
-unfolding placeIn total
+within : (c r y : ℕ) (b : Bool) (es : List Entry) → (placeIn c r y b es .row ≤ r + length es) × (placeIn c r y b es .bytes ≤ y + totalLeft es)
+unfolding placeIn totalLeft
 within c r y b [] = (omega arith, omega arith)
 within c r y b (e ∷ es) =
-    by (λ (p : Position). (p .row ≤ r + suc (length es)) × (p .bytes ≤ y + (e .left + total es))) (b || leb (e .class) c)
+    by (λ (p : Position). (p .row ≤ r + suc (length es)) × (p .bytes ≤ y + (e .left + totalLeft es))) (b || leb (e .class) c)
     (λ _. let i = within c (r + 1) (y + e .left) false es in (omega (arith, i .0), omega (arith, i .1))) (λ _. (omega arith, omega arith))
 
 pub place-within : (m : Messages) (w c : ℕ) → SoundMessages m w → (placeIn c 0 0 (m .begun) (entriesIn m) .row ≤ m .n) × (placeIn c 0 0 (m .begun) (entriesIn m) .bytes ≤ w)

@@ -10,7 +10,7 @@ use lib.Dec.{leb, ltb, eqb}
 use borrow.Author.Tests.{le-leb, lt-leb, eq-eqb, ne-eqb, ltb-true, ltb-false}
 use Rattle.limits.specs.Limits.{maxClass}
 use Rattle.messages.specs.declared.Messages.{Messages}
-use Rattle.messages.specs.Messages.{Entry, entriesFrom, total, entriesOk}
+use Rattle.messages.specs.Messages.{Entry, entriesFrom, totalLeft, entriesOk}
 use Rattle.messages.specs.MessagesCode.{placeIn, goneIn}
 use Rattle.messages.proofs.Entries.{entries-step, entries-none}
 
@@ -31,9 +31,9 @@ module _ (m : Messages) (n i : ℕ) (h : i < n) where
   unfolding entriesOk
   ok-turn = ap entriesOk (entries-step m i n h)
 
-  pub total-turn : total (rest m n i) ≡ l + total (rest m n (i + 1))
-  unfolding total
-  total-turn = ap total (entries-step m i n h)
+  pub total-turn : totalLeft (rest m n i) ≡ l + totalLeft (rest m n (i + 1))
+  unfolding totalLeft
+  total-turn = ap totalLeft (entries-step m i n h)
 
   place-turn : (d bytes : ℕ) (b : Bool) → placeIn d i bytes b (rest m n i) ≡ cond (b || leb c d) (placeIn d (i + 1) (bytes + l) false (rest m n (i + 1))) (record { row = i; bytes = bytes })
   unfolding placeIn
@@ -69,9 +69,9 @@ module _ (m : Messages) (n i : ℕ) (h : n ≤ i) where
   unfolding entriesOk
   ok-end = ap entriesOk (entries-none m i n h)
 
-  pub total-end : total (rest m n i) ≡ 0
-  unfolding total
-  total-end = ap total (entries-none m i n h)
+  pub total-end : totalLeft (rest m n i) ≡ 0
+  unfolding totalLeft
+  total-end = ap totalLeft (entries-none m i n h)
 
   pub place-end : (d bytes : ℕ) (b : Bool) → placeIn d i bytes b (rest m n i) ≡ record { row = i; bytes = bytes }
   unfolding placeIn

@@ -15,7 +15,7 @@ use Rattle.laws.proofs.Picks.{by, test}
 use Rattle.ledger.specs.Queue.{behind, those, withdraws}
 use Rattle.messages.specs.declared.Messages.{Messages}
 use Rattle.messages.specs.declared.Withdrawal.{Withdrawal}
-use Rattle.messages.specs.Messages.{Entry, entriesIn, lefts, classes, labels, total, begunIn, storeEntries, withWithdrawn, withdrawnIn}
+use Rattle.messages.specs.Messages.{Entry, entriesIn, lefts, classes, labels, totalLeft, begunIn, storeEntries, withWithdrawn, withdrawnIn}
 use Rattle.messages.specs.MessagesCode.{supersededIn, goIn, stayIn, withdrawn}
 use Rattle.messages.specs.SoundCode.{Each}
 use Rattle.messages.proofs.Entries.{withRows, stored, with-begun}
@@ -64,7 +64,7 @@ leaves out to l b es f =
       class = overwrite (out .class) to (classes (stayIn l b es));
       label = overwrite (out .label) to (labels (stayIn l b es));
       n = to + length (stayIn l b es);
-      withdrawn = out .withdrawn + total (goIn l b es);
+      withdrawn = out .withdrawn + totalLeft (goIn l b es);
       begun = f;
     }
 
@@ -82,7 +82,7 @@ leaves-start l m =
       class = overwrite (m .class) 0 (classes xs);
       label = overwrite (m .label) 0 (labels xs);
       n = n;
-      withdrawn = m .withdrawn + total (goIn l (begunIn m) (entriesIn m));
+      withdrawn = m .withdrawn + totalLeft (goIn l (begunIn m) (entriesIn m));
       begun = begunIn m;
     })
     (sym (zero-add (length xs)))
@@ -94,9 +94,9 @@ more m k = withWithdrawn (m .withdrawn + k) m
 
 module _ (out : Messages) (to l : ℕ) (b : Bool) (e : Entry) (es : List Entry) (f : Bool) where
   pub leaves-go : (not b && withdraws l (e .label)) ≡ true → leaves out to l b (e ∷ es) f ≡ leaves (more out (e .left)) to l false es f
-  unfolding total
+  unfolding totalLeft
   leaves-go t =
-      let w : out .withdrawn + total (goIn l b (e ∷ es)) ≡ out .withdrawn + e .left + total (goIn l false es) = omega (arith, ap total (go-yes l b e es t)) in
+      let w : out .withdrawn + totalLeft (goIn l b (e ∷ es)) ≡ out .withdrawn + e .left + totalLeft (goIn l false es) = omega (arith, ap totalLeft (go-yes l b e es t)) in
       λ k.
       let xs = stay-no l b e es t k in
       record {
@@ -122,13 +122,13 @@ module _ (out : Messages) (to l : ℕ) (b : Bool) (e : Entry) (es : List Entry) 
         class = class k;
         label = label k;
         n = n k;
-        withdrawn = out .withdrawn + total (go-no l b e es t k);
+        withdrawn = out .withdrawn + totalLeft (go-no l b e es t k);
         begun = f;
       }
 
 pub leaves-end : (out : Messages) (to l : ℕ) (b : Bool) (es : List Entry) (f : Bool) → es ≡ [] →
     leaves out to l b es f ≡ withRows out (out .left) (out .class) (out .label) to f
-unfolding total
+unfolding totalLeft
 leaves-end out to l b es f e = ap (λ (xs : List Entry). leaves out to l b xs f) e ∙ go b
   where
     alone : leaves out to l false [] f ≡ withRows out (out .left) (out .class) (out .label) to f
@@ -149,19 +149,19 @@ leaves-end out to l b es f e = ap (λ (xs : List Entry). leaves out to l b xs f)
 
 -- ---- what a queuing supersedes
 
-pub superseded-start : (l n : ℕ) (m : Messages) → (n ≡ 0 → ⊥) → supersededIn l n m ≡ record { n = length (goIn l (m .begun) (entriesIn m)); bytes = total (goIn l (m .begun) (entriesIn m)) }
+pub superseded-start : (l n : ℕ) (m : Messages) → (n ≡ 0 → ⊥) → supersededIn l n m ≡ record { n = length (goIn l (m .begun) (entriesIn m)); bytes = totalLeft (goIn l (m .begun) (entriesIn m)) }
 unfolding withdrawnIn
 superseded-start l n m h =
-    let of : List Entry → Withdrawal = λ xs. record { n = length xs; bytes = total xs } in
+    let of : List Entry → Withdrawal = λ xs. record { n = length xs; bytes = totalLeft xs } in
     ap of (rw (ne-eqb n 0 h) (sym (with-begun (goIn l) refl m)))
 
-pub total-one : (e : Entry) (es : List Entry) → total (e ∷ es) ≡ e .left + total es
-unfolding total
+pub total-one : (e : Entry) (es : List Entry) → totalLeft (e ∷ es) ≡ e .left + totalLeft es
+unfolding totalLeft
 total-one e es = refl
 
-pub superseded-end : (l : ℕ) (b : Bool) (es : List Entry) → es ≡ [] → (length (goIn l b es) ≡ 0) × (total (goIn l b es) ≡ 0)
-unfolding total
-superseded-end l b es e = let z = ap (goIn l b) e ∙ go b in (ap length z, ap total z)
+pub superseded-end : (l : ℕ) (b : Bool) (es : List Entry) → es ≡ [] → (length (goIn l b es) ≡ 0) × (totalLeft (goIn l b es) ≡ 0)
+unfolding totalLeft
+superseded-end l b es e = let z = ap (goIn l b) e ∙ go b in (ap length z, ap totalLeft z)
   where
     go : (c : Bool) → goIn l c [] ≡ []
     go true = refl
@@ -183,8 +183,8 @@ nothing-gone l n m t = go (eqb n 0) t
     go false t = ap (λ (k : ℕ). those (λ (e : Entry). withdraws k (e .label)) all) (eqb-true l 0 t) ∙ none-gone all
 
 pub superseded-none : (l n : ℕ) (m : Messages) → (eqb n 0 || eqb l 0) ≡ true → supersededIn l n m ≡ record { n = 0; bytes = 0 }
-unfolding total
-superseded-none l n m t = let of : List Entry → Withdrawal = λ xs. record { n = length xs; bytes = total xs } in ap of (nothing-gone l n m t)
+unfolding totalLeft
+superseded-none l n m t = let of : List Entry → Withdrawal = λ xs. record { n = length xs; bytes = totalLeft xs } in ap of (nothing-gone l n m t)
 
 -- ---- what stays and what goes are all
 
@@ -192,8 +192,8 @@ module _ (p : Entry → Bool) where
   abbrev others : List Entry → List Entry
   others es = those (λ (e : Entry). not (p e)) es
 
-  split : (es : List Entry) → (length (those p es) + length (others es) ≡ length es) × (total (those p es) + total (others es) ≡ total es)
-  unfolding total
+  split : (es : List Entry) → (length (those p es) + length (others es) ≡ length es) × (totalLeft (those p es) + totalLeft (others es) ≡ totalLeft es)
+  unfolding totalLeft
   split [] = (refl, refl)
   split (e ∷ es) =
       let i = split es in
@@ -204,8 +204,8 @@ module _ (p : Entry → Bool) where
   each-those (e ∷ es) a = by Each (p e) (λ _. (a .0, a .1, each-those es (a .2))) (λ _. each-those es (a .2))
 
 module _ (l : ℕ) where
-  pub stay-go : (b : Bool) (es : List Entry) → (length (stayIn l b es) + length (goIn l b es) ≡ length es) × (total (stayIn l b es) + total (goIn l b es) ≡ total es)
-  unfolding total
+  pub stay-go : (b : Bool) (es : List Entry) → (length (stayIn l b es) + length (goIn l b es) ≡ length es) × (totalLeft (stayIn l b es) + totalLeft (goIn l b es) ≡ totalLeft es)
+  unfolding totalLeft
   stay-go false es = let i = split (λ (e : Entry). withdraws l (e .label)) es in (omega (arith, i .0), omega (arith, i .1))
   stay-go true [] = (refl, refl)
   stay-go true (e ∷ es) = let i = split (λ (x : Entry). withdraws l (x .label)) es in (omega (arith, i .0), omega (arith, i .1))

@@ -31,13 +31,13 @@ pub record Entry : Type 0 where
 abbrev pub entryOf : ℕ → ℕ → ℕ → Entry
 entryOf left class label = record { class = class; label = label; left = left }
 
-abbrev pub entryAt : Messages → ℕ → Entry
-entryAt m i = entryOf (getD (m .left) i 0) (getD (m .class) i 0) (getD (m .label) i 0)
+abbrev pub entryInRow : Messages → ℕ → Entry
+entryInRow m i = entryOf (getD (m .left) i 0) (getD (m .class) i 0) (getD (m .label) i 0)
 
 -- k entries from row i on
 abbrev pub entriesFrom : Messages → ℕ → ℕ → List Entry
 entriesFrom m i zero = []
-entriesFrom m i (suc k) = entryAt m i ∷ entriesFrom m (i + 1) k
+entriesFrom m i (suc k) = entryInRow m i ∷ entriesFrom m (i + 1) k
 
 abbrev pub entriesIn : Messages → List Entry
 entriesIn m = entriesFrom m 0 (m .n)
@@ -68,9 +68,9 @@ withWithdrawn w m =
     record { left = m .left; class = m .class; label = m .label; n = m .n; withdrawn = w; begun = m .begun }
 
 -- the waiting bytes of all
-unfoldable pub total : List Entry → ℕ
-total [] = 0
-total (e ∷ es) = e .left + total es
+unfoldable pub totalLeft : List Entry → ℕ
+totalLeft [] = 0
+totalLeft (e ∷ es) = e .left + totalLeft es
 
 -- ---- the sound record
 
@@ -81,7 +81,7 @@ entriesOk (e ∷ es) = ltb 0 (e .left) && (leb (e .class) maxClass && entriesOk 
 
 -- "at most 256 messages", and "the lengths left sum to the waiting bytes". That at most one is begun needs no test: it is the first
 unfoldable pub messagesOk : ℕ → Messages → Bool
-messagesOk w m = leb (m .n) maxMessages && (entriesOk (entriesIn m) && eqb (total (entriesIn m)) w)
+messagesOk w m = leb (m .n) maxMessages && (entriesOk (entriesIn m) && eqb (totalLeft (entriesIn m)) w)
 
 -- whether a message has begun: the first, where there is one
 abbrev pub begunIn : Messages → Bool

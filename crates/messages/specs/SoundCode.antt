@@ -5,7 +5,7 @@ use mathlib.Core.List.{List, [], _∷_}
 use lib.ListN.{length}
 use Rattle.limits.specs.Limits.{maxClass, maxMessages}
 use Rattle.messages.specs.declared.Messages.{Messages}
-use Rattle.messages.specs.Messages.{Entry, entriesIn, total}
+use Rattle.messages.specs.Messages.{Entry, entriesIn, totalLeft}
 
 -- "of classes 0 to 3, each has 1 byte or more left"
 abbrev pub Each : List Entry → Type 0
@@ -17,7 +17,7 @@ pub record SoundMessages (m : Messages) (waiting : ℕ) : Type 0 where
   pub few : m .n ≤ maxMessages
   pub each : Each (entriesIn m)
   -- "the lengths left sum to the waiting bytes"
-  pub sum : total (entriesIn m) ≡ waiting
+  pub sum : totalLeft (entriesIn m) ≡ waiting
 
 -- what the arrays' types say
 pub record Sized (m : Messages) : Type 0 where

@@ -5,7 +5,7 @@ ghost use mathlib.Core.Path.{_≡_};
 ghost use Prim.Native.Nat.{_+_, _≤_, _<_};
 ghost use Rattle.limits.specs.Limits.{maxMessages, maxTaken};
 ghost use Rattle.ledger.specs.Queue.{withdraws as withdrawsLabel};
-ghost use Rattle.messages.specs.Messages.{noMessages, begunIn, entryOf, entriesIn, storeEntries, total, messagesOk};
+ghost use Rattle.messages.specs.Messages.{noMessages, begunIn, entryOf, entriesIn, storeEntries, totalLeft, messagesOk};
 ghost use Rattle.messages.specs.MessagesCode.{placeIn, insertRow, supersededIn, withdrawn, goneIn, cutTo, flown};
 
 // n messages, each with its class, its label, 0 for none, and the bytes of it that wait. `withdrawn`: bytes of messages withdrawn, in all.
@@ -164,7 +164,7 @@ pub fn superseded(m: Messages, label: u16, n: usize) -> Withdrawal
 
 // The messages that a queuing with this label leaves; the bytes of the others count as withdrawn.
 pub fn withdraw(m: Messages, label: u16) -> Messages
-    requires { ⌜ (m .n ≤ maxMessages) × (m .withdrawn + total (entriesIn m) ≤ maxTaken) ⌝ }
+    requires { ⌜ (m .n ≤ maxMessages) × (m .withdrawn + totalLeft (entriesIn m) ≤ maxTaken) ⌝ }
     ensures { λ r. ⌜ r ≡ withdrawn label m ⌝ }
 {
     let rows = m.n;

@@ -12,7 +12,7 @@ use Rattle.laws.proofs.Picks.{by₂}
 use Rattle.area.specs.declared.table.Row.{Row}
 use Rattle.frames.specs.Slots.{unheldSlots, chunkRows, incrementSlots}
 use Rattle.frames.specs.declared.slots.Slot.{Slot}
-use Rattle.ledger.specs.Ledger.{Piece, Plan, Sender, Sent, offs, heldOffs, unheld, chunks, whole, wholes, increments, kept, recut, oldOffs, newPieces, slots}
+use Rattle.ledger.specs.Ledger.{Piece, Plan, Sender, Sent, offs, heldOffs, unheld, chunks, whole, wholes, increments, keptAtPeer, recut, oldOffs, newPieces, slots}
 use Rattle.pieces.specs.Pieces.{piecesOf}
 use Rattle.pieces.specs.Lists.{heldOf}
 use Rattle.pieces.proofs.Chunks.{chunk-pieces}
@@ -52,9 +52,9 @@ module _ (g : Plan) where
       ∙ ap (wholes g) (unheld-all (piecesOf (chunkRows room m next (length w)) w) ∙ ap offs (chunk-pieces room m next w))
 
 -- ---- the whole burst: the rows hold the re-cut pieces, os and hs are the held list that is kept, and w bytes wait
-module _ (g : Plan) (s : Sender) (rs : List Row) (st os hs : List ℕ) (w : ℕ) (pieces : recut g s ≡ piecesOf rs st) (held : kept g s ≡ heldOf os hs) (sides : length os ≡ length hs)
+module _ (g : Plan) (s : Sender) (rs : List Row) (st os hs : List ℕ) (w : ℕ) (pieces : recut g s ≡ piecesOf rs st) (held : keptAtPeer g s ≡ heldOf os hs) (sides : length os ≡ length hs)
     (count : length (s .waiting) ≡ w) where
-  pub kept-offs : heldOffs (kept g s) ≡ os
+  pub kept-offs : heldOffs (keptAtPeer g s) ≡ os
   kept-offs = ap heldOffs held ∙ held-offs os hs sides
 
   pub burst-old : sentSlots (oldSlots g rs os) ≡ wholes g (oldOffs g s)

@@ -16,14 +16,14 @@ use Rattle.laws.proofs.Bytes.{length-part}
 use Rattle.laws.proofs.Lists.{occurs-append, occurs-all, one-other}
 use Rattle.laws.proofs.Picks.{by, test}
 use Rattle.frame.specs.Frame.{maxPayload}
-use Rattle.frames.specs.Frames.{framesWritten, Fit}
+use Rattle.frames.specs.Frames.{framesWritten, SlotsFit}
 use Rattle.area.specs.declared.table.Row.{Row}
 use Rattle.area.specs.Table.{total}
 use Rattle.area_check.specs.Rows.{rowOffs}
 use Rattle.frames.specs.Slots.{unheldSlots, incrementSlots}
 use Rattle.frames.specs.declared.slots.Slot.{Slot}
 use Rattle.frames.proofs.slots.Laws.{chunk-total}
-use Rattle.ledger.specs.Ledger.{Piece, Plan, Sender, Sent, Held, end, size, offs, heldOffs, find, kept, recut, oldOffs, newPieces, dataBurst}
+use Rattle.ledger.specs.Ledger.{Piece, Plan, Sender, Sent, Held, end, size, offs, heldOffs, find, keptAtPeer, recut, oldOffs, newPieces, dataBurst}
 use Rattle.ledger.specs.Sound.{Sound, Fits}
 use Rattle.ledger.proofs.Burst.{burst-sound, burst-ascend}
 use Rattle.ledger.proofs.Cover.{ascend-le, ascend-chunks}
@@ -77,29 +77,29 @@ occurs-high m k n o (p ∷ ps) a h =
     omega (arith, one-other o (p .off) (λ (e : o ≡ p .off). omega (arith, a .1)))
 
 module _ (z : Sizes) (zr : SizeRange z) (s : Sender) (g : Plan) (so : Sound z s) (fi : Fits z s g) where
-  kept-held : (o : ℕ) → occurs o (heldOffs (kept g s)) ≤ occurs o (heldOffs (s .held))
+  kept-held : (o : ℕ) → occurs o (heldOffs (keptAtPeer g s)) ≤ occurs o (heldOffs (s .held))
   kept-held o = by (λ (r : List Held). occurs o (heldOffs r) ≤ occurs o (heldOffs (s .held))) (eqb (g .parity) 0) (λ e. omega arith) (λ e. omega arith)
 
-  kept-all : (o : ℕ) → occurs o (heldOffs (kept g s)) ≤ occurs o (offs (recut g s)) + occurs o (offs (newPieces g s))
+  kept-all : (o : ℕ) → occurs o (heldOffs (keptAtPeer g s)) ≤ occurs o (offs (recut g s)) + occurs o (offs (newPieces g s))
   unfolding dataBurst
   kept-all o =
       omega (
         arith,
-        flying-within (heldOffs (kept g s)) (recut g s ++ newPieces g s) (burst-sound z zr s g so fi .heldFlying) o,
+        flying-within (heldOffs (keptAtPeer g s)) (recut g s ++ newPieces g s) (burst-sound z zr s g so fi .heldFlying) o,
         ap (occurs o) (offs-append (recut g s) (newPieces g s)),
         occurs-append o (offs (recut g s)) (offs (newPieces g s)),
       )
 
-  pub kept-flies : AllListed (heldOffs (kept g s)) (offs (recut g s))
+  pub kept-flies : AllListed (heldOffs (keptAtPeer g s)) (offs (recut g s))
   kept-flies =
-      occurs-all (offs (recut g s)) (heldOffs (kept g s))
+      occurs-all (offs (recut g s)) (heldOffs (keptAtPeer g s))
       (λ o.
       test (ltb o (s .next))
       (λ e. omega (arith, kept-all o, occurs-low (g .payload) (s .next) _ o (newPieces g s) (ascend-chunks (g .room - length (oldOffs g s)) (g .payload) (s .next) (s .waiting) (payload-some z zr s g so fi)) (ltb-true o (s .next) e)))
       (λ e. omega (arith, kept-held o, flying-within (heldOffs (s .held)) (s .pieces) (so .heldFlying) o, occurs-high (z .long) 0 (s .next) o (s .pieces) (so .ascend) (ltb-false o (s .next) e))))
 
   -- ---- the rows hold the re-cut pieces, os and hs are the held list that is kept, and w bytes wait behind the flying ones
-  module _ (rs : List Row) (a os hs : List ℕ) (w : ℕ) (pieces : recut g s ≡ piecesOf rs a) (held : kept g s ≡ heldOf os hs) (sides : length os ≡ length hs)
+  module _ (rs : List Row) (a os hs : List ℕ) (w : ℕ) (pieces : recut g s ≡ piecesOf rs a) (held : keptAtPeer g s ≡ heldOf os hs) (sides : length os ≡ length hs)
       (waiting : s .waiting ≡ part a (total rs) w) (fits : total rs + w ≤ length a) where
     abbrev new : List Row
     new = newRows g rs os (s .next) w
@@ -192,7 +192,7 @@ module _ (z : Sizes) (zr : SizeRange z) (s : Sender) (g : Plan) (so : Sound z s)
             ap₂ frames (sym burst-pieces) (sym burst-sent) ∙ placed-frames a (rs ++ new) xs (omega (arith, burst-fits, fits)) burst-placed
 
       -- slots fit frames that have room for the payload, and lie within the stream
-      pub burst-fit : (size used : ℕ) → g .payload ≤ maxPayload size → total rs + w ≤ used → Fit size used xs
+      pub burst-fit : (size used : ℕ) → g .payload ≤ maxPayload size → total rs + w ≤ used → SlotsFit size used xs
       burst-fit size used l u =
           placed-fit size (g .payload) 0 (dataBurst g s .next) used a (rs ++ new) xs (omega (arith, burst-fits, fits))
           (subst (Ascend (g .payload) 0 (dataBurst g s .next)) (sym burst-pieces) (burst-ascend z zr s g so fi)) l (omega (arith, burst-fits)) burst-placed

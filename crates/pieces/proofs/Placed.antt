@@ -18,7 +18,7 @@ use Rattle.laws.proofs.Lists.{occurs-append, one-none, one-same}
 use Rattle.laws.proofs.Picks.{by, by₂, test}
 use Rattle.frame.specs.Frame.{maxPayload, frameOf}
 use Rattle.frame.proofs.Laws.{length-frame}
-use Rattle.frames.specs.Frames.{framesWritten, Fit}
+use Rattle.frames.specs.Frames.{framesWritten, SlotsFit}
 use Rattle.area.specs.declared.table.Row.{Row}
 use Rattle.area.specs.Table.{total}
 use Rattle.area.specs.Find.{findFrom}
@@ -157,7 +157,7 @@ find-most m k n o (p ∷ ps) a = by (λ (bs : List ℕ). length bs ≤ m) (eqb o
 
 -- they fit frames of at least m bytes, and lie within the rows' bytes
 pub placed-fit : (size m k n used : ℕ) (a : List ℕ) (rs : List Row) (xs : List Slot) → total rs ≤ length a → Ascend m k n (piecesOf rs a) → m ≤ maxPayload size → total rs ≤ used
-    → Placed rs xs → Fit size used xs
+    → Placed rs xs → SlotsFit size used xs
 placed-fit size m k n used a rs [] h s l u p = tt
 placed-fit size m k n used a rs (x ∷ xs) h s l u p =
     let e = ap (λ (f : Found). f .start) (p .0) in
@@ -168,7 +168,7 @@ placed-fit size m k n used a rs (x ∷ xs) h s l u p =
     )
 
 -- frames that fit have their size each
-pub frames-length : (size : ℕ) (a : List ℕ) (xs : List Slot) → 10 ≤ size → Fit size (length a) xs → length (framesWritten size xs a) ≡ length xs * size
+pub frames-length : (size : ℕ) (a : List ℕ) (xs : List Slot) → 10 ≤ size → SlotsFit size (length a) xs → length (framesWritten size xs a) ≡ length xs * size
 unfolding framesWritten
 frames-length size a [] h f = omega arith
 frames-length size a (x ∷ xs) h f =

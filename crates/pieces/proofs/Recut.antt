@@ -14,7 +14,7 @@ use Rattle.laws.proofs.Picks.{by, by₂}
 use Rattle.area.specs.declared.table.Row.{Row}
 use Rattle.area.specs.Table.{total}
 use Rattle.area.specs.Recut.{row, cutRows, splitRows, joinsRow, mergeRowsFrom, mergeRows}
-use Rattle.ledger.specs.Ledger.{Piece, Plan, Sender, heldOffs, cut, split, joins, mergeFrom, mergeInflight, kept, recut}
+use Rattle.ledger.specs.Ledger.{Piece, Plan, Sender, heldOffs, cut, split, joins, mergeFrom, mergeInflight, keptAtPeer, recut}
 use Rattle.pieces.specs.Pieces.{piecesOf}
 use Rattle.pieces.proofs.Sound.{head-length, total-append}
 use Rattle.pieces.specs.BurstCode.{recutRows}
@@ -119,7 +119,7 @@ merge-total h m (p ∷ rs) = merge-from-total h m p rs
 
 -- ---- both
 
-pub recut-pieces : (g : Plan) (s : Sender) (os : List ℕ) (rs : List Row) (st : List ℕ) → total rs ≤ length st → heldOffs (kept g s) ≡ os → s .pieces ≡ piecesOf rs st
+pub recut-pieces : (g : Plan) (s : Sender) (os : List ℕ) (rs : List Row) (st : List ℕ) → total rs ≤ length st → heldOffs (keptAtPeer g s) ≡ os → s .pieces ≡ piecesOf rs st
     → recut g s ≡ piecesOf (recutRows g os rs) st
 recut-pieces g s os rs st l h e =
     let t : split (g .payload) (s .pieces) ≡ piecesOf (splitRows (g .payload) rs) st = ap (split (g .payload)) e ∙ sym (split-pieces (g .payload) rs st l) in

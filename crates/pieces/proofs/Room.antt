@@ -16,7 +16,7 @@ use Rattle.area.specs.Table.{rowAt, rowsFrom, total}
 use Rattle.area.specs.Recut.{splitRows}
 use Rattle.frames.specs.Slots.{incrementSlots}
 use Rattle.frames.proofs.slots.Laws.{increments-length}
-use Rattle.ledger.specs.Ledger.{Piece, Plan, Sender, end, heldOffs, unheld, split, kept, recut, oldOffs, newPieces, dataBurst}
+use Rattle.ledger.specs.Ledger.{Piece, Plan, Sender, end, heldOffs, unheld, split, keptAtPeer, recut, oldOffs, newPieces, dataBurst}
 use Rattle.ledger.specs.Sound.{Sound, Fits}
 use Rattle.ledger.proofs.Burst.{burst-sound, burst-ascend}
 use Rattle.ledger.proofs.Cover.{ascend-le, ascend-split, split-fits}
@@ -112,15 +112,15 @@ module _ (z : Sizes) (zr : SizeRange z) (s : Sender) (g : Plan) (so : Sound z s)
       omega (
         arith,
         ltb-true (length (oldOffs g s)) (g .room) e,
-        length-take (g .room) (unheld (heldOffs (kept g s)) (recut g s)),
-        pieces-few (g .payload) 0 (dataBurst g s .next) (heldOffs (kept g s)) (recut g s) recut-ascend,
-        length-heldOffs (kept g s),
+        length-take (g .room) (unheld (heldOffs (keptAtPeer g s)) (recut g s)),
+        pieces-few (g .payload) 0 (dataBurst g s .next) (heldOffs (keptAtPeer g s)) (recut g s) recut-ascend,
+        length-heldOffs (keptAtPeer g s),
         fi .room,
       ))
       (λ e. omega (arith, ltb-false (length (oldOffs g s)) (g .room) e, burst-rows))
 
   -- ---- the rows hold the re-cut pieces, and os and hs are the held list that is kept
-  module _ (rs : List Row) (st os hs : List ℕ) (pieces : recut g s ≡ piecesOf rs st) (held : kept g s ≡ heldOf os hs) (sides : length os ≡ length hs) where
+  module _ (rs : List Row) (st os hs : List ℕ) (pieces : recut g s ≡ piecesOf rs st) (held : keptAtPeer g s ≡ heldOf os hs) (sides : length os ≡ length hs) where
     recut-count : length (recut g s) ≡ length rs
     recut-count = ap length pieces ∙ length-pieces rs st
 

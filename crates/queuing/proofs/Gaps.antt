@@ -11,7 +11,7 @@ use lib.Seq.{drop-drop}
 use Rattle.laws.specs.Bytes.{overwrite, part}
 use Rattle.laws.proofs.Bytes.{length-over, over-nil, over-cat, drop-over, length-part}
 use Rattle.ledger.specs.Queue.{goes, withdraws}
-use Rattle.messages.specs.Messages.{Entry, entryAt, entriesIn, total, begunIn, messagesOf, queueIn}
+use Rattle.messages.specs.Messages.{Entry, entryInRow, entriesIn, totalLeft, begunIn, messagesOf, queueIn}
 use Rattle.messages.specs.MessagesCode.{stayIn, stayQueue}
 use Rattle.messages.specs.declared.Messages.{Messages}
 use Rattle.messages.proofs.Entries.{entries-step, entries-none, with-begun}
@@ -43,12 +43,12 @@ pub record Closing (m : Messages) (l first : ℕ) (a₀ a : List ℕ) (b : Bool)
   pub high : i ≤ m .n
   pub low : first ≤ to
   pub back : to ≤ from
-  pub fits : from + total (rest m (m .n) i) ≤ length a
+  pub fits : from + totalLeft (rest m (m .n) i) ≤ length a
   pub long : length a ≡ length a₀
-  pub bytes : first + total (stayIn l (begunIn m) (entriesIn m)) ≡ to + total (stayIn l b (rest m (m .n) i))
+  pub bytes : first + totalLeft (stayIn l (begunIn m) (entriesIn m)) ≡ to + totalLeft (stayIn l b (rest m (m .n) i))
   pub same : overwrite a₀ first (stayBytes l m (drop first a₀)) ≡ overwrite a to (kept l b (rest m (m .n) i) (drop from a))
 
-pub closing-start : (m : Messages) (l first : ℕ) (a : List ℕ) → first + total (entriesIn m) ≤ length a → Closing m l first a a (m .begun) first first 0
+pub closing-start : (m : Messages) (l first : ℕ) (a : List ℕ) → first + totalLeft (entriesIn m) ≤ length a → Closing m l first a a (m .begun) first first 0
 unfolding queueIn
 closing-start m l first a h = record {
   high = omega arith;
@@ -56,13 +56,13 @@ closing-start m l first a h = record {
   back = omega arith;
   fits = simp sub-zero h;
   long = refl;
-  bytes = simp sub-zero (ap (λ (es : List Entry). first + total es) (sym (with-begun (stayIn l) refl m)));
+  bytes = simp sub-zero (ap (λ (es : List Entry). first + totalLeft es) (sym (with-begun (stayIn l) refl m)));
   same = simp sub-zero (ap (overwrite a first) (sym (with-begun (λ (b : Bool) (es : List Entry). kept l b es (drop first a)) refl m)));
 }
 
 module _ (m : Messages) (l first : ℕ) (a₀ a : List ℕ) (b : Bool) (to from i : ℕ) (s : Closing m l first a₀ a b to from i) (h : i < m .n) where
   abbrev e : Entry
-  e = entryAt m i
+  e = entryInRow m i
 
   abbrev later : List Entry
   later = rest m (m .n) (i + 1)
@@ -81,7 +81,7 @@ module _ (m : Messages) (l first : ℕ) (a₀ a : List ℕ) (b : Bool) (to from 
     back = omega (arith, s .back);
     fits = omega (arith, s .fits, total-turn m (m .n) i h);
     long = s .long;
-    bytes = s .bytes ∙ ap (λ (es : List Entry). to + total es) (ap (stayIn l b) here ∙ stay-no l b e later t);
+    bytes = s .bytes ∙ ap (λ (es : List Entry). to + totalLeft es) (ap (stayIn l b) here ∙ stay-no l b e later t);
     same = s .same ∙ ap (overwrite a to)
         (ap (λ (es : List Entry). kept l b es (drop from a)) here ∙ kept-no l e later (drop from a) b t ∙ ap (kept l false later) (drop-drop (e .left) from a));
   }
@@ -99,7 +99,7 @@ module _ (m : Messages) (l first : ℕ) (a₀ a : List ℕ) (b : Bool) (to from 
         back = omega (arith, s .back);
         fits = omega (arith, s .fits, total-turn m (m .n) i h, length-over a to x);
         long = length-over a to x ∙ s .long;
-        bytes = omega (arith, s .bytes, ap total (ap (stayIn l b) here ∙ stay-yes l b e later t), total-one e (stayIn l false later));
+        bytes = omega (arith, s .bytes, ap totalLeft (ap (stayIn l b) here ∙ stay-yes l b e later t), total-one e (stayIn l false later));
         same = s .same ∙ ap (overwrite a to)
             (ap (λ (es : List Entry). kept l b es (drop from a)) here ∙ kept-yes l e later (drop from a) b t ∙ ap (λ (v : List ℕ). x ++ kept l false later v) (drop-drop (e .left) from a))
             ∙ sym (over-cat a to x k) ∙ ap₂ (λ (j : ℕ) (v : List ℕ). overwrite (overwrite a to x) (to + j) (kept l false later v)) n (sym moved);
@@ -107,15 +107,15 @@ module _ (m : Messages) (l first : ℕ) (a₀ a : List ℕ) (b : Bool) (to from 
 
 -- the end
 pub closing-end : (m : Messages) (l first : ℕ) (a₀ a : List ℕ) (b : Bool) (to from i : ℕ) → Closing m l first a₀ a b to from i → m .n ≤ i
-    → (to - first ≡ total (stayIn l (begunIn m) (entriesIn m))) × (a ≡ overwrite a₀ first (stayBytes l m (drop first a₀)))
-unfolding total
+    → (to - first ≡ totalLeft (stayIn l (begunIn m) (entriesIn m))) × (a ≡ overwrite a₀ first (stayBytes l m (drop first a₀)))
+unfolding totalLeft
 closing-end m l first a₀ a b to from i s h =
     let z = entries-none m i (m .n) h in (
-      omega (arith, s .bytes, s .low, ap (λ (es : List Entry). total (stayIn l b es)) z ∙ no-bytes b),
+      omega (arith, s .bytes, s .low, ap (λ (es : List Entry). totalLeft (stayIn l b es)) z ∙ no-bytes b),
       sym (s .same ∙ ap (λ (es : List Entry). overwrite a to (kept l b es (drop from a))) z ∙ ap (overwrite a to) (none-kept b) ∙ over-nil a to),
     )
   where
-    no-bytes : (c : Bool) → total (stayIn l c []) ≡ 0
+    no-bytes : (c : Bool) → totalLeft (stayIn l c []) ≡ 0
     no-bytes true = refl
     no-bytes false = refl
 

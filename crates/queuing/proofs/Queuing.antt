@@ -29,7 +29,7 @@ use Rattle.record.specs.declared.LastBurst.{LastBurst}
 use Rattle.record.specs.declared.Link.{Link}
 use Rattle.record.specs.declared.Sender.{Sender}
 use Rattle.record.proofs.View.{Arrays, Counted, bytes-pieces, rows-pieces, counts-kept, held-kept, sent-kept}
-use Rattle.messages.specs.Messages.{Entry, entryOf, entriesIn, storeEntries, withWithdrawn, total, begunIn, queueIn, storeQueue}
+use Rattle.messages.specs.Messages.{Entry, entryOf, entriesIn, storeEntries, withWithdrawn, totalLeft, begunIn, queueIn, storeQueue}
 use Rattle.messages.specs.MessagesCode.{insertRow, goIn, stayIn, withdrawn, stayQueue, putQueue}
 use Rattle.messages.specs.SoundCode.{SoundMessages, Sized}
 use Rattle.messages.specs.declared.Messages.{Messages}
@@ -147,15 +147,15 @@ module _ (m : Messages) (f w : ℕ) (a : List ℕ) (l n : ℕ) (fit : Space m f 
   abbrev stays : List Entry
   stays = stayIn l (begunIn m) (entriesIn m)
 
-  pub stay-bytes : total stays + n ≤ maxWaiting
+  pub stay-bytes : totalLeft stays + n ≤ maxWaiting
   stay-bytes =
-      omega (arith, stay-go l (begunIn m) (entriesIn m) .1, ap total (gone-in l n m some), fit .bytes, fit .messages .sum)
+      omega (arith, stay-go l (begunIn m) (entriesIn m) .1, ap totalLeft (gone-in l n m some), fit .bytes, fit .messages .sum)
 
   pub stay-row : length stays < maxMessages
   stay-row =
       omega (arith, stay-go l (begunIn m) (entriesIn m) .0, ap length (gone-in l n m some), fit .row some, length-entries m 0 (m .n))
 
-  pub stay-room : Sized m → (x : List ℕ) → length x ≡ length a → Room (withdrawn l m) f (total stays) x n
+  pub stay-room : Sized m → (x : List ℕ) → length x ≡ length a → Room (withdrawn l m) f (totalLeft stays) x n
   stay-room z x e =
       record {
         messages = withdraw-sound m w l z (fit .messages);
@@ -166,10 +166,10 @@ module _ (m : Messages) (f w : ℕ) (a : List ℕ) (l n : ℕ) (fit : Space m f 
 
   -- without a label
   pub plain-room : l ≡ 0 → Room m f w a n
-  unfolding total
+  unfolding totalLeft
   plain-room e =
       let z = nothing-gone l n m (or-right (eqb n 0) (eqb l 0) (eq-eqb l 0 e)) in
-      let by : w + n ≤ maxWaiting = omega (arith, ap total z, fit .bytes) in
+      let by : w + n ≤ maxWaiting = omega (arith, ap totalLeft z, fit .bytes) in
       record { messages = fit .messages; row = omega (arith, ap length z, fit .row some); bytes = by; area = omega (arith, fit .area) }
 
   pub stayed-room : Sized m → let x = stayedIn l m f w a in Room (x .0 .messages) f (x .0 .waiting) (x .1) n
@@ -194,7 +194,7 @@ module _ (t : Station) (a : List ℕ) (ar : Arrays (t .sender)) (by : Bytes a) (
   abbrev waits : List ℕ
   waits = view s a .waiting
 
-  sum : total (entriesIn (t .messages)) ≡ length waits
+  sum : totalLeft (entriesIn (t .messages)) ≡ length waits
   sum = waiting-sum t a counted (fit .space .messages)
 
   abbrev queue : Queue
@@ -229,9 +229,9 @@ module _ (t : Station) (a : List ℕ) (ar : Arrays (t .sender)) (by : Bytes a) (
   unfolding superseded
   labelled-stores = ap (λ (q : Queue). withWithdrawn sums (storeQueue q (t .messages))) (sym (M.enqueue-steps c l b bs queue))
 
-  plain-stores : l ≡ 0 → length (messageBytes (superseded l (b ∷ bs) queue)) ≡ total []
+  plain-stores : l ≡ 0 → length (messageBytes (superseded l (b ∷ bs) queue)) ≡ totalLeft []
       → storeQueue (putQueue new queue) (t .messages) ≡ withWithdrawn sums (storeQueue (enqueue c l (b ∷ bs) queue) (t .messages))
-  unfolding storeQueue storeEntries total
+  unfolding storeQueue storeEntries totalLeft
   plain-stores e g =
       ap (λ (q : Queue). storeQueue q (t .messages)) (sym (M.enqueue-step c l b bs queue e))
       ∙ ap (λ (k : ℕ). withWithdrawn k (storeQueue (enqueue c l (b ∷ bs) queue) (t .messages)))
@@ -250,11 +250,11 @@ module _ (t : Station) (a : List ℕ) (ar : Arrays (t .sender)) (by : Bytes a) (
       let w = s .counts .waiting in
       let same : stayBytes l m (drop f a) ≡ v =
       ap (λ (q : Queue). goes (stayQueue l q)) (sym (M.queue-take m w (drop f a) (omega (arith, fit .space .messages .sum)))) in
-      let len : total (stayIn l (begunIn m) (entriesIn m)) ≡ length v = M.bytes-stay m waits sum l in
+      let len : totalLeft (stayIn l (begunIn m) (entriesIn m)) ≡ length v = M.bytes-stay m waits sum l in
       let sound = withdraw-sound m w l z (fit .space .messages) in
       let few = fit .space .messages .few in
       (λ j. storeWaiting t (putIn c l (b ∷ bs) (withdrawn l m) f (len j) (overwrite a f (same j))))
-      ∙ put-is (withdrawn l m) v (omega (arith, place-within (withdrawn l m) (total (stayIn l (begunIn m) (entriesIn m))) c sound .1))
+      ∙ put-is (withdrawn l m) v (omega (arith, place-within (withdrawn l m) (totalLeft (stayIn l (begunIn m) (entriesIn m))) c sound .1))
       (omega (arith, stay-bytes m f w a l n (fit .space) (omega arith)))
       (ap goes (M.enqueue-steps c l b bs queue) ∙ M.goes-again m waits sum z few l new)
       (M.stores-again m waits sum z few l new ∙ labelled-stores)
@@ -268,7 +268,7 @@ module _ (t : Station) (a : List ℕ) (ar : Arrays (t .sender)) (by : Bytes a) (
       let f = s .counts .flying in
       let w = s .counts .waiting in
       let len : w ≡ length waits = sym (length-part a f w (omega (arith, counted .stream, counted .area))) in
-      let gone = M.superseded-bytes m waits sum l (b ∷ bs) ∙ ap total (nothing-gone l n m (or-right (eqb n 0) (eqb l 0) (eq-eqb l 0 e))) in
+      let gone = M.superseded-bytes m waits sum l (b ∷ bs) ∙ ap totalLeft (nothing-gone l n m (or-right (eqb n 0) (eqb l 0) (eq-eqb l 0 e))) in
       let room = plain-room m f w a l n (fit .space) (omega arith) e in
       (λ j. storeWaiting t (putIn c l (b ∷ bs) m f (len j) (sym (over-part a f w) j)))
       ∙ put-is m waits (omega (arith, place-within m w c (fit .space .messages) .1)) (omega (arith, room .bytes))

@@ -17,8 +17,8 @@ use Rattle.ledger.specs.Station.{takeIn}
 use Rattle.ledger.proofs.Queue.{Ready, ready-enqueue}
 use Rattle.record.specs.View.{view, storeArea}
 use Rattle.record.specs.declared.Sender.{Sender}
-use Rattle.record.proofs.View.{Fits, Holds, Arrays, Counted, view-store, view-fresh}
-use Rattle.messages.specs.Messages.{entriesIn, storeEntries, withWithdrawn, total, begunIn, withdrawnIn, queueIn, entriesOf, storeQueue}
+use Rattle.record.proofs.View.{ViewFits, Holds, Arrays, Counted, view-store, view-fresh}
+use Rattle.messages.specs.Messages.{entriesIn, storeEntries, withWithdrawn, totalLeft, begunIn, withdrawnIn, queueIn, entriesOf, storeQueue}
 use Rattle.messages.specs.MessagesCode.{flown}
 use Rattle.messages.specs.SoundCode.{SoundMessages, Sized}
 use Rattle.messages.specs.declared.Messages.{Messages}
@@ -31,7 +31,7 @@ use Rattle.queuing.specs.Station.{freshStation, withSender, viewStation,
 use Rattle.queuing.specs.declared.Station.{Station}
 
 -- WHAT IS STORED IS SHOWN
-pub station-stored : (l : LS.Station) (t : Station) (a : List ℕ) → Fits (l .sender) a → Holds (l .sender) → Arrays (t .sender) → Sized (t .messages)
+pub station-stored : (l : LS.Station) (t : Station) (a : List ℕ) → ViewFits (l .sender) a → Holds (l .sender) → Arrays (t .sender) → Sized (t .messages)
     → l .sender .waiting ≡ goes (l .queue) → Ready (l .queue) → length (l .queue .messages) ≤ maxMessages → viewStation (storeStation l t) (storeArea (l .sender) a) ≡ l
 unfolding viewStation storeStation
 station-stored l t a f h ar z e r few =
@@ -47,7 +47,7 @@ module _ (t : Station) (a : List ℕ) (k : Counted (t .sender) a) (so : SoundMes
   abbrev m : Messages
   m = t .messages
 
-  pub waiting-sum : total (entriesIn m) ≡ length (view s a .waiting)
+  pub waiting-sum : totalLeft (entriesIn m) ≡ length (view s a .waiting)
   unfolding view
   waiting-sum = so .sum ∙ sym (length-part a (s .counts .flying) (s .counts .waiting) (omega (arith, k .stream, k .area)))
 
@@ -74,7 +74,7 @@ module _ (t : Station) (a : List ℕ) (k : Counted (t .sender) a) (so : SoundMes
 
   -- A QUEUING
   pub queued-shows : (c l : ℕ) (bs : List ℕ) → (1 ≤ length bs → m .n - length (withdrawnIn l (length bs) m) < maxMessages) → Arrays s → Sized m →
-      Fits (takeIn c l bs (viewStation t a) .sender) a → Holds (takeIn c l bs (viewStation t a) .sender) →
+      ViewFits (takeIn c l bs (viewStation t a) .sender) a → Holds (takeIn c l bs (viewStation t a) .sender) →
       viewStation (queuedIn c l bs t a .0) (queuedIn c l bs t a .1) ≡ takeIn c l bs (viewStation t a)
   unfolding queuedIn takeIn enqueue superseded viewStation requeue
   queued-shows c l [] room ar z f h =
@@ -91,9 +91,9 @@ module _ (t : Station) (a : List ℕ) (k : Counted (t .sender) a) (so : SoundMes
     unfolding viewStation
     burst-stores = M.fly-stores m (view s a .waiting) waiting-sum n
 
-    pub burst-keeps : Sized m → let x = storeQueue (flies n (viewStation t a .queue)) m in SoundMessages x (s .counts .waiting - n) × Sized x
+    pub flies-keeps : Sized m → let x = storeQueue (flies n (viewStation t a .queue)) m in SoundMessages x (s .counts .waiting - n) × Sized x
     unfolding storeQueue
-    burst-keeps z =
+    flies-keeps z =
         let q = flies n (viewStation t a .queue) in
         (subst (λ (x : Messages). SoundMessages x (s .counts .waiting - n)) burst-stores (fly-sound m (s .counts .waiting) n z so), sized-stored m z (q .begun) (entriesOf (q .messages)))
 
@@ -112,6 +112,6 @@ unfolding viewStation
 reply-shows t a s′ a′ e = ap (λ (w : List ℕ). record { sender = view s′ a′; queue = queueIn (t .messages) w; withdrawn = t .messages .withdrawn }) e
 
 -- a fresh record shows a fresh station, whatever the work area has
-pub fresh-shows : (a : List ℕ) → viewStation freshStation a ≡ LC.freshStation
+pub fresh-shows : (a : List ℕ) → viewStation freshStation a ≡ LC.freshLedgerStation
 unfolding viewStation queueIn
 fresh-shows a = ap (λ (x : L.Sender). record { sender = x; queue = noQueue; withdrawn = 0 }) (view-fresh a)

@@ -28,7 +28,7 @@ pub record Space (m : Messages) (f w : ℕ) (a : List ℕ) (l n : ℕ) : Type 0 
   pub area : f + maxWaiting ≤ length a
   pub messages : SoundMessages m w
   pub waits : w ≤ maxWaiting
-  pub bytes : w - M.total (withdrawnIn l n m) + n ≤ maxWaiting
+  pub bytes : w - M.totalLeft (withdrawnIn l n m) + n ≤ maxWaiting
   pub row : 1 ≤ n → m .n - length (withdrawnIn l n m) < maxMessages
   pub taken : m .withdrawn + w ≤ maxTaken
 
@@ -54,7 +54,7 @@ abbrev pub stayBytes : ℕ → Messages → List ℕ → List ℕ
 stayBytes l m w = goes (stayQueue l (queueIn m w))
 
 abbrev pub stayWaiting : ℕ → Messages → Waiting
-stayWaiting l m = record { messages = withdrawn l m; waiting = M.total (stayIn l (begunIn m) (entriesIn m)) }
+stayWaiting l m = record { messages = withdrawn l m; waiting = M.totalLeft (stayIn l (begunIn m) (entriesIn m)) }
 
 -- where w bytes wait and f stand before them; without a label none is withdrawn
 abbrev pub stayedIn : ℕ → Messages → ℕ → ℕ → List ℕ → Waiting × List ℕ

@@ -12,7 +12,7 @@ ghost use Prim.Native.Nat.{_+_, _≤_};
 ghost use lib.ListN.{length, drop};
 ghost use Rattle.laws.specs.Bytes.{overwrite};
 ghost use Rattle.limits.specs.Limits.{maxMessages, maxTaken};
-ghost use Rattle.messages.specs.Messages.{entriesIn, total, begunIn};
+ghost use Rattle.messages.specs.Messages.{entriesIn, totalLeft, begunIn};
 ghost use Rattle.messages.specs.MessagesCode.{stayIn};
 ghost use Rattle.queuing.specs.Station.{freshStation};
 ghost use Rattle.queuing.specs.StationCode.{Space, Room, stayBytes, stayedIn, putWaiting, putArea, queuedWaiting};
@@ -40,8 +40,8 @@ pub fn fresh() -> Station
 
 // The waiting bytes of the messages that a label does not withdraw, put together from `first` on: how many they are.
 fn close_gaps(m: Messages, a: &mut [u8], first: usize, label: u16) -> usize
-    requires { ⌜ (m .n ≤ maxMessages) × (first + total (entriesIn m) ≤ length (now a)) ⌝ }
-    ensures { λ r. ⌜ r ≡ total (stayIn label (begunIn m) (entriesIn m)) ⌝ }
+    requires { ⌜ (m .n ≤ maxMessages) × (first + totalLeft (entriesIn m) ≤ length (now a)) ⌝ }
+    ensures { λ r. ⌜ r ≡ totalLeft (stayIn label (begunIn m) (entriesIn m)) ⌝ }
     ensures { λ _. ⌜ now (a .exit) ≡ overwrite (now (a .entry)) first (stayBytes label m (drop first (now (a .entry)))) ⌝ }
 {
     let n = m.n;
@@ -66,8 +66,8 @@ fn close_gaps(m: Messages, a: &mut [u8], first: usize, label: u16) -> usize
 // What waits once the messages that a label withdraws are gone, where `flying` bytes stand before them. No label withdraws none.
 fn withdrawn(m: Messages, flying: u32, waiting: u32, a: &mut [u8], label: u16) -> Waiting
     requires { ⌜ m .n ≤ maxMessages ⌝ }
-    requires { ⌜ flying + total (entriesIn m) ≤ length (now a) ⌝ }
-    requires { ⌜ m .withdrawn + total (entriesIn m) ≤ maxTaken ⌝ }
+    requires { ⌜ flying + totalLeft (entriesIn m) ≤ length (now a) ⌝ }
+    requires { ⌜ m .withdrawn + totalLeft (entriesIn m) ≤ maxTaken ⌝ }
     ensures { λ r. ⌜ (r, now (a .exit)) ≡ stayedIn label m flying waiting (now (a .entry)) ⌝ }
 {
     if label == 0 {

@@ -18,7 +18,7 @@ use Rattle.levels.specs.Usable.{heeded}
 use Rattle.levels.proofs.usable.Laws.{level-for-lt}
 use Rattle.gear.specs.Goodput.{marksOf}
 use Rattle.reachable.specs.Reachable.{Reached, reachable, chosenBy, chosenUnder, places}
-use Rattle.reachable.specs.Reachable.{listing, answer, rangeRefusal, profileRefusal, listingBy, listingUnder}
+use Rattle.reachable.specs.Reachable.{listing, listingUnlessRefused, rangeRefusal, profileRefusal, listingBy, listingUnder}
 use Rattle.reachable.specs.Claim.{Lists, pairs, entries, Answered, ByClaim, UnderClaim, AgreeClaim}
 use Rattle.reachable.proofs.Laws.{lists}
 use Rattle.reachable.proofs.Refusals.{range-none, profile-none}
@@ -39,19 +39,19 @@ entries-listing k xs = (λ i. pairs (read (λ (x : Reached). x .level) xs i) (re
 -- ---- an answer over any choice
 
 module _ (f : ℕ → ℕ) (low high k : ℕ) (h : high ≤ 255) (b : k ≡ 0 → (q : ℕ) → f q < 17) where
-  number-of : answer k (reachable f low high) .refusal ≡ k
-  unfolding answer listing
+  number-of : listingUnlessRefused k (reachable f low high) .refusal ≡ k
+  unfolding listingUnlessRefused listing
   number-of = refl
 
-  listed-of : k ≡ 0 → entries (answer k (reachable f low high)) ≡ reachable f low high
-  unfolding answer
+  listed-of : k ≡ 0 → entries (listingUnlessRefused k (reachable f low high)) ≡ reachable f low high
+  unfolding listingUnlessRefused
   listed-of e = rw e (entries-listing 0 (reachable f low high))
 
-  none-of : (k ≡ 0 → ⊥) → entries (answer k (reachable f low high)) ≡ []
-  unfolding answer
+  none-of : (k ≡ 0 → ⊥) → entries (listingUnlessRefused k (reachable f low high)) ≡ []
+  unfolding listingUnlessRefused
   none-of e = rw (ne-eqb k 0 e) (entries-listing k [])
 
-  pub answered : Answered f low high k (answer k (reachable f low high))
+  pub answered : Answered f low high k (listingUnlessRefused k (reachable f low high))
   answered =
       record {
         number = number-of;
@@ -90,4 +90,4 @@ same-refusal p low high e d =
 
 pub agree : AgreeClaim
 unfolding listingUnder listingBy
-agree p c low high e d = ap (λ (k : ℕ). answer k (reachable (chosenUnder p c) low high)) (same-refusal p low high e d)
+agree p c low high e d = ap (λ (k : ℕ). listingUnlessRefused k (reachable (chosenUnder p c) low high)) (same-refusal p low high e d)

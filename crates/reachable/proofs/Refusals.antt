@@ -17,7 +17,7 @@ use Rattle.report.specs.declared.ChanClass.{ChanClass}
 use Rattle.levels.specs.Usable.{heeded}
 use Rattle.gear.specs.Goodput.{marksOf}
 use Rattle.reachable.specs.Reachable.{Reached, chosenBy, chosenUnder, reachable}
-use Rattle.reachable.specs.Reachable.{listing, answer, orderRefusal, rangeRefusal, profileRefusal}
+use Rattle.reachable.specs.Reachable.{listing, listingUnlessRefused, orderRefusal, rangeRefusal, profileRefusal}
 use Rattle.reachable.specs.declared.Listing.{Listing}
 
 -- ---- `level_for`'s own arguments
@@ -72,12 +72,12 @@ profile-none p low high h =
 -- ---- the answer, with n for the refusal k
 
 module _ (n k : ℕ) (e : n ≡ k) (xs : List Reached) (r : Listing) where
-  pub answer-yes : n ≡ 0 → r ≡ listing 0 xs → r ≡ answer k xs
-  unfolding answer
+  pub answer-yes : n ≡ 0 → r ≡ listing 0 xs → r ≡ listingUnlessRefused k xs
+  unfolding listingUnlessRefused
   answer-yes z h = rw (sym e ∙ z) h
 
-  pub answer-no : (n ≡ 0 → ⊥) → r ≡ listing n [] → r ≡ answer k xs
-  unfolding answer
+  pub answer-no : (n ≡ 0 → ⊥) → r ≡ listing n [] → r ≡ listingUnlessRefused k xs
+  unfolding listingUnlessRefused
   answer-no z h = rw (← e) (rw (ne-eqb n 0 z) h)
 
 -- a call under a profile: its thresholds, and the class that is heeded

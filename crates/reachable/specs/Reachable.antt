@@ -53,8 +53,8 @@ listing refusal xs =
     record { refusal = refusal; n = length xs; level = places levels; q = places qs }
 
 -- nothing is listed where the call is refused
-unfoldable pub answer : ℕ → List Reached → Listing
-answer refusal xs = listing refusal (cond (eqb refusal 0) xs [])
+unfoldable pub listingUnlessRefused : ℕ → List Reached → Listing
+listingUnlessRefused refusal xs = listing refusal (cond (eqb refusal 0) xs [])
 
 -- "It refuses a lowest q above the highest with 19"
 unfoldable pub orderRefusal : ℕ → ℕ → ℕ
@@ -66,7 +66,7 @@ unfoldable pub rangeRefusal : Marks → ℕ → ℕ → ℕ → ℕ → ℕ
 rangeRefusal m power top low high = cond (not (all (marksOk m ∷ leb power 2 ∷ leb top 16 ∷ []))) 1 (orderRefusal low high)
 
 unfoldable pub listingBy : Marks → ℕ → ChanClass → ℕ → ℕ → ℕ → Listing
-listingBy m power c top low high = answer (rangeRefusal m power top low high) (reachable (chosenBy m power c top) low high)
+listingBy m power c top low high = listingUnlessRefused (rangeRefusal m power top low high) (reachable (chosenBy m power c top) low high)
 
 -- ---- the call on a whole profile: 19 "after 1 and 2"
 
@@ -78,4 +78,4 @@ abbrev pub chosenUnder : Profile → ChanClass → ℕ → ℕ
 chosenUnder p c = chosenBy (marksOf p) (p .power) (heeded (p .«pick_family») c) (p .«max_level»)
 
 unfoldable pub listingUnder : Profile → ChanClass → ℕ → ℕ → Listing
-listingUnder p c low high = answer (profileRefusal p low high) (reachable (chosenUnder p c) low high)
+listingUnder p c low high = listingUnlessRefused (profileRefusal p low high) (reachable (chosenUnder p c) low high)

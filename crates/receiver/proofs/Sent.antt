@@ -25,9 +25,9 @@ use Rattle.receiver.proofs.Reading.{head-is, within}
 use Rattle.receiver.proofs.Steps.{taken}
 
 module _ (size off : ℕ) (payload : List ℕ) where
-  pub sent-length : lenOf (frameOf size off payload) ≡ length payload
+  pub length-read-back : lenOf (frameOf size off payload) ≡ length payload
   unfolding frameOf
-  sent-length = refl
+  length-read-back = refl
 
   pub sent-offset : off < 16777216 → offOf (frameOf size off payload) ≡ off
   unfolding frameOf num
@@ -43,9 +43,9 @@ module _ (size off : ℕ) (payload : List ℕ) where
   pub sent-carries : (l : List ℕ) → Bytes payload → off < 16777216 → off + length payload ≤ length l → payload ≡ take (length payload) (drop off l) → Carries l (frameOf size off payload)
   sent-carries l b h w e =
       record {
-        whole = ap length sent-payload ∙ sym sent-length;
-        within = omega (arith, sent-length, sent-offset h, w);
-        same = sent-payload ∙ e ∙ ap₂ (λ (n k : ℕ). take n (drop k l)) (sym sent-length) (sym (sent-offset h));
+        whole = ap length sent-payload ∙ sym length-read-back;
+        within = omega (arith, length-read-back, sent-offset h, w);
+        same = sent-payload ∙ e ∙ ap₂ (λ (n k : ℕ). take n (drop k l)) (sym length-read-back) (sym (sent-offset h));
         bytes = λ i. subst (λ (x : List ℕ). getD x i 0 < 256) (sym sent-payload) (b i);
       }
 
@@ -101,5 +101,5 @@ module _ (size off : ℕ) (payload : List ℕ) (typed : Bytes payload) (room : l
   sent-taken h k l m o first slot t w s f g =
       let eo = sent-offset size off payload o in
       taken first (record { slot = slot; frame = frameOf size off payload }) t w s (sent-ok h k l m) _
-      (within first (frameOf size off payload) off (length payload) (sym eo) (sym (sent-length size off payload)) f g)
+      (within first (frameOf size off payload) off (length payload) (sym eo) (sym (length-read-back size off payload)) f g)
       (ap₂ (λ (x : ℕ) (bs : List ℕ). keepFrom first x bs w) (sym eo) (sym (sent-payload size off payload)))

@@ -15,7 +15,7 @@ use Rattle.laws.proofs.Picks.{by, and-first, and-second}
 use Rattle.ledger.specs.Reply.{bitAt}
 use Rattle.window.specs.Window.{keepFrom}
 use Rattle.window.specs.WindowCode.{has}
-use Rattle.window.proofs.Fits.{Fits, fits-keep, has-stays, has-new, length-keep}
+use Rattle.window.proofs.Fits.{WindowFits, fits-keep, has-stays, has-new, length-keep}
 use Rattle.receiver.specs.Frames.{Slotted, lenOf, offOf, payloadOf, frameOk, slotOk, reachOk, boxBytes}
 use Rattle.receiver.specs.declared.Taking.{Taking}
 use Rattle.receiver.specs.Taking.{takeOne, takeAll}
@@ -35,7 +35,7 @@ pub record Carries (l f : List ℕ) : Type 0 where
   pub bytes : (i : ℕ) → getD (payloadOf f) i 0 < 256
 
 module _ (l : List ℕ) (first : ℕ) where
-  pub fits-take : (f w : List ℕ) → first ≤ length l → Carries l f → Fits w (drop first l) → Fits (keepFrom first (offOf f) (payloadOf f) w) (drop first l)
+  pub fits-take : (f w : List ℕ) → first ≤ length l → Carries l f → WindowFits w (drop first l) → WindowFits (keepFrom first (offOf f) (payloadOf f) w) (drop first l)
   fits-take f w h c g =
       let o = offOf f in
       let n = lenOf f in
@@ -63,7 +63,7 @@ module _ (l : List ℕ) (first : ℕ) where
 
   pub record Took (at : ℕ → List ℕ) (y : Taking × List ℕ) : Type 0 where
     pub length : length (y .1) ≡ boxBytes
-    pub fits : Fits (y .1) (drop first l)
+    pub fits : WindowFits (y .1) (drop first l)
     pub few : y .0 .least ≤ 64
     pub small : y .0 .bitmap < 2 ^ (y .0 .least)
     pub named : Named at (y .0 .bitmap) (y .1)

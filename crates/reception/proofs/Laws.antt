@@ -8,15 +8,13 @@ use native.Mathlib.Omega.{arith}
 use lib.Dec.{leb, ltb, eqb}
 use lib.ListN.{length, take, drop, getD}
 use borrow.Author.Tests.{leb-true, le-ltb}
-use Rattle.laws.proofs.Picks.{by, either, and-second}
+use Rattle.laws.proofs.Picks.{by, and-second}
 use Rattle.report.specs.Ack.{infoOf, ackOf}
 use Rattle.report.specs.declared.ack.AckInfo.{AckInfo}
 use Rattle.report.specs.declared.ack.AckRead.{AckRead}
 use Rattle.report.specs.declared.ack.AckRead.the-variants.{TooShort, Info}
 use Rattle.config.specs.declared.Profile.{Profile}
-use Rattle.ledger.specs.Ledger as L
-use Rattle.ledger.specs.Ledger.{hearAck, settleBurst, clearBurst, settles}
-use Rattle.ledger.specs.Reply.{Reply}
+use Rattle.ledger.proofs.Sentences.{ack-ends}
 use Rattle.record.specs.View.{view, store, storeLink}
 use Rattle.record.specs.declared.Link.{Link}
 use Rattle.record.specs.declared.Sender.{Sender}
@@ -38,12 +36,6 @@ read-long f e = leb-true 13 (length (f .payload)) (and-second (eqb (f .kind) 4) 
 pub read-info : (b : List ℕ) → 13 ≤ length b → ackOf b ≡ Info (infoOf b)
 unfolding ackOf
 read-info b h = rw (le-ltb (length b) 13 h) refl
-
--- an ack leaves none awaited
-ack-ends : (top : ℕ) (r : Reply) (keep : Bool) (l : L.Sender) → hearAck top r keep l .awaited ≡ false
-unfolding hearAck settleBurst clearBurst
-ack-ends top r keep l =
-    by (λ (x : L.Sender). x .awaited ≡ false) (l .awaited) (λ _. either (λ (x : L.Sender). x .awaited ≡ false) (settles r l) _ _ refl refl) (λ e. e)
 
 module _ (p : Profile) (h : Heard) where
   long-ends : (r : LongAck) (i : AckInfo) (s : Sender) (a : List ℕ) → longAcked p h r i s a .0 .link .awaiting ≡ false

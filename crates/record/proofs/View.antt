@@ -55,13 +55,13 @@ bytes-pieces (r ∷ rs) st = ap (λ (b : List ℕ). take (r .len) st ++ b) (byte
 -- ---- the work area
 
 -- what the work area can hold
-pub record Fits (l : L.Sender) (a : List ℕ) : Type 0 where
+pub record ViewFits (l : L.Sender) (a : List ℕ) : Type 0 where
   pub area : areaBytes ≤ length a
   pub rows : length (l .pieces) ≤ maxPieces
   pub stream : size (l .pieces) + length (l .waiting) ≤ streamBytes
   pub small : Small (rowsOf (l .pieces))
 
-module _ (l : L.Sender) (a : List ℕ) (f : Fits l a) where
+module _ (l : L.Sender) (a : List ℕ) (f : ViewFits l a) where
   abbrev stream : List ℕ
   stream = bytesOf (l .pieces) ++ l .waiting
 
@@ -157,7 +157,7 @@ pub record Arrays (s : Sender) : Type 0 where
   pub sentBits : length (s .«last_burst» .bits) ≡ maxSlots
   pub sentHeld : length (s .«last_burst» .held) ≡ maxSlots
 
-pub view-store : (l : L.Sender) (s : Sender) (a : List ℕ) → Fits l a → Holds l → Arrays s → view (store l s) (storeArea l a) ≡ l
+pub view-store : (l : L.Sender) (s : Sender) (a : List ℕ) → ViewFits l a → Holds l → Arrays s → view (store l s) (storeArea l a) ≡ l
 unfolding view store storeCounts storeLink
 view-store l s a f h ar =
     let e₁ = waiting-stored l a f in

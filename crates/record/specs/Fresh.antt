@@ -4,8 +4,8 @@ use Prim.Native.Nat.{ℕ}
 use lib.Ieee.{Float, nan, inf, binary32, binary64, ofInt}
 use lib.ListN.{replicate}
 use Rattle.ieee.specs.Range.{w32, w64}
-use Rattle.config.specs.declared.MaybeDb.{MaybeDb}
 use Rattle.gear.specs.declared.Gear.{Gear}
+use Rattle.gear.specs.Setters.{noDb}
 use Rattle.record.specs.declared.Link.{Link}
 use Rattle.record.specs.declared.Counts.{Counts}
 use Rattle.record.specs.declared.AtPeer.{AtPeer}
@@ -15,9 +15,6 @@ use Rattle.limits.specs.Limits.{maxSlots}
 
 abbrev pub levels : ℕ
 levels = 17
-
-abbrev none : MaybeDb
-none = record { set = false; db = w32 0 }
 
 -- minus infinity: never
 abbrev never : Float
@@ -30,8 +27,8 @@ freshGear =
       level = 0;
       target = 0;
       «burst_s» = w64 0;
-      «aim_db» = none;
-      «last_report_db» = none;
+      «aim_db» = noDb;
+      «last_report_db» = noDb;
       «snr_reports» = record { count = 0; a = w32 0; b = w32 0; c = w32 0 };
       «peer_class» = record { echo = false; doppler = false };
       cue = false;

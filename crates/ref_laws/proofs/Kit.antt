@@ -16,8 +16,7 @@ pub use denote.Ref.{MutRef, RefT, ShrRef, mut-tells, ptr-vals, shr-tells}
 pub use denote.Signature.{mutSlice, plain, shrRefTo, shrSlice}
 pub use denote.Signed.{sint-lawful, sint-makes, sint-tells, sint-vals}
 pub use denote.Slice.{MutSlice, ShrSlice, mut-slice-lawful, mut-slice-tells, shr-slice-copy, shr-slice-lawful, shr-slice-tells, slice-vals}
-pub use denote.Steps.{closes, heard, looks, nothing, only, opens, owned, peeks, shuts}
-pub use denote.Struct.Steps.{spelt}
+pub use denote.Steps.{facts, nothing, only, owned, peeks}
 pub use denote.Triple.Call.{calls-at, calls-at-last}
 pub use denote.Triple.Clauses.{Lasts, atExit, ensured, lasts}
 pub use denote.Triple.Entry.{onEntry}
@@ -43,8 +42,8 @@ pub use prog.Routine.{Routine}
 pub use prog.Wp.{Calls, Env, Heap, Loops, Out, Tables, Wp, WpFn, afterBlock, afterSeq, atReturn}
 unfoldable pub use prog.Wp.{afterTurn}
 pub use sound.WpLaws.{FmC, WpFn-mono, fmOf}
-pub use types.Kit.{Given, Item, Sq, _$_, _∵_, _⊛_, anyQ, atRet, await, done, drop, feqI, feqL, fjoin, fjoin3, frame, fsplit, fsplit3, join, keep, later, move, pick, qed, raw, rewrite, runs, some, split, suffices, use1, use2, use3, ‵, ! }
+pub use types.Kit.{Given, Item, Sq, _$_, _∵_, _⊛_, anyQ, atRet, await, done, drop, feqL, fjoin, frame, fsplit, join, keep, later, move, pick, qed, raw, rewrite, runs, some, split, suffices, use1, use2, use3, ‵, ! }
 pub use types.Part.{agg, look-in, store-in, sub, whole}
-pub use types.Run.{Below, addr, again, alloc0, alloc1, and-then, assigns, assigns-last, bin, blocks, branches, enter, exec, false-lit, first, fld, forget, free0, free1, from, hop, init, jumps, land, land-last, lit, load, look, look-raw, loops, no-more, of-opd, params1, pass0, pass1, returns, returns-within, skips, stop, store, store-raw, true-lit, unit-lit}
+pub use types.Run.{Below, addr, again, alloc0, and-then, assigns, assigns-last, bin, blocks, branches, enter, exec, false-lit, first, fld, forget, free0, free1, from, hop, init, jumps, land, land-last, lit, load, look, look-raw, loops, no-more, of-opd, params1, pass0, pass1, returns, returns-within, skips, stop, store, store-raw, true-lit, unit-lit}
 pub use types.SemTy.{Body}
 pub use types.Tokens.{lft-end, lft-new}

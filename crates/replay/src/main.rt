@@ -1,17 +1,15 @@
 // Reads a call list on standard input, makes its calls and writes the transcript on standard output (docs/CALLS.md).
-mod asked;
-mod boxed;
 mod buffer;
 mod input;
 
-use asked::answered;
+use asked_lines::answered;
 use box_calls::Box;
-use boxed::BoxStep;
-use boxed::boxed;
 use buffer::flush;
 use buffer::room;
 use byte_copy::least;
 use input::next_line;
+use line_steps::RunAndBox;
+use line_steps::line_step;
 use list_calls::answers::Said;
 use profile_table::LINES;
 use queuing::Station;
@@ -19,14 +17,17 @@ use run_lines::Run;
 use run_lines::Told;
 use run_lines::left;
 use run_lines::none_yet;
-use run_lines::quiet;
 use sender::fresh;
 use words::Input;
 use words::taken::END;
 use words::taken::WHOLE;
+ghost use mathlib.Core.Path.{_≡_};
+ghost use Prim.Native.Nat.{_≤_};
+ghost use lib.ListN.{length, take};
 
 // What the other lines tell of the sender.
-fn told_of(s: Station) -> Told {
+fn told_of(x: State) -> Told {
+    let s = sender_of(x);
     let counts = s.sender.counts;
     let frames = (s.sender.last_burst.n % 256) as u8;
     Told {
@@ -38,21 +39,16 @@ fn told_of(s: Station) -> Told {
     }
 }
 
-fn next(n: u64) -> u64 {
-    if n < 18446744073709551615 { n + 1 } else { n }
-}
-
-// The last line of the transcript, after n lines of the list that were right.
+// The last line of the transcript. n: how many lines were read, the end of the list counted as one.
 fn last_line(run: Run, s: Told, n: u64, t: &mut [u8]) -> usize {
     if !run.ok | (run.stage < LINES) {
-        return transcript::error(t, run.text, next(n));
+        return transcript::error(t, run.text, n);
     }
     state_lines::end(t, run.text, s.counts, s.withdrawn)
 }
 
 fn finish(x: State, n: u64, t: &mut [u8]) {
-    let s = x.said.next;
-    let k = last_line(run_after(x), told_of(s), n, t);
+    let k = last_line(run_after(x), told_of(x), n, t);
     flush(t, k);
 }
 
@@ -67,18 +63,21 @@ fn no_input() -> Input {
 }
 
 // How many characters the line has; none where it is not whole.
-fn line_length(i: Input) -> usize {
+fn line_length(i: Input, line: &[u8]) -> usize
+    ensures { λ r. ⌜ r ≤ length (now (line .entry)) ⌝ }
+    ensures { λ r. ⌜ r ≡ length (take r (now (line .entry))) ⌝ }
+{
     if i.kind == WHOLE {
-        return i.len;
+        return least(i.len, line);
     }
     0
 }
 
 // Room for the answer to the next line, if there is one; else the list has ended, or its line breaks the rules.
-fn ready(run: Run, i: Input, t: &[u8]) -> Run {
-    let mut after = run;
+fn ready(x: State, i: Input, t: &[u8]) -> Run {
+    let mut after = run_after(x);
     if i.kind == WHOLE {
-        after.text = room(t, run.text);
+        after.text = room(t, after.text);
         return after;
     }
     after.ok = i.kind == END;
@@ -93,32 +92,22 @@ fn no_calls() -> Said {
     }
 }
 
-// A line, where it does not ask the sender, and the box after it.
-fn first_part(
-    line: &[u8],
-    run: Run,
-    s: Told,
-    b: Box,
-    area: &mut [u8],
-    out: &[u8],
-    t: &mut [u8],
-    v: &mut [u64; 146],
-    file: &mut [u8],
-    l: &mut [u8],
-    w: &mut [u16],
-    h: &mut [u8],
-    sent: &mut [u8],
-) -> BoxStep {
-    let x = boxed(line, run, s, b, w, h, sent, out, t, l);
-    let run = quiet(line, x.run, s, area, t, v, file, l);
-    let next = x.next;
-    BoxStep { run, next }
-}
-
 // What stands between lines: the run and the box, and what the last line left of the sender.
 pub struct State {
-    pub first: BoxStep,
+    pub first: RunAndBox,
     pub said: Said,
+}
+
+fn box_of(x: State) -> Box {
+    x.first.next
+}
+
+fn sender_of(x: State) -> Station {
+    x.said.next
+}
+
+fn run_of(x: RunAndBox) -> Run {
+    x.run
 }
 
 // One line.
@@ -136,12 +125,11 @@ fn step(
     h: &mut [u8],
     sent: &mut [u8],
 ) -> State {
-    let s = x.said.next;
-    let first = first_part(
+    let first = line_step(
         line,
         run,
-        told_of(s),
-        x.first.next,
+        told_of(x),
+        box_of(x),
         area,
         out,
         t,
@@ -152,8 +140,9 @@ fn step(
         h,
         sent,
     );
-    let k = least(first.run.len, l);
-    let said = answered(&l[..k], first.run, s, area, out, t, v, file);
+    let run = run_of(first);
+    let k = least(run.len, l);
+    let said = answered(&l[..k], run, sender_of(x), area, out, t, v, file);
     State { first, said }
 }
 
@@ -162,8 +151,13 @@ fn run_after(x: State) -> Run {
     left(x.first.run, x.said.ok, x.said.text)
 }
 
+// Whether another line is to be read: the list has not ended, and no line broke the rules.
+fn goes_on(i: Input, x: State) -> bool {
+    (i.kind != END) & x.said.ok
+}
+
 fn before() -> State {
-    let first = BoxStep {
+    let first = RunAndBox {
         run: none_yet(),
         next: box_calls::fresh(),
     };
@@ -186,11 +180,12 @@ fn replay(
     let mut v = [0u64; 146];
     let mut i = no_input();
     let mut x = before();
+    let mut more = true;
     let mut n: u64 = 0;
-    while n < 18446744073709551615 {
+    while more & (n < 18446744073709551615) {
         i = next_line(chunk, line, i);
-        let run = ready(run_after(x), i, t);
-        let len = least(line_length(i), line);
+        let run = ready(x, i, t);
+        let len = line_length(i, line);
         x = step(
             &line[..len],
             run,
@@ -205,12 +200,10 @@ fn replay(
             h,
             sent,
         );
-        if (i.kind == END) | !x.said.ok {
-            finish(x, n, t);
-            return;
-        }
+        more = goes_on(i, x);
         n += 1;
     }
+    finish(x, n, t);
 }
 
 fn main() {

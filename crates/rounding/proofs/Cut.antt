@@ -7,12 +7,12 @@ use mathlib.Core.Bool.{false}
 use lib.IntN.{ℤ}
 use lib.Ieee.{fin, up, down, toUnsigned}
 use lib.Ieee.Fits.{down-pos}
-use Rattle.rounding.specs.Rounding.{Cut}
+use Rattle.rounding.specs.Rounding.{TowardZero}
 
-pub cut-rounded : (w m : ℕ) (e : ℤ) → m * up e < 2 ^ w * down e → Cut (m * up e) (down e) (toUnsigned w (fin false m e))
+pub cut-rounded : (w m : ℕ) (e : ℤ) → m * up e < 2 ^ w * down e → TowardZero (m * up e) (down e) (toUnsigned w (fin false m e))
 unfolding toUnsigned
 cut-rounded w m e h =
-    subst (λ (c : ℕ). Cut (m * up e) (down e) c) (sym (whole (m * up e / down e) (2 ^ w) (div-lt-iff-lt-mul (down-pos e) .1 h)))
+    subst (λ (c : ℕ). TowardZero (m * up e) (down e) c) (sym (whole (m * up e / down e) (2 ^ w) (div-lt-iff-lt-mul (down-pos e) .1 h)))
     (record {
       no-more = div-mul-le-self (m * up e) (down e);
       closest =

@@ -1,4 +1,4 @@
--- The kit's formats hold exactly the standard's numbers: each finite value that `fits` admits is one of `Number`, and each `Number` is
+-- The kit's formats hold exactly the standard's numbers: each finite value that `fits` admits is one of `FormatNumber`, and each `FormatNumber` is
 -- the size of such a value of either sign. Assumes nothing.
 use mathlib.Core.Path.{_≡_, ap, subst}
 use Prim.Native.Nat.{ℕ, suc, _+_, _-_, _*_, _^_, _≤_, _<_}
@@ -12,11 +12,11 @@ use lib.Ieee.{Float, inf, fin, Format, prec, emax, low, up, down, round, fits}
 use lib.Ieee.Fits.{down-pos, round-fits, two}
 use lib.Ieee.Exact.{round-exact}
 use Rattle.ieee.proofs.Representable.{round-own}
-use Rattle.rounding.specs.Rounding.{Number, Datum, Rounded, finite, infinite}
+use Rattle.rounding.specs.Rounding.{FormatNumber, Datum, Rounded, finite, infinite}
 use Rattle.rounding.proofs.Rule.{rounded, datum, top'}
 
 pub held : (f : Format) (s : Bool) (m : ℕ) (e : ℤ) → T (fits f (fin s m e))
-    → (v : ℕ) × Number (prec f) (emax f) v × Datum (prec f) (emax f) (fin s m e) s v
+    → (v : ℕ) × FormatNumber (prec f) (emax f) v × Datum (prec f) (emax f) (fin s m e) s v
 held f s m e h = go (subst (λ (x : Float). Rounded (prec f) (emax f) s (m * up e) (down e) x) (round-own f s m e h)
     (rounded f s (m * up e) (down e) (down-pos e)))
   where
@@ -24,11 +24,11 @@ held f s m e h = go (subst (λ (x : Float). Rounded (prec f) (emax f) s (m * up 
     no-inf g = let z : _≡_ {A = ℕ} 0 1 = cc in omega arith
 
     go : Rounded (prec f) (emax f) s (m * up e) (down e) (fin s m e)
-        → (v : ℕ) × Number (prec f) (emax f) v × Datum (prec f) (emax f) (fin s m e) s v
+        → (v : ℕ) × FormatNumber (prec f) (emax f) v × Datum (prec f) (emax f) (fin s m e) s v
     go (infinite o g) = absurd (no-inf g)
     go (finite o v n d) = (v, n .number, d)
 
-pub holds : (f : Format) (s : Bool) (v : ℕ) → Number (prec f) (emax f) v → (x : Float) × T (fits f x) × Datum (prec f) (emax f) x s v
+pub holds : (f : Format) (s : Bool) (v : ℕ) → FormatNumber (prec f) (emax f) v → (x : Float) × T (fits f x) × Datum (prec f) (emax f) x s v
 holds f s v (c, j, w) =
     let l = 2 ^ low f in (
       round f s v l,

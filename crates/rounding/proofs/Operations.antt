@@ -12,7 +12,7 @@ use lib.Ieee.Bits.{cond-no}
 use lib.Ieee.Fits.{up-pos, down-pos, fits-widens}
 use Rattle.ieee.proofs.Representable.{round-own}
 use Rattle.exp.specs.Narrow.{narrow}
-use Rattle.rounding.specs.Rounding.{dist, signOf, above, below, Rounded, Sum}
+use Rattle.rounding.specs.Rounding.{dist, signOf, positivePart, negativePart, Rounded, Sum}
 use Rattle.rounding.proofs.Rule.{rounded}
 use Rattle.rounding.proofs.Sums.{clash, sum-is}
 
@@ -27,8 +27,8 @@ module _ (f : Format) (s t : Bool) (m n : ℕ) (e d : ℤ) where
   pub add-rounded : Sum (prec f) (emax f) s left t right (down e * down d) (s && t) (add f (fin s m e) (fin t n d))
   unfolding add
   add-rounded =
-      let plus = above s left + above t right in
-      let minus = below s left + below t right in
+      let plus = positivePart s left + positivePart t right in
+      let minus = negativePart s left + negativePart t right in
       subst (λ (x : Float). Sum (prec f) (emax f) s left t right (down e * down d) (s && t) x)
       (sym (sum-is f s left t right (down e * down d)))
       (rounded f (signOf plus minus (s && t)) (dist plus minus) (down e * down d) (mul-pos (down-pos e) (down-pos d)))

@@ -6,7 +6,7 @@ use native.Mathlib.Omega.{arith}
 use mathlib.Core.Bool.{Bool, true, false, not, _&&_, cond}
 use lib.Dec.{T, ltb, ltb→lt, nltb→le}
 use lib.Ieee.{Format, round, sum}
-use Rattle.rounding.specs.Rounding.{dist, signOf, above, below}
+use Rattle.rounding.specs.Rounding.{dist, signOf, positivePart, negativePart}
 
 -- ---- the sign of a - b
 pub clash : (a b : ℕ) → a < b → b ≤ a → ⊥
@@ -71,8 +71,8 @@ module _ (f : Format) (a b c p n : ℕ) where
           same false (signOf p n false) (a - b) (dist p n) (sym (sign-plus p n false (omega arith) (λ g. refl))) (omega arith)
 
 pub sum-is : (f : Format) (s : Bool) (a : ℕ) (t : Bool) (b c : ℕ)
-    → sum f s a t b c ≡ round f (signOf (above s a + above t b) (below s a + below t b) (s && t))
-    (dist (above s a + above t b) (below s a + below t b)) c
+    → sum f s a t b c ≡ round f (signOf (positivePart s a + positivePart t b) (negativePart s a + negativePart t b) (s && t))
+    (dist (positivePart s a + positivePart t b) (negativePart s a + negativePart t b)) c
 unfolding sum
 sum-is f false a false b c = both-plus f a b c (a + b) (0 + 0) refl (omega arith)
 sum-is f false a true b c = plus-minus f a b c (a + 0) (0 + b) (omega arith) (omega arith)

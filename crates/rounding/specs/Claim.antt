@@ -8,7 +8,7 @@ use lib.Dec.{T}
 use lib.IntN.{ℤ, pos, negsuc}
 use lib.Ieee.{Float, fin, Format, binary32, binary64, up, down, unlike, round, fits, add, sub, mul, div, ofInt, toUnsigned}
 use Rattle.exp.specs.Narrow.{narrow}
-use Rattle.rounding.specs.Rounding.{Number, Datum, Rounded, Sum, Cut}
+use Rattle.rounding.specs.Rounding.{FormatNumber, Datum, Rounded, Sum, TowardZero}
 
 -- the kit's format f is the standard's of p digits and the largest exponent emax
 pub record Arithmetic (p emax : ℕ) (f : Format) : Type 0 where
@@ -16,8 +16,8 @@ pub record Arithmetic (p emax : ℕ) (f : Format) : Type 0 where
   pub rounds : (s : Bool) (a d : ℕ) → 0 < d → Rounded p emax s a d (round f s a d)
   pub alone : (s : Bool) (a d : ℕ) (x : Float) → 0 < d → T (fits f x) → Rounded p emax s a d x → x ≡ round f s a d
   -- the finite values that the format holds are the standard's numbers, of either sign
-  pub held : (s : Bool) (m : ℕ) (e : ℤ) → T (fits f (fin s m e)) → (v : ℕ) × Number p emax v × Datum p emax (fin s m e) s v
-  pub holds : (s : Bool) (v : ℕ) → Number p emax v → (x : Float) × T (fits f x) × Datum p emax x s v
+  pub held : (s : Bool) (m : ℕ) (e : ℤ) → T (fits f (fin s m e)) → (v : ℕ) × FormatNumber p emax v × Datum p emax (fin s m e) s v
+  pub holds : (s : Bool) (v : ℕ) → FormatNumber p emax v → (x : Float) × T (fits f x) × Datum p emax x s v
   -- 6.3: "when the sum of two operands with opposite signs (or the difference of two operands with like signs) is exactly zero, the sign of
   -- that sum (or difference) shall be +0"; "x + x and x - (-x) have the sign of x when x is zero"
   pub sums : (s t : Bool) (m n : ℕ) (e d : ℤ)
@@ -45,4 +45,4 @@ pub record Conversions : Type 0 where
   pub narrowed : (s : Bool) (m : ℕ) (e : ℤ) → Rounded 24 127 s (m * up e) (down e) (narrow (fin s m e))
   pub widened : (s : Bool) (m : ℕ) (e : ℤ) → T (fits binary32 (fin s m e)) → Rounded 53 1023 s (m * up e) (down e) (fin s m e)
   -- 5.8, convertToIntegerTowardZero: a number that is not negative and below 2 ^ w, to w bits
-  pub cut : (w m : ℕ) (e : ℤ) → m * up e < 2 ^ w * down e → Cut (m * up e) (down e) (toUnsigned w (fin false m e))
+  pub cut : (w m : ℕ) (e : ℤ) → m * up e < 2 ^ w * down e → TowardZero (m * up e) (down e) (toUnsigned w (fin false m e))

@@ -17,12 +17,12 @@ dist a b = (a - b) + (b - a)
 abbrev pub signOf : ℕ → ℕ → Bool → Bool
 signOf a b z = cond (ltb b a) false (cond (ltb a b) true z)
 
--- (-1)^s a is `above` - `below`
-abbrev pub above : Bool → ℕ → ℕ
-above s a = cond s 0 a
+-- (-1)^s a is `positivePart` - `negativePart`
+abbrev pub positivePart : Bool → ℕ → ℕ
+positivePart s a = cond s 0 a
 
-abbrev pub below : Bool → ℕ → ℕ
-below s a = cond s a 0
+abbrev pub negativePart : Bool → ℕ → ℕ
+negativePart s a = cond s a 0
 
 module _ (p emax : ℕ) where
   -- 3.3: "emin shall be 1 - emax", so the least q is emin - p + 1 = -(emax + p - 2)
@@ -36,8 +36,8 @@ module _ (p emax : ℕ) where
     pub exponent : j < 2 * emax
     pub magnitude : v ≡ c * 2 ^ j
 
-  abbrev pub Number : ℕ → Type 0
-  Number v = (c : ℕ) × (j : ℕ) × Written v c j
+  abbrev pub FormatNumber : ℕ → Type 0
+  FormatNumber v = (c : ℕ) × (j : ℕ) × Written v c j
 
   -- "an even least significant digit": c is written with all p digits, the first of them not 0 but where the exponent is the least
   -- (3.4: a subnormal number), and it is even
@@ -52,9 +52,9 @@ module _ (p emax : ℕ) where
   -- numbers bracketing an unrepresentable infinitely precise result are equally near, the one with an even least significant digit shall
   -- be delivered". (One of the two has such a digit for every p but 1.)
   pub record Nearest (a d v : ℕ) : Type 0 where
-    pub number : Number v
-    pub nearest : (w : ℕ) → Number w → off a d v ≤ off a d w
-    pub tie : (w : ℕ) → Number w → (w ≡ v → ⊥) → off a d w ≡ off a d v → Even v
+    pub number : FormatNumber v
+    pub nearest : (w : ℕ) → FormatNumber w → off a d v ≤ off a d w
+    pub tie : (w : ℕ) → FormatNumber w → (w ≡ v → ⊥) → off a d w ≡ off a d v → Even v
 
   -- 4.3.1: "an infinitely precise result with magnitude at least b^emax (b - ½ b^(1-p)) shall round to ∞ with no change in sign".
   -- With b = 2 the bound is 2^emax (2^(p+1) - 1) / 2^p.
@@ -75,12 +75,12 @@ module _ (p emax : ℕ) where
   -- x is (-1)^s a / d + (-1)^t b / d, rounded. z is the sign of a sum that is exactly zero.
   abbrev pub Sum : Bool → ℕ → Bool → ℕ → ℕ → Bool → Float → Type 0
   Sum s a t b d z x =
-      let plus = above s a + above t b in
-      let minus = below s a + below t b in
+      let plus = positivePart s a + positivePart t b in
+      let minus = negativePart s a + negativePart t b in
       Rounded (signOf plus minus z) (dist plus minus) d x
 
 -- 4.3.2, roundTowardZero: "closest to and no greater in magnitude than the infinitely precise result", for a whole number c and the
 -- magnitude a / d
-pub record Cut (a d c : ℕ) : Type 0 where
+pub record TowardZero (a d c : ℕ) : Type 0 where
   pub no-more : c * d ≤ a
   pub closest : a < suc c * d

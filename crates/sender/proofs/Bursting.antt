@@ -11,7 +11,6 @@ use Rattle.config.specs.declared.Profile.{Profile}
 use Rattle.outgoing.specs.Outgoing.{burstOf}
 use Rattle.outgoing.specs.declared.Outgoing.{Outgoing}
 use Rattle.record.specs.declared.Sender.{Sender}
-use Rattle.sender.specs.declared.Bursted.{Bursted}
 use Rattle.refusals.specs.declared.Verdict.{Verdict}
 use Rattle.verdicts.specs.Verdicts.{passed, burstVerdict}
 use Rattle.ledger.specs.Queue.{flies}
@@ -28,7 +27,7 @@ use Rattle.record.proofs.View.{Arrays}
 use Rattle.laws.proofs.Bytes.{length-part}
 use Rattle.soundness.proofs.fields.Sound.{test-sound, sound-counted}
 use Rattle.verdicts.proofs.Passed.{burst-passed}
-use Rattle.sender.specs.Calls.{noBurst, messagesAfter, burstCall}
+use Rattle.sender.specs.Calls.{Bursted, noBurst, messagesAfter, burstCall}
 
 abbrev bursted : Verdict → Outgoing → Station → List ℕ × List ℕ → Bursted × (List ℕ × List ℕ)
 bursted v o t x = (record { verdict = v; outgoing = o; next = t }, x)

@@ -1,3 +1,4 @@
-pub mod Answered
+pub mod Accepted
 pub mod Bursting
+pub mod Numbers
 pub mod Refused

@@ -66,10 +66,8 @@ use Rattle.receive.specs.Accepted.{longRead, acceptedReply}
 use Rattle.reception.specs.Reception.{Decoded, decodedIn, isRead, flagsOf, framesHeard}
 use Rattle.reception.specs.declared.Reception.{Reception}
 use Rattle.reception.proofs.Laws.{read-ends, quiet-area}
-use Rattle.sender.specs.declared.Answer.{Answer}
-use Rattle.sender.specs.declared.Bursted.{Bursted}
-use Rattle.sender.specs.Calls.{queueOf, receiveOf, framesOf, noBurst, burstCall}
-use Rattle.sender.proofs.Answered.{queue-refused, receive-refused, frames-refused}
+use Rattle.sender.specs.Calls.{Answer, Bursted, queueOf, receiveOf, framesOf, noBurst, burstCall}
+use Rattle.sender.proofs.Accepted.{queue-refused, receive-refused, frames-refused}
 use Rattle.sender.proofs.Bursting.{burst-refused}
 use Rattle.limits.specs.Limits.{maxPieces}
 

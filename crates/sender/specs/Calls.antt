@@ -20,15 +20,25 @@ use Rattle.refusals.specs.declared.Reply.{Reply}
 use Rattle.receive.specs.Accepted.{acceptedReply}
 use Rattle.reception.specs.Reception.{decodedIn, framesHeard}
 use Rattle.reception.specs.declared.Reception.{Reception}
-use Rattle.sender.specs.declared.Answer.{Answer}
-use Rattle.sender.specs.declared.Replied.{Replied}
-use Rattle.sender.specs.declared.Queued.{Queued}
-use Rattle.sender.specs.declared.Finding.{Finding}
 use Rattle.outgoing.specs.Outgoing.{burstOf}
 use Rattle.outgoing.specs.declared.Outgoing.{Outgoing}
-use Rattle.sender.specs.declared.Bursted.{Bursted}
+use Rattle.refusals.specs.declared.Verdict.{Verdict}
 use Rattle.verdicts.specs.Verdicts.{passed, standing, queueVerdict, receiveVerdict, framesVerdict, burstVerdict}
 use Rattle.limits.specs.Limits.{maxSlots}
+
+-- what a queuing or a reply answers, and the next record
+pub record Answer : Type 0 where
+  pub verdict : Verdict
+  pub next : Station
+
+pub record Bursted : Type 0 where
+  pub verdict : Verdict
+  pub outgoing : Outgoing
+  pub next : Station
+
+pub record Finding : Type 0 where
+  pub verdict : Verdict
+  pub found : Found
 
 -- ---- queue: 1 2 3 4 11 8 9 12
 
@@ -39,10 +49,6 @@ queueOf p t a class label bytes =
     let after = queuedIn class label bytes t a in
     cond (passed v) (record { verdict = v; next = after .0 }, after .1) (record { verdict = v; next = t }, a)
 
--- what is handed back of it: the record t, with these messages
-abbrev pub queuedBy : Station → Queued → Answer
-queuedBy t q = record { verdict = q .verdict; next = withMessages t (q .messages) (q .waiting) }
-
 -- ---- sender_rx: 1 2 3 4 5 6, a long ack also 7
 
 unfoldable pub receiveOf : Profile → Station → List ℕ → Heard → Reply → List ℕ → Answer × List ℕ
@@ -50,10 +56,6 @@ receiveOf p t a h r payload =
     let v = receiveVerdict p t a h r (length payload) in
     let after = acceptedReply p h r payload (t .sender) a in
     cond (passed v) (record { verdict = v; next = withSender t (after .0) }, after .1) (record { verdict = v; next = t }, a)
-
--- what is handed back of it: the record t, with this sender; the messages stay
-abbrev pub repliedBy : Station → Replied → Answer
-repliedBy t q = record { verdict = q .verdict; next = withSender t (q .sender) }
 
 -- ---- all frames of one reception: 1 2 3 15 4 5 6
 

@@ -46,13 +46,13 @@ linkLine g k =
     ++ numberWord (k .«peer_slot») ++ singleWord (k .«peer_doppler_hz») ++ flagWord (g .cue) ++ text "\n"
 
 -- a word where a test passes
-abbrev pub given : Bool → List ℕ → List ℕ
-given set w = cond set w []
+abbrev pub wordIf : Bool → List ℕ → List ℕ
+wordIf set w = cond set w []
 
 -- "the recent reports, oldest first": of three reports a is the oldest, and c is the newest of any
 unfoldable pub reports : Reports → List ℕ
-reports r = given (leb 3 (r .count)) (singleWord (r .a)) ++ given (leb 2 (r .count)) (singleWord (r .b))
-    ++ given (leb 1 (r .count)) (singleWord (r .c))
+reports r = wordIf (leb 3 (r .count)) (singleWord (r .a)) ++ wordIf (leb 2 (r .count)) (singleWord (r .b))
+    ++ wordIf (leb 1 (r .count)) (singleWord (r .c))
 
 -- `aim AIM_DB LAST_REPORT_DB REPORT ..`
 unfoldable pub aimLine : Gear → List ℕ

@@ -22,7 +22,7 @@ ghost use Prim.Native.Nat.{_<_};
 ghost use Rattle.laws.specs.Span.{upto};
 ghost use Rattle.text.specs.Buffer.{appended, each};
 ghost use Rattle.text.specs.Words.{singleWord};
-ghost use Rattle.state_lines.specs.State.{tallyWords, endLine, stateLine, linkLine, given, reports, aimLine, gearLine, gearOf};
+ghost use Rattle.state_lines.specs.State.{tallyWords, endLine, stateLine, linkLine, wordIf, reports, aimLine, gearLine, gearOf};
 ghost use Rattle.state_lines.specs.State.{countsLine, stateLines};
 
 mod lists;
@@ -84,7 +84,7 @@ fn link(t: &mut [u8], n: usize, g: Gear, k: Link) -> usize
 
 // F32 where a test passes, else nothing.
 fn if_set(t: &mut [u8], n: usize, set: bool, x: f32) -> usize
-    ensures { λ r. ⌜ (r, now (t .exit)) ≡ appended (n, now (t .entry)) (given set (singleWord x)) ⌝ }
+    ensures { λ r. ⌜ (r, now (t .exit)) ≡ appended (n, now (t .entry)) (wordIf set (singleWord x)) ⌝ }
 {
     if set {
         return single(t, n, x);

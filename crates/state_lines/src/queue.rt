@@ -10,13 +10,13 @@ ghost use mathlib.Core.Path.{_≡_};
 ghost use Prim.Native.Nat.{_<_, _≤_};
 ghost use Rattle.limits.specs.Limits.{maxMessages};
 ghost use Rattle.text.specs.Buffer.{appended, each};
-ghost use Rattle.messages.specs.Messages.{entryAt, entriesFrom};
+ghost use Rattle.messages.specs.Messages.{entryInRow, entriesFrom};
 ghost use Rattle.state_lines.specs.Queue.{messageWord, messagesLine};
 
 // Row i.
 fn row(t: &mut [u8], n: usize, m: Messages, i: usize) -> usize
     requires { ⌜ i < maxMessages ⌝ }
-    ensures { λ r. ⌜ (r, now (t .exit)) ≡ appended (n, now (t .entry)) (messageWord (entryAt m i)) ⌝ }
+    ensures { λ r. ⌜ (r, now (t .exit)) ≡ appended (n, now (t .entry)) (messageWord (entryInRow m i)) ⌝ }
 {
     long_entry(t, n, m.class[i] as u32, m.label[i] as u32, m.left[i] as u32)
 }

@@ -1,9 +1,9 @@
 -- What an exported call answers beside the record that it leaves: together they are what the call by value answers. Definitions only.
 use Prim.Native.Nat.{ℕ}
 use Rattle.queuing.specs.declared.Station.{Station}
-use Rattle.numbered.specs.declared.Left.{Left}
-use Rattle.numbered.specs.declared.LeftBurst.{LeftBurst}
-use Rattle.numbered.specs.declared.Burst.{Burst}
+use Rattle.sender.specs.declared.Left.{Left}
+use Rattle.sender.specs.declared.LeftBurst.{LeftBurst}
+use Rattle.sender.specs.declared.Burst.{Burst}
 
 abbrev pub left : ℕ → Station → Left
 left n t = record { refusal = n; next = t }

@@ -5,28 +5,28 @@ use adif::Logged;
 use card::CardAnswer;
 use card::Found;
 use config::Profile;
-use messages::Messages;
-use numbered::Burst;
-use numbered::Message;
-use numbered::Place;
 use queuing::Station;
 use reachable::Listing;
 use receiver::Received;
 use receiver::Receiver;
 use reception::Reception;
-use record::Sender;
 use replies::Ack;
 use replies::ConnAck;
 use replies::Heard;
 use replies::LongAck;
 use replies::Turn;
 use report::ChanClass;
+use sender::Burst;
+use sender::LeftQueue;
+use sender::LeftSender;
+use sender::Message;
+use sender::Place;
 ghost use mathlib.Core.Path.{_≡_};
 ghost use mathlib.Core.List.{[]};
 ghost use Rattle.queuing.specs.Station.{freshStation, withSender, withMessages};
 ghost use Rattle.sender.specs.Calls.{queueOf, receiveOf, framesOf, findOf, pieceOf, burstCall};
 ghost use Rattle.refusals.specs.declared.Reply.the-variants as R;
-ghost use Rattle.numbered.specs.Numbered.{answerNumber, burstNumber, findNumber};
+ghost use Rattle.sender.specs.Numbered.{answerNumber, burstNumber, findNumber};
 ghost use Rattle.adif.specs.Adif.{logOf};
 ghost use Rattle.reachable.specs.Reachable.{listingUnder};
 ghost use Rattle.card.specs.Card.{writeOf, readOf};
@@ -43,41 +43,40 @@ fn keep(t: &mut Station, refusal: u8, next: Station)
     }
 }
 
-// The same of a reply: the messages stay.
-fn keep_sender(t: &mut Station, answer: u8, next: Sender)
-    ensures { λ _. ⌜ now (t .exit) ≡ kept (now (t .entry)) answer (withSender (now (t .entry)) next) ⌝ }
+// The same of a reply: the messages stay. Answers the number.
+fn keep_sender(t: &mut Station, answer: LeftSender) -> u8
+    ensures { λ r. ⌜ (r ≡ answer .refusal)
+        × (now (t .exit) ≡ kept (now (t .entry)) (answer .refusal) (withSender (now (t .entry)) (answer .sender))) ⌝ }
 {
-    if answer == 0 {
-        t.sender = next;
+    if answer.refusal == 0 {
+        t.sender = answer.sender;
     }
+    answer.refusal
 }
 
 // The same of a queuing: the rest of the record stays.
-fn keep_queue(t: &mut Station, taken: u8, messages: Messages, waiting: u32)
-    ensures { λ _. ⌜ now (t .exit) ≡ kept (now (t .entry)) taken (withMessages (now (t .entry)) messages waiting) ⌝ }
+fn keep_queue(t: &mut Station, taken: LeftQueue) -> u8
+    ensures { λ r. ⌜ (r ≡ taken .refusal)
+        × (now (t .exit) ≡ kept (now (t .entry)) (taken .refusal) (withMessages (now (t .entry)) (taken .messages) (taken .waiting))) ⌝ }
 {
-    if taken == 0 {
-        t.messages = messages;
-        t.sender.counts.waiting = waiting;
+    if taken.refusal == 0 {
+        t.messages = taken.messages;
+        t.sender.counts.waiting = taken.waiting;
     }
+    taken.refusal
 }
 
-// Stores the profile that was read, unless a number refuses its file: then nothing is written.
-fn keep_profile(p: &mut Profile, number: u8, read: Profile)
-    ensures { λ _. ⌜ now (p .exit) ≡ kept (now (p .entry)) number read ⌝ }
+// Stores the profile that was read, unless a number refuses its file: then nothing is written. Answers the rest.
+fn keep_profile(p: &mut Profile, read: Found) -> CardAnswer
+    ensures { λ r. ⌜ ((r .refusal ≡ read .refusal) × (r .stretched ≡ read .stretched))
+        × (now (p .exit) ≡ kept (now (p .entry)) (read .refusal) (read .profile)) ⌝ }
 {
-    if number == 0 {
-        *p = read;
+    if read.refusal == 0 {
+        *p = read.profile;
     }
-}
-
-// What reading a file answers beside the profile.
-fn card_answer(q: Found) -> CardAnswer
-    ensures { λ r. ⌜ (r .refusal ≡ q .refusal) × (r .stretched ≡ q .stretched) ⌝ }
-{
     CardAnswer {
-        refusal: q.refusal,
-        stretched: q.stretched,
+        refusal: read.refusal,
+        stretched: read.stretched,
     }
 }
 
@@ -102,9 +101,8 @@ pub extern "C" fn vanitycrow_queue(
     ensures { λ r. ⌜ (left r (now (t .exit)), now (a .exit))
         ≡ answerNumber (queueOf (now (p .entry)) (now (t .entry)) (now (a .entry)) (m .class) (m .label) (now (bytes .entry))) ⌝ }
 {
-    let q = numbered::queue(*p, *t, a, m, bytes);
-    keep_queue(t, q.refusal, q.messages, q.waiting);
-    q.refusal
+    let q = sender::queue(*p, *t, a, m, bytes);
+    keep_queue(t, q)
 }
 
 // A connect answer.
@@ -119,9 +117,8 @@ pub extern "C" fn vanitycrow_connect(
     ensures { λ q. ⌜ (left q (now (t .exit)), now (a .exit))
         ≡ answerNumber (receiveOf (now (p .entry)) (now (t .entry)) (now (a .entry)) h (R.ConnAck r) []) ⌝ }
 {
-    let q = numbered::connect(*p, *t, a, h, r);
-    keep_sender(t, q.refusal, q.sender);
-    q.refusal
+    let q = sender::connect(*p, *t, a, h, r);
+    keep_sender(t, q)
 }
 
 // A short ack.
@@ -136,9 +133,8 @@ pub extern "C" fn vanitycrow_short_ack(
     ensures { λ q. ⌜ (left q (now (t .exit)), now (a .exit))
         ≡ answerNumber (receiveOf (now (p .entry)) (now (t .entry)) (now (a .entry)) h (R.Ack r) []) ⌝ }
 {
-    let q = numbered::short_ack(*p, *t, a, h, r);
-    keep_sender(t, q.refusal, q.sender);
-    q.refusal
+    let q = sender::short_ack(*p, *t, a, h, r);
+    keep_sender(t, q)
 }
 
 // A long ack and its payload.
@@ -154,9 +150,8 @@ pub extern "C" fn vanitycrow_long_ack(
     ensures { λ q. ⌜ (left q (now (t .exit)), now (a .exit))
         ≡ answerNumber (receiveOf (now (p .entry)) (now (t .entry)) (now (a .entry)) h (R.LongAck r) (now (payload .entry))) ⌝ }
 {
-    let q = numbered::long_ack(*p, *t, a, h, r, payload);
-    keep_sender(t, q.refusal, q.sender);
-    q.refusal
+    let q = sender::long_ack(*p, *t, a, h, r, payload);
+    keep_sender(t, q)
 }
 
 // A turn.
@@ -171,9 +166,8 @@ pub extern "C" fn vanitycrow_turn(
     ensures { λ q. ⌜ (left q (now (t .exit)), now (a .exit))
         ≡ answerNumber (receiveOf (now (p .entry)) (now (t .entry)) (now (a .entry)) h (R.Turn r) []) ⌝ }
 {
-    let q = numbered::turn(*p, *t, a, h, r);
-    keep_sender(t, q.refusal, q.sender);
-    q.refusal
+    let q = sender::turn(*p, *t, a, h, r);
+    keep_sender(t, q)
 }
 
 // All decoded frames of one reception, and their payloads back to back.
@@ -189,9 +183,8 @@ pub extern "C" fn vanitycrow_frames(
     ensures { λ q. ⌜ (left q (now (t .exit)), now (a .exit))
         ≡ answerNumber (framesOf (now (p .entry)) (now (t .entry)) (now (a .entry)) h r (now (payloads .entry))) ⌝ }
 {
-    let q = numbered::frames(*p, *t, a, h, r, payloads);
-    keep_sender(t, q.refusal, q.sender);
-    q.refusal
+    let q = sender::frames_rx(*p, *t, a, h, r, payloads);
+    keep_sender(t, q)
 }
 
 // The next burst. Its frames stand in the output back to back.
@@ -205,10 +198,10 @@ pub extern "C" fn vanitycrow_data_burst(
     ensures { λ r. ⌜ (leftBurst r (now (t .exit)), (now (a .exit), now (out .exit)))
         ≡ burstNumber (burstCall (now (p .entry)) (now (t .entry)) (now (a .entry)) (now (out .entry))) ⌝ }
 {
-    let q = numbered::data_burst(*p, *t, a, out);
-    let l = numbered::after_burst(q);
+    let q = sender::data_burst(*p, *t, a, out);
+    let l = sender::after_burst(q);
     keep(t, l.refusal, l.next);
-    numbered::made(q)
+    sender::made(q)
 }
 
 // Where the bytes of the piece at `off` lie in the work area.
@@ -216,7 +209,7 @@ pub extern "C" fn vanitycrow_data_burst(
 pub extern "C" fn vanitycrow_find(p: &Profile, t: &Station, a: &[u8], off: u32) -> Place
     ensures { λ r. ⌜ r ≡ findNumber (findOf (now (p .entry)) (now (t .entry)) (now (a .entry)) off) ⌝ }
 {
-    numbered::find(*p, *t, a, off)
+    sender::find(*p, *t, a, off)
 }
 
 // The bytes of the piece at `off`: the part of the work area that holds them. Empty where refused or not found. No reference is handed to C.
@@ -262,8 +255,7 @@ pub extern "C" fn vanitycrow_read_profile(file: &[u8], p: &mut Profile) -> CardA
     ensures { λ r. ⌜ (r .refusal, now (p .exit), r .stretched) ≡ readOf (now (file .entry)) (now (p .entry)) ⌝ }
 {
     let q = card::read(file, *p);
-    keep_profile(p, q.refusal, q.profile);
-    card_answer(q)
+    keep_profile(p, q)
 }
 
 // The record of a new box; its window is all zeros.

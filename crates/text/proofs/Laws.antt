@@ -26,8 +26,8 @@ pub record Added (b : ℕ × List ℕ) (s : List ℕ) (b₁ : ℕ × List ℕ) :
   pub is : b₁ ≡ appended b s
 
 -- what a call ensures
-pub by : {b : ℕ × List ℕ} {s : List ℕ} {b₁ : ℕ × List ℕ} → b₁ ≡ appended b s → Added b s b₁
-by e = record { is = e }
+pub appends : {b : ℕ × List ℕ} {s : List ℕ} {b₁ : ℕ × List ℕ} → b₁ ≡ appended b s → Added b s b₁
+appends e = record { is = e }
 
 pub by-one : {b : ℕ × List ℕ} {c : ℕ} {b₁ : ℕ × List ℕ} → b₁ ≡ put b c → Added b (c ∷ []) b₁
 unfolding appended

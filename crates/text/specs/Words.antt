@@ -15,12 +15,12 @@ numberWord n = text " " ++ decimal n
 unfoldable pub flagWord : Bool → List ℕ
 flagWord b = cond b (text " 1") (text " 0")
 
-abbrev pub none : List ℕ
-none = text " none"
+abbrev pub noneWord : List ℕ
+noneWord = text " none"
 
--- a word, or `none` where there is no value
+-- a word, or "none" where there is no value
 abbrev pub maybe : Bool → List ℕ → List ℕ
-maybe set w = cond set w none
+maybe set w = cond set w noneWord
 
 -- "floats by their bits in lower case, a NaN as `nan`, either zero by the bits of +0": a float of 4 k bits
 abbrev pub float : Format → ℕ → Float → List ℕ

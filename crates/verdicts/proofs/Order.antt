@@ -13,8 +13,8 @@ use Rattle.laws.proofs.Picks.{by, test}
 use Rattle.config.specs.declared.Profile.{Profile}
 use Rattle.config.specs.Ranges.{inRange, inOrder}
 use Rattle.area.specs.Room.{queueRefusal}
-use Rattle.area.proofs.room.Laws.{full, over, room}
-use Rattle.messages.specs.Messages.{Entry, total, withdrawnIn}
+use Rattle.area.proofs.room.Laws.{full, over, room-enough}
+use Rattle.messages.specs.Messages.{Entry, totalLeft, withdrawnIn}
 use Rattle.queuing.specs.declared.Station.{Station}
 use Rattle.replies.specs.declared.Heard.{Heard}
 use Rattle.refusals.specs.declared.Verdict.{Verdict}
@@ -94,7 +94,7 @@ module _ (p : Profile) (t : Station) (a : List ℕ) where
 
     -- bytes that wait, bytes taken, and messages, as they are judged
     abbrev stay : ℕ
-    stay = t .sender .counts .waiting - total gone
+    stay = t .sender .counts .waiting - totalLeft gone
 
     abbrev taken : ℕ
     taken = takenBy (t .sender .counts) (t .messages)
@@ -129,7 +129,7 @@ module _ (p : Profile) (t : Station) (a : List ℕ) where
           x,
           test (ltb maxTaken (taken + n))
               (λ y. inl (y, ap (λ (q : ℕ). numberOf (said q)) (over stay taken n (ltb-false _ _ x) (ltb-true _ _ y))))
-              (λ y. inr (y, subst (First lastReasons) (sym (ap (λ (q : ℕ). numberOf (said q)) (room stay taken n (ltb-false _ _ x) (ltb-false _ _ y)))) last-first)),
+              (λ y. inr (y, subst (First lastReasons) (sym (ap (λ (q : ℕ). numberOf (said q)) (room-enough stay taken n (ltb-false _ _ x) (ltb-false _ _ y)))) last-first)),
         ))
 
     room-first : First ((11, ltb maxClass class) ∷ fullReasons) (numberOf (roomVerdict (t .sender .counts) (t .messages) class label n))

@@ -16,10 +16,10 @@ use Rattle.area.specs.Layout.{areaBytes, streamBytes}
 use Rattle.area.specs.Table.{rowsFrom, total}
 use Rattle.pieces.proofs.Sound.{table-total}
 use Rattle.area.specs.Room.{queueRefusal}
-use Rattle.area.proofs.room.Laws.{full, over, room, not-refused, stream-holds}
+use Rattle.area.proofs.room.Laws.{full, over, room-enough, not-refused, stream-holds}
 use Rattle.record.specs.declared.Sender.{Sender}
 use Rattle.soundness.specs.Soundness.{countsOk, soundOk}
-use Rattle.soundness.proofs.fields.Counts.{waiting-few, flying-few, pieces-few}
+use Rattle.soundness.proofs.fields.Counts.{waiting-few, flying-few, pieces-within}
 use Rattle.messages.specs.Messages as M
 use Rattle.messages.specs.Messages.{Entry, messagesOk, withdrawnIn}
 use Rattle.queuing.specs.declared.Station.{Station}
@@ -79,7 +79,7 @@ module _ (p : Profile) (s : Sender) (a : List ℕ) where
   sound-rows e =
       let c = counts-pass e in
       let t : total (rowsFrom a 0 (s .counts .pieces)) ≡ s .counts .flying = table-total _ _ _ _ _ (all-at _ 2 e) in
-      (pieces-few s c, leb-true areaBytes (length a) (all-at _ 0 e), omega (arith, t, flying-few s c))
+      (pieces-within s c, leb-true areaBytes (length a) (all-at _ 0 e), omega (arith, t, flying-few s c))
 
 module _ (p : Profile) (t : Station) (a : List ℕ) where
   abbrev s : Sender
@@ -125,7 +125,7 @@ module _ (p : Profile) (t : Station) (a : List ℕ) where
     gone = withdrawnIn l n (t .messages)
 
     abbrev stay : ℕ
-    stay = s .counts .waiting - M.total gone
+    stay = s .counts .waiting - M.totalLeft gone
 
     abbrev taken : ℕ
     taken = takenBy (s .counts) (t .messages)
@@ -144,7 +144,7 @@ module _ (p : Profile) (t : Station) (a : List ℕ) where
               (λ x. absurd (false≢true (sym (h₁ .0) ∙ eq-eqb _ _ (full stay taken n (ltb-true _ _ x)))))
               (λ x. test (ltb maxTaken (taken + n))
               (λ y. absurd (false≢true (sym (h₂ .0) ∙ eq-eqb _ _ (over stay taken n (ltb-false _ _ x) (ltb-true _ _ y)))))
-              (λ y. room stay taken n (ltb-false _ _ x) (ltb-false _ _ y))),
+              (λ y. room-enough stay taken n (ltb-false _ _ x) (ltb-false _ _ y))),
           λ o. leb-false maxMessages left (sym (ap (λ (b : Bool). b && leb maxMessages left) (le-leb 1 n o)) ∙ h₃ .0),
         )
 

@@ -13,7 +13,7 @@ use Rattle.queuing.specs.declared.Station.{Station}
 use Rattle.replies.specs.declared.Heard.{Heard}
 use Rattle.refusals.specs.declared.Reply.{Reply}
 use Rattle.refusals.specs.Refusals.{kindOf, maxReceived, timeOk, heardOk, replyOk}
-use Rattle.messages.specs.Messages.{total, withdrawnIn}
+use Rattle.messages.specs.Messages.{totalLeft, withdrawnIn}
 use Rattle.verdicts.specs.Verdicts.{stationOk, takenBy}
 use Rattle.limits.specs.Limits.{maxSlots, maxWaiting, maxTaken, maxClass, maxMessages}
 
@@ -42,7 +42,7 @@ abbrev pub queueReasons : Profile → Station → List ℕ → ℕ → ℕ → �
 queueReasons p t a class label n =
     let gone = withdrawnIn label n (t .messages) in
     standingReasons p t a false
-    ++ ((11, ltb maxClass class) ∷ (8, ltb maxWaiting (t .sender .counts .waiting - total gone + n))
+    ++ ((11, ltb maxClass class) ∷ (8, ltb maxWaiting (t .sender .counts .waiting - totalLeft gone + n))
     ∷ (9, ltb maxTaken (takenBy (t .sender .counts) (t .messages) + n))
     ∷ (12, ltb 0 n && ltb maxMessages (t .messages .n - length gone + 1)) ∷ [])
 

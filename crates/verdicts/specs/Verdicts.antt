@@ -10,7 +10,7 @@ use Rattle.config.specs.declared.Profile.{Profile}
 use Rattle.area.specs.Room.{queueRefusal}
 use Rattle.record.specs.declared.Counts.{Counts}
 use Rattle.soundness.specs.Soundness.{soundOk}
-use Rattle.messages.specs.Messages.{messagesOk, total, withdrawnIn}
+use Rattle.messages.specs.Messages.{messagesOk, totalLeft, withdrawnIn}
 use Rattle.messages.specs.declared.Messages.{Messages}
 use Rattle.queuing.specs.declared.Station.{Station}
 use Rattle.replies.specs.declared.Heard.{Heard}
@@ -65,7 +65,7 @@ framesStanding v n = cond (ltb 0 (numberOf v) && leb (numberOf v) 3) v (cond (lt
 unfoldable pub roomVerdict : Counts → Messages → ℕ → ℕ → ℕ → Verdict
 roomVerdict c m class label n =
     let gone = withdrawnIn label n m in
-    let q = queueRefusal (c .waiting - total gone) (takenBy c m) n in
+    let q = queueRefusal (c .waiting - totalLeft gone) (takenBy c m) n in
     cond (ltb maxClass class) BadClass
     (cond (eqb q 8) QueueFull
     (cond (eqb q 9) AllTaken

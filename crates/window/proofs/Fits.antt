@@ -13,23 +13,23 @@ use Rattle.window.specs.Window.{isKept, keptByte, keepAt, keepFrom, lead
 use Rattle.window.specs.WindowCode.{has}
 
 -- each place that is kept holds the byte of l there
-abbrev pub Fits : List ℕ → List ℕ → Type 0
-Fits [] l = Unit {0}
-Fits (v ∷ w) [] = (isKept v ≡ false) × Fits w []
-Fits (v ∷ w) (y ∷ l) = (isKept v ≡ true → keptByte v ≡ y) × Fits w l
+abbrev pub WindowFits : List ℕ → List ℕ → Type 0
+WindowFits [] l = Unit {0}
+WindowFits (v ∷ w) [] = (isKept v ≡ false) × WindowFits w []
+WindowFits (v ∷ w) (y ∷ l) = (isKept v ≡ true → keptByte v ≡ y) × WindowFits w l
 
-pub fits-none : (w l : List ℕ) → Fits w [] → Fits w l
+pub fits-none : (w l : List ℕ) → WindowFits w [] → WindowFits w l
 fits-none [] l f = tt
 fits-none (v ∷ w) [] f = f
 fits-none (v ∷ w) (y ∷ l) f = (λ e. absurd (false≢true (sym (f .0) ∙ e)), fits-none w l (f .1))
 
 -- the stream grows at its end
-pub fits-more : (w l m : List ℕ) → Fits w l → Fits w (l ++ m)
+pub fits-more : (w l m : List ℕ) → WindowFits w l → WindowFits w (l ++ m)
 fits-more [] l m f = tt
 fits-more (v ∷ w) [] m f = fits-none (v ∷ w) m f
 fits-more (v ∷ w) (y ∷ l) m f = (f .0, fits-more w l m (f .1))
 
-pub fits-zeros : (n : ℕ) (l : List ℕ) → Fits (replicate n 0) l
+pub fits-zeros : (n : ℕ) (l : List ℕ) → WindowFits (replicate n 0) l
 fits-zeros zero l = tt
 fits-zeros (suc n) [] = (refl, fits-zeros n [])
 fits-zeros (suc n) (y ∷ l) = (λ e. absurd (false≢true e), fits-zeros n l)
@@ -38,7 +38,7 @@ fits-zeros (suc n) (y ∷ l) = (λ e. absurd (false≢true e), fits-zeros n l)
 first-byte : (v b y : ℕ) → b < 256 → b ≡ y → (isKept v ≡ true → keptByte v ≡ y) → isKept (cond (isKept v) v (256 + b)) ≡ true → keptByte (cond (isKept v) v (256 + b)) ≡ y
 first-byte v b y h e f = by (λ (x : ℕ). isKept x ≡ true → keptByte x ≡ y) (isKept v) (λ k _. f k) (λ k _. omega (arith, h, e))
 
-pub fits-keep : (d : ℕ) (bs w l : List ℕ) → ((i : ℕ) → i < length bs → getD bs i 0 < 256) → d + length bs ≤ length l → bs ≡ take (length bs) (drop d l) → Fits w l → Fits (keepAt d bs w) l
+pub fits-keep : (d : ℕ) (bs w l : List ℕ) → ((i : ℕ) → i < length bs → getD bs i 0 < 256) → d + length bs ≤ length l → bs ≡ take (length bs) (drop d l) → WindowFits w l → WindowFits (keepAt d bs w) l
 unfolding keepAt
 fits-keep d bs [] l s h e f = tt
 fits-keep zero [] (v ∷ w) l s h e f = f
@@ -51,31 +51,31 @@ fits-keep (suc d) bs (v ∷ w) [] s h e f = absurd (omega (arith, h))
 fits-keep (suc d) bs (v ∷ w) (y ∷ l) s h e f = (f .0, fits-keep d bs w l s (omega (arith, h)) e (f .1))
 
 -- what is handed on is a beginning of the stream
-pub fits-lead : (w l : List ℕ) → Fits w l → lead w ≤ length l
+pub fits-lead : (w l : List ℕ) → WindowFits w l → lead w ≤ length l
 unfolding lead
 fits-lead [] l f = omega arith
 fits-lead (v ∷ w) [] f = subst (λ (b : Bool). cond b (suc (lead w)) 0 ≤ 0) (sym (f .0)) (omega arith)
 fits-lead (v ∷ w) (y ∷ l) f = by (λ (n : ℕ). n ≤ suc (length l)) (isKept v) (λ k. omega (arith, fits-lead w l (f .1))) (λ k. omega arith)
 
-pub fits-handed : (w l : List ℕ) → Fits w l → handed w ≡ take (lead w) l
+pub fits-handed : (w l : List ℕ) → WindowFits w l → handed w ≡ take (lead w) l
 unfolding lead
 fits-handed [] l f = refl
 fits-handed (v ∷ w) [] f = subst (λ (b : Bool). map keptByte (take (cond b (suc (lead w)) 0) (v ∷ w)) ≡ take (cond b (suc (lead w)) 0) []) (sym (f .0)) refl
 fits-handed (v ∷ w) (y ∷ l) f =
     by (λ (n : ℕ). map keptByte (take n (v ∷ w)) ≡ take n (y ∷ l)) (isKept v) (λ k. ap₂ _∷_ (f .0 k) (fits-handed w l (f .1))) (λ k. refl)
 
-pub fits-drop : (k : ℕ) (w l : List ℕ) → Fits w l → Fits (drop k w) (drop k l)
+pub fits-drop : (k : ℕ) (w l : List ℕ) → WindowFits w l → WindowFits (drop k w) (drop k l)
 fits-drop zero w l f = f
 fits-drop (suc k) [] l f = tt
 fits-drop (suc k) (v ∷ w) [] f = rw (sym (drop-nil {A = ℕ} k)) (fits-drop k w [] (f .1))
 fits-drop (suc k) (v ∷ w) (y ∷ l) f = fits-drop k w l (f .1)
 
-pub fits-append : (w l : List ℕ) (n : ℕ) → Fits w l → Fits (w ++ replicate n 0) l
+pub fits-append : (w l : List ℕ) (n : ℕ) → WindowFits w l → WindowFits (w ++ replicate n 0) l
 fits-append [] l n f = fits-zeros n l
 fits-append (v ∷ w) [] n f = (f .0, fits-append w [] n (f .1))
 fits-append (v ∷ w) (y ∷ l) n f = (f .0, fits-append w l n (f .1))
 
-pub fits-moved : (w l : List ℕ) → Fits w l → Fits (moved w) (drop (lead w) l)
+pub fits-moved : (w l : List ℕ) → WindowFits w l → WindowFits (moved w) (drop (lead w) l)
 fits-moved w l f = fits-append (drop (lead w) w) (drop (lead w) l) (lead w) (fits-drop (lead w) w l f)
 
 -- ---- what is kept stays kept
@@ -156,13 +156,13 @@ length-keep (suc d) bs (v ∷ w) = ap suc (length-keep d bs w)
 pub length-moved : (w : List ℕ) → length (moved w) ≡ length w
 length-moved w = omega (arith, length-append (drop (lead w) w) (replicate (lead w) 0), length-drop (lead w) w, length-replicate {A = ℕ} (lead w) 0, drop-lead w)
 
-pub fits-part : (k : ℕ) (w l : List ℕ) → Fits w l → Fits (take k w) l
+pub fits-part : (k : ℕ) (w l : List ℕ) → WindowFits w l → WindowFits (take k w) l
 fits-part zero w l f = tt
 fits-part (suc k) [] l f = tt
 fits-part (suc k) (v ∷ w) [] f = (f .0, fits-part k w [] (f .1))
 fits-part (suc k) (v ∷ w) (y ∷ l) f = (f .0, fits-part k w l (f .1))
 
-pub fits-at : (w l : List ℕ) (i : ℕ) → Fits w l → isKept (getD w i 0) ≡ true → keptByte (getD w i 0) ≡ getD l i 0
+pub fits-at : (w l : List ℕ) (i : ℕ) → WindowFits w l → isKept (getD w i 0) ≡ true → keptByte (getD w i 0) ≡ getD l i 0
 fits-at [] l i f e = absurd (false≢true e)
 fits-at (v ∷ w) [] zero f e = absurd (false≢true (sym (f .0) ∙ e))
 fits-at (v ∷ w) [] (suc i) f e = fits-at w [] i (f .1) e

@@ -4,13 +4,13 @@ use Prim.Native.Nat.{_+_, _-_, _≤_}
 use mathlib.Core.Path.{_≡_, refl}
 use native.Mathlib.Omega.{arith}
 use borrow.Author.Needs.{needs}
-use Rattle.adif.specs.Adif.{places}
+use Rattle.adif.specs.Adif.{digitCount}
 use Rattle.adif.proofs.Steps.{count-found, count-next, count-last}
 use Rattle.adif.proofs.count_digits.Statement.{statement}
 use Rattle.adif.proofs.count_digits.Tie as tie
 
 abbrev Inv-loop : tie.InvT-loop
-Inv-loop n k₀ rest₀ k rest = (1 ≤ k) × (k ≤ 10) × (places 9 n ≡ (k - 1) + places (10 - k) rest)
+Inv-loop n k₀ rest₀ k rest = (1 ≤ k) × (k ≤ 10) × (digitCount 9 n ≡ (k - 1) + digitCount (10 - k) rest)
 
 abbrev μ-loop : tie.MeasureT-loop
 μ-loop n k₀ rest₀ k rest = 10 - k

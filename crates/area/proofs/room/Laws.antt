@@ -15,7 +15,7 @@ use Rattle.area.specs.Layout.{streamBytes}
 use Rattle.area.specs.Room.{queueRefusal}
 use Rattle.limits.specs.Limits.{maxFlying, maxWaiting, maxTaken}
 use Rattle.ledger.specs.Sizes.{Sizes}
-use Rattle.ledger.specs.CallsCode.{Allowed, queues}
+use Rattle.ledger.specs.CallsCode.{Allowed, queueMove}
 use Rattle.ledger.specs.LedgerCode.{takenOf}
 
 -- what flies and what waits fit the stream together
@@ -31,9 +31,9 @@ module _ (w t n : ℕ) where
   unfolding queueRefusal
   over h k = simp (le-ltb _ _ h, lt-ltb _ _ k)
 
-  pub room : w + n ≤ maxWaiting → t + n ≤ maxTaken → queueRefusal w t n ≡ 0
+  pub room-enough : w + n ≤ maxWaiting → t + n ≤ maxTaken → queueRefusal w t n ≡ 0
   unfolding queueRefusal
-  room h k = simp (le-ltb _ _ h, le-ltb _ _ k)
+  room-enough h k = simp (le-ltb _ _ h, le-ltb _ _ k)
 
   pub not-refused : queueRefusal w t n ≡ 0 → (w + n ≤ maxWaiting) × (t + n ≤ maxTaken)
   not-refused e =
@@ -49,7 +49,7 @@ module _ (w t n : ℕ) where
 pub queue-allowed : (z : Sizes) (st : Station) (c l : ℕ) (bs : List ℕ) → st .sender .waiting ≡ goes (st .queue)
     → let left = length (st .sender .waiting) - length (messageBytes (superseded l bs (st .queue))) in
     queueRefusal left (takenOf (st .sender) + st .withdrawn) (length bs) ≡ 0
-    → Allowed z (queues c l bs) st
+    → Allowed z (queueMove c l bs) st
 queue-allowed z st c l bs sh e =
     let r = not-refused _ _ _ e in
     (omega (arith, r .0, length-enqueue c l (st .queue) bs, ap length sh), omega (arith, r .1))

@@ -1,6 +1,6 @@
 -- `received` meets its contract.
 use mathlib.Core.Path.{_∙_}
-use Rattle.text.proofs.Laws.{by, told, _⨾_}
+use Rattle.text.proofs.Laws.{appends, told, _⨾_}
 use Rattle.box_lines.proofs.Answers.{line-refused, line-accepted}
 use borrow.Author.Needs.{needs}
 use Rattle.box_lines.proofs.received.Statement.{statement}
@@ -13,7 +13,7 @@ same-length : tie.Need-same-length
 same-length c = c .before .before .answer .kept .0
 
 returns : tie.Need-returns
-returns c = told (by (c .before .before .answer .ensures)) (line-refused _ _ _ (c .before .before .before .before .if1 .taken))
+returns c = told (appends (c .before .before .answer .ensures)) (line-refused _ _ _ (c .before .before .before .before .if1 .taken))
 
 puts-requires : tie.Need-puts-requires
 puts-requires c κs = search needs
@@ -65,8 +65,8 @@ returns-2 c =
     let p3 = p4 .before .before .before .before in
     let p2 = p3 .before .before .before .before .before in
     let p1 = p2 .before .before .before .before .before in
-    told (by (p1 .puts .ensures) ⨾ by (p2 .puts2 .ensures) ⨾ by (p3 .hex .ensures) ⨾ by (p4 .number .ensures) ⨾ by (p5 .number2 .ensures)
-    ⨾ by (p6 .hex2 .ensures) ⨾ by (p7 .puts3 .ensures)) (line-accepted _ _ _ (p1 .before .before .before .if1 .left))
+    told (appends (p1 .puts .ensures) ⨾ appends (p2 .puts2 .ensures) ⨾ appends (p3 .hex .ensures) ⨾ appends (p4 .number .ensures) ⨾ appends (p5 .number2 .ensures)
+    ⨾ appends (p6 .hex2 .ensures) ⨾ appends (p7 .puts3 .ensures)) (line-accepted _ _ _ (p1 .before .before .before .if1 .left))
 
 pub received-spec : {M : Type 1} → statement M
 received-spec =

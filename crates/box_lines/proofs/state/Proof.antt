@@ -1,6 +1,6 @@
 -- `state` meets its contract.
 use mathlib.Core.Path.{_∙_}
-use Rattle.text.proofs.Laws.{by, _⨾_}
+use Rattle.text.proofs.Laws.{appends, _⨾_}
 use borrow.Author.Needs.{needs}
 use Rattle.box_lines.proofs.state.Statement.{statement}
 use Rattle.box_lines.proofs.state.Tie as tie
@@ -37,7 +37,7 @@ returns c =
     let p3 = p4 .before .before .before .before .before in
     let p2 = p3 .before .before .before .before in
     let p1 = p2 .before .before .before .before in
-    (by (p1 .puts .ensures) ⨾ by (p2 .number .ensures) ⨾ by (p3 .number2 .ensures) ⨾ by (p4 .puts2 .ensures)) .is
+    (appends (p1 .puts .ensures) ⨾ appends (p2 .number .ensures) ⨾ appends (p3 .number2 .ensures) ⨾ appends (p4 .puts2 .ensures)) .is
 
 pub state-spec : {M : Type 1} → statement M
 state-spec =

@@ -32,7 +32,7 @@ use Rattle.frames.specs.declared.slots.Added.{Added}
 use Rattle.frames.specs.declared.slots.Slot.{Slot}
 use Rattle.frames.specs.declared.slots.Slots.{Slots}
 use Rattle.frames.proofs.slots.Laws.{push-all-count, push-all-append}
-use Rattle.frames.specs.Frames.{framesWritten, Fit}
+use Rattle.frames.specs.Frames.{framesWritten, SlotsFit}
 use Rattle.plan.specs.Planning.{choiceOf}
 use Rattle.plan.specs.declared.Choice.{Choice}
 use Rattle.plan.specs.declared.Planned.{Planned}
@@ -154,14 +154,14 @@ module _ (z : Sizes) (zr : SizeRange z) (q : Harq) (c : Choice) (merging : Bool)
   sides : length os ≡ length hs
   sides = length-os ∙ sym length-hs
 
-  kept-are : L.kept g l ≡ heldOf os hs
+  kept-are : L.keptAtPeer g l ≡ heldOf os hs
   unfolding view
   kept-are = ap (λ (k : ℕ). cond (eqb k 0) [] (heldIn h)) par ∙ kept-list h (pl .parity)
 
-  kept-length : length (L.kept g l) ≡ kp .n
+  kept-length : length (L.keptAtPeer g l) ≡ kp .n
   kept-length = ap length kept-are ∙ held-length os hs sides ∙ length-os
 
-  kept-offs : heldOffs (L.kept g l) ≡ os
+  kept-offs : heldOffs (L.keptAtPeer g l) ≡ os
   kept-offs = ap heldOffs kept-are ∙ held-offs os hs sides
 
   -- ---- the rows, cut and merged
@@ -331,7 +331,7 @@ module _ (z : Sizes) (zr : SizeRange z) (q : Harq) (c : Choice) (merging : Bool)
 
   -- ---- with the level's payload m, frames of `size` bytes that have room for it, and an output that has room for 64 of them
   module _ (m : ℕ) (level : m ≡ planIn .payload) (size : ℕ) (out : List ℕ) (frame : m ≤ maxPayload size) (room : maxSlots * size ≤ length out) where
-    fit : (used : ℕ) → total rs + w ≤ used → Fit size used xs
+    fit : (used : ℕ) → total rs + w ≤ used → SlotsFit size used xs
     fit used u = burst-fit z zr l g so fi rs a os hs w pieces-are kept-are sides waiting-is fits-w q size used (omega (arith, level, frame)) u
 
     sized : 10 ≤ size
@@ -424,17 +424,17 @@ module _ (z : Sizes) (zr : SizeRange z) (q : Harq) (c : Choice) (merging : Bool)
   -- the held list
   rest-length : length (after .rest) ≡ kp .rest
   unfolding dataBurst
-  rest-length = omega (arith, length-drop (g .parity) (L.kept g l), kept-length, par, kept-rest h (pl .parity))
+  rest-length = omega (arith, length-drop (g .parity) (L.keptAtPeer g l), kept-length, par, kept-rest h (pl .parity))
 
-  bits-kept : map (λ (x : Held). x .bits) (L.kept g l) ≡ hs
+  bits-kept : map (λ (x : Held). x .bits) (L.keptAtPeer g l) ≡ hs
   bits-kept = ap (map (λ (x : Held). x .bits)) kept-are ∙ held-bits-of os hs sides
 
   held-after : kp ≡ storeHeld after h
   unfolding storeHeld dataBurst
   held-after =
-      let o : overwrite (h .off) 0 (heldOffs (L.kept g l)) ≡ h .off =
+      let o : overwrite (h .off) 0 (heldOffs (L.keptAtPeer g l)) ≡ h .off =
       ap (overwrite (h .off) 0) (kept-offs ∙ ap (take (kp .n)) (kept-off h (pl .parity))) ∙ over-part (h .off) 0 (kp .n) in
-      let b : overwrite (h .bits) 0 (map (λ (x : Held). x .bits) (L.kept g l)) ≡ h .bits =
+      let b : overwrite (h .bits) 0 (map (λ (x : Held). x .bits) (L.keptAtPeer g l)) ≡ h .bits =
       ap (overwrite (h .bits) 0) (bits-kept ∙ ap (take (kp .n)) (kept-bits h (pl .parity))) ∙ over-part (h .bits) 0 (kp .n) in
       λ i. record { off = (kept-off h (pl .parity) ∙ sym o) i; bits = (kept-bits h (pl .parity) ∙ sym b) i; n = sym kept-length i; rest = sym rest-length i }
 

@@ -20,7 +20,7 @@ use Rattle.frames.specs.declared.slots.Slot.{Slot}
 use Rattle.frames.specs.declared.slots.Added.{Added}
 use Rattle.frames.specs.declared.slots.Slots.{Slots}
 use Rattle.frames.proofs.slots.Laws.{push-all-count, increments-length, new-facts, chunk-total}
-use Rattle.frames.specs.Frames.{framesWritten, Fit}
+use Rattle.frames.specs.Frames.{framesWritten, SlotsFit}
 use Rattle.plan.specs.declared.Choice.{Choice}
 use Rattle.plan.specs.declared.Planned.{Planned}
 use Rattle.record.specs.declared.AtPeer.{AtPeer}
@@ -125,7 +125,7 @@ module _ (q : Harq) (c : Choice) (payload : ℕ) (merging : Bool) (s : Sender) (
         abbrev xs : List Slot
         xs = slotsFrom (y .0 .slots) 0 (y .0 .slots .n)
 
-        pub shows : (y .0 .slots .n ≤ maxSlots) × (10 ≤ size) × (length (framesWritten size xs (y .1)) ≤ length out) × Fit size (length (y .1)) xs
+        pub shows : (y .0 .slots .n ≤ maxSlots) × (10 ≤ size) × (length (framesWritten size xs (y .1)) ≤ length out) × SlotsFit size (length (y .1)) xs
         shows = rw gone-is (rd .slots, rd .sized, rd .shown, rd .fit)
 
         pub bytes-few : y .0 .bytes ≤ s .counts .waiting

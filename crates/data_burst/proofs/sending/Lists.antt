@@ -20,7 +20,7 @@ use Rattle.area.specs.declared.table.Row.{Row}
 use Rattle.area.specs.Recut.{splitRows, mergeRows}
 use Rattle.area.proofs.splitting.Laws.{cut-end}
 use Rattle.frames.specs.declared.slots.Slot.{Slot}
-use Rattle.frames.specs.Frames.{framesWritten, Fit}
+use Rattle.frames.specs.Frames.{framesWritten, SlotsFit}
 use Rattle.pieces.specs.Pieces.{piecesOf}
 use Rattle.pieces.specs.Lists.{heldOf}
 use Rattle.pieces.proofs.Sound.{head-length}
@@ -85,7 +85,7 @@ module _ (h : AtPeer) (k : ℕ) where
 -- ---- frames
 
 -- what is written behind the slots' bytes changes no frame
-pub frames-before : (size used : ℕ) (xs : List Slot) (a : List ℕ) (at : ℕ) (bs : List ℕ) → Fit size used xs → used ≤ at → framesWritten size xs (overwrite a at bs) ≡ framesWritten size xs a
+pub frames-before : (size used : ℕ) (xs : List Slot) (a : List ℕ) (at : ℕ) (bs : List ℕ) → SlotsFit size used xs → used ≤ at → framesWritten size xs (overwrite a at bs) ≡ framesWritten size xs a
 unfolding framesWritten
 frames-before size used [] a at bs f h = refl
 frames-before size used (x ∷ xs) a at bs f h =

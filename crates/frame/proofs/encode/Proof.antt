@@ -2,7 +2,7 @@
 use mathlib.Core.Path.{ap, _∙_}
 use borrow.Author.Needs.{needs}
 use Rattle.laws.specs.Bytes.{overwrite}
-use Rattle.frame.proofs.Laws.{room, body-made, frame-made}
+use Rattle.frame.proofs.Laws.{frame-room, body-made, frame-made}
 use Rattle.frame.proofs.encode.Statement.{statement}
 use Rattle.frame.proofs.encode.Tie as tie
 
@@ -69,7 +69,7 @@ returns c =
     let hd = cp .before .before .before .before in
     let h = hd .before .before .before in
     let s = h .before .before .before in
-    let k = room _ _ (s .pre .2) (s .pre .3) in
+    let k = frame-room _ _ (s .pre .2) (s .pre .3) in
     let e = hd .copy-in .ensures ∙ ap (overwrite _ (s .args .at)) (h .head .ensures) in
     frame-made _ _ _ _ _ (s .pre .1) k _ _ _ (body-made _ _ _ _ _ (s .pre .1) k _ _ _ e (cp .copy-in2 .ensures) (fl .fill .ensures)) (cr .crc32-by .ensures) (st .store32 .ensures)
 

@@ -5,7 +5,7 @@ use Rattle.laws.specs.Bytes.{overwrite, part}
 use Rattle.laws.proofs.Bytes.{over-nil, length-over}
 use Rattle.frame.specs.Frame.{frameOf, maxPayload}
 use Rattle.frames.specs.Slots.{nthSlot, slotsFrom}
-use Rattle.frames.specs.Frames.{framesWritten, Fit}
+use Rattle.frames.specs.Frames.{framesWritten, SlotsFit}
 use Rattle.frames.proofs.Laws.{fit-turn, frames-long, frames-turn}
 use Prim.Native.Nat.{ℕ, _+_, _-_, _≤_, _<_}
 use mathlib.Core.Path.{_≡_, refl, sym, ap, _∙_}
@@ -18,7 +18,7 @@ use Rattle.limits.specs.Limits.{maxSlots}
 
 abbrev Inv-loop : tie.InvT-loop
 Inv-loop t out₀ a size s n at₀ i₀ out at i =
-    (i ≤ n) × (length out ≡ length out₀) × (at + length (framesWritten size (slotsFrom s i (n - i)) a) ≤ length out₀) × Fit size (length a) (slotsFrom s i (n - i))
+    (i ≤ n) × (length out ≡ length out₀) × (at + length (framesWritten size (slotsFrom s i (n - i)) a) ≤ length out₀) × SlotsFit size (length a) (slotsFrom s i (n - i))
     × (overwrite out₀ 0 (framesWritten size (slotsFrom s 0 n) a) ≡ overwrite out at (framesWritten size (slotsFrom s i (n - i)) a))
 
 abbrev μ-loop : tie.MeasureT-loop
@@ -32,7 +32,7 @@ below d = omega (arith, d .loop-test .taken, d .before .before .before .before .
 
 fits : (d : tie.In-loop Inv-loop μ-loop) → let p = d .before in let g = p .before .before .before .args in
     (nthSlot (g .t4) (p .loop .i) .len ≤ maxPayload (g .size)) × (nthSlot (g .t4) (p .loop .i) .start + nthSlot (g .t4) (p .loop .i) .len ≤ length (now (g .a)))
-    × Fit (g .size) (length (now (g .a))) (slotsFrom (g .t4) (p .loop .i + 1) (g .t4 .n - (p .loop .i + 1)))
+    × SlotsFit (g .size) (length (now (g .a))) (slotsFrom (g .t4) (p .loop .i + 1) (g .t4 .n - (p .loop .i + 1)))
 fits d = let p = d .before in let s = p .before .before .before in fit-turn (s .args .size) (now (s .args .a)) (s .args .t4) _ _ (s .pre .2) (d .loop-test .taken) (p .loop .inv .3)
 
 long : (d : tie.In-loop Inv-loop μ-loop) → let p = d .before in let g = p .before .before .before .args in

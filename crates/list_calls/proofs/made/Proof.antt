@@ -2,7 +2,7 @@
 use mathlib.Core.List.{List}
 use mathlib.Core.Path.{_≡_, ap, _∙_}
 use Prim.Native.Nat.{ℕ}
-use Rattle.numbered.specs.declared.Left.{Left}
+use Rattle.sender.specs.declared.Left.{Left}
 use borrow.Author.Needs.{needs}
 use borrow.Author.Tests.{eq-eqb, ne-eqb, not-true, not-false}
 use Rattle.list_calls.specs.Asked.{made}
@@ -34,8 +34,8 @@ returns-2 c =
     rw (not-false (d .before .before .before .before .args .q .ok) (d .if1 .left), eq-eqb _ _ (k .if2 .taken))
     (with-area (c .queued .ensures) (c .before .before .before .queue .ensures))
 
-frames-requires : tie.Need-frames-requires
-frames-requires c κs = search needs
+frames-rx-requires : tie.Need-frames-rx-requires
+frames-rx-requires c κs = search needs
 
 answered-requires : tie.Need-answered-requires
 answered-requires c κs = search needs
@@ -52,10 +52,10 @@ returns-3 c =
       not-false (d .before .before .before .before .args .q .ok) (d .if1 .left),
       ne-eqb _ _ (k .before .before .if2 .left),
       eq-eqb _ _ (k .if3 .taken),
-    ) (with-area (c .answered .ensures) (c .before .before .before .frames .ensures))
+    ) (with-area (c .answered .ensures) (c .before .before .before .frames-rx .ensures))
 
-reply-requires : tie.Need-reply-requires
-reply-requires c κs = search needs
+sender-rx-requires : tie.Need-sender-rx-requires
+sender-rx-requires c κs = search needs
 
 answered-requires-2 : tie.Need-answered-requires-2
 answered-requires-2 c κs = search needs
@@ -72,7 +72,7 @@ returns-4 c =
       not-false (d .before .before .before .before .args .q .ok) (d .if1 .left),
       ne-eqb _ _ (k .before .before .if2 .left),
       ne-eqb _ _ (k .if3 .left),
-    ) (with-area (c .answered2 .ensures) (c .before .before .before .reply .ensures))
+    ) (with-area (c .answered2 .ensures) (c .before .before .before .sender-rx .ensures))
 
 pub made-spec : {M : Type 1} → statement M
 made-spec =
@@ -83,11 +83,11 @@ made-spec =
     queued-requires
     same-length
     returns-2
-    frames-requires
+    frames-rx-requires
     answered-requires
     same-length-2
     returns-3
-    reply-requires
+    sender-rx-requires
     answered-requires-2
     same-length-3
     returns-4)

@@ -3,7 +3,7 @@ use borrow.Author.Needs.{needs}
 use mathlib.Core.Path.{refl}
 use borrow.Author.Tests.{eq-eqb, ne-eqb}
 use Rattle.laws.proofs.Picks.{cond-yes, cond-no}
-use Rattle.text.proofs.Laws.{by, told}
+use Rattle.text.proofs.Laws.{appends, told}
 use Rattle.look_lines.specs.Looks.{levelsText}
 use Rattle.look_lines.proofs.levels_text.Statement.{statement}
 use Rattle.look_lines.proofs.levels_text.Tie as tie
@@ -16,7 +16,7 @@ same-length c = search needs
 
 returns : tie.Need-returns
 unfolding levelsText
-returns c = told (by (c .before .before .levels .ensures)) (cond-yes _ _ _ _ (eq-eqb _ _ (c .before .before .before .before .if1 .taken)) refl)
+returns c = told (appends (c .before .before .levels .ensures)) (cond-yes _ _ _ _ (eq-eqb _ _ (c .before .before .before .before .if1 .taken)) refl)
 
 slice-aggregate-answer : tie.Need-slice-aggregate-answer
 slice-aggregate-answer c = search needs
@@ -29,7 +29,7 @@ same-length-2 c = search needs
 
 returns-2 : tie.Need-returns-2
 unfolding levelsText
-returns-2 c = told (by (c .before .before .answer .ensures)) (cond-no _ _ _ _ (ne-eqb _ _ (c .before .before .before .before .before .if1 .left)) refl)
+returns-2 c = told (appends (c .before .before .answer .ensures)) (cond-no _ _ _ _ (ne-eqb _ _ (c .before .before .before .before .before .if1 .left)) refl)
 
 pub levels-text-spec : {M : Type 1} → statement M
 levels-text-spec =

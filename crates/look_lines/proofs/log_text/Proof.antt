@@ -5,7 +5,7 @@ use mathlib.Core.List.{List}
 use Prim.Native.Nat.{ℕ}
 use borrow.Author.Tests.{eq-eqb, ne-eqb}
 use Rattle.laws.proofs.Picks.{cond-yes, cond-no}
-use Rattle.text.proofs.Laws.{by, told}
+use Rattle.text.proofs.Laws.{appends, told}
 use Rattle.transcript.specs.Answers.{logLine}
 use Rattle.look_lines.specs.Looks.{logText}
 use Rattle.look_lines.proofs.log_text.Statement.{statement}
@@ -25,7 +25,7 @@ same-length c = search needs
 
 returns : tie.Need-returns
 unfolding logText
-returns c = told (by (c .before .before .log .ensures)) (cond-yes _ _ _ _ (eq-eqb _ _ (c .before .before .before .before .before .before .if1 .taken))
+returns c = told (appends (c .before .before .log .ensures)) (cond-yes _ _ _ _ (eq-eqb _ _ (c .before .before .before .before .before .before .if1 .taken))
     (ap (λ (w : List ℕ). logLine w) (c .before .before .before .before .before .least .ensures .1 .1)))
 
 slice-aggregate-answer : tie.Need-slice-aggregate-answer
@@ -39,7 +39,7 @@ same-length-2 c = search needs
 
 returns-2 : tie.Need-returns-2
 unfolding logText
-returns-2 c = told (by (c .before .before .answer .ensures)) (cond-no _ _ _ _ (ne-eqb _ _ (c .before .before .before .before .before .if1 .left)) refl)
+returns-2 c = told (appends (c .before .before .answer .ensures)) (cond-no _ _ _ _ (ne-eqb _ _ (c .before .before .before .before .before .if1 .left)) refl)
 
 pub log-text-spec : {M : Type 1} → statement M
 log-text-spec =

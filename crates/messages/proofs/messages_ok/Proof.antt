@@ -5,7 +5,7 @@ use mathlib.Core.Bool.{true, _&&_}
 use Prim.Native.Nat.{_*_}
 use native.Mathlib.Nat.{sub-zero, zero-add, add-zero}
 use borrow.Author.Tests.{lt-ltb, le-ltb, le-leb, lt-leb}
-use Rattle.messages.specs.Messages.{entriesIn, total, entriesOk, messagesOk}
+use Rattle.messages.specs.Messages.{entriesIn, totalLeft, entriesOk, messagesOk}
 use Rattle.messages.proofs.Scan.{rest, ok-turn, total-turn, ok-end, total-end}
 use Prim.Native.Nat.{_+_, _-_, _≤_, _<_}
 use mathlib.Core.Path.{_≡_, _∙_}
@@ -17,7 +17,7 @@ use Rattle.messages.proofs.messages_ok.Tie as tie
 
 abbrev Inv-loop : tie.InvT-loop
 Inv-loop waiting m n sum₀ i₀ sum i =
-    (i ≤ n) × (sum ≤ 65535 * i) × (entriesOk (entriesIn m) ≡ entriesOk (rest m n i)) × (total (entriesIn m) ≡ sum + total (rest m n i))
+    (i ≤ n) × (sum ≤ 65535 * i) × (entriesOk (entriesIn m) ≡ entriesOk (rest m n i)) × (totalLeft (entriesIn m) ≡ sum + totalLeft (rest m n i))
 
 abbrev μ-loop : tie.MeasureT-loop
 μ-loop waiting m n sum₀ i₀ sum i = n - i

@@ -2,7 +2,7 @@
 use mathlib.Core.Logic.{⊎-elim}
 use Rattle.laws.proofs.Picks.{or-left}
 use Rattle.ledger.specs.Queue.{withdraws}
-use Rattle.messages.specs.Messages.{entryAt, entriesIn, total}
+use Rattle.messages.specs.Messages.{entryInRow, entriesIn, totalLeft}
 use Rattle.messages.specs.MessagesCode.{goIn}
 use Rattle.messages.proofs.Entries.{entries-step, entries-none}
 use Rattle.messages.proofs.Scan.{rest}
@@ -22,7 +22,7 @@ use Rattle.messages.proofs.superseded.Tie as tie
 abbrev Inv-loop : tie.InvT-loop
 Inv-loop label n m rows gone₀ bytes₀ begun₀ i₀ gone bytes begun i =
     (i ≤ rows) × (gone ≤ i) × (bytes ≤ 65535 * i) × (length (goIn label (m .begun) (entriesIn m)) ≡ gone + length (goIn label begun (rest m rows i)))
-    × (total (goIn label (m .begun) (entriesIn m)) ≡ bytes + total (goIn label begun (rest m rows i)))
+    × (totalLeft (goIn label (m .begun) (entriesIn m)) ≡ bytes + totalLeft (goIn label begun (rest m rows i)))
 
 abbrev μ-loop : tie.MeasureT-loop
 μ-loop label n m rows gone₀ bytes₀ begun₀ i₀ gone bytes begun i = rows - i
@@ -77,26 +77,26 @@ loop-again c =
     let i = p .loop .i in
     let b = p .loop .begun in
     let later = rest m (m .n) (i + 1) in
-    let step : goIn (a .label) b (rest m (m .n) i) ≡ goIn (a .label) b (entryAt m i ∷ later) = ap (goIn (a .label) b) (entries-step m i (m .n) (d .loop-test .taken)) in
+    let step : goIn (a .label) b (rest m (m .n) i) ≡ goIn (a .label) b (entryInRow m i ∷ later) = ap (goIn (a .label) b) (entries-step m i (m .n) (d .loop-test .taken)) in
     let test : (r : Bool) → (not b && x .withdraws .result) ≡ r → (not b && withdraws (a .label) (getD (m .label) i 0)) ≡ r =
     λ r e. ap (λ (y : Bool). not b && y) (sym (x .withdraws .ensures)) ∙ e in
     ⊎-elim
     (λ w.
-    let e = step ∙ go-yes (a .label) b (entryAt m i) later (test true (w .0 .taken)) in
-    let t = total-one (entryAt m i) (goIn (a .label) false later) in (
+    let e = step ∙ go-yes (a .label) b (entryInRow m i) later (test true (w .0 .taken)) in
+    let t = total-one (entryInRow m i) (goIn (a .label) false later) in (
       search needs,
       omega (arith, w .3),
       omega (arith, w .2 .ensures, w .4),
       omega (arith, w .3, ap length e, p .loop .inv .3),
-      omega (arith, w .2 .ensures, w .4, ap total e, p .loop .inv .4, t),
+      omega (arith, w .2 .ensures, w .4, ap totalLeft e, p .loop .inv .4, t),
     ))
     (λ w.
-    let e = step ∙ go-no (a .label) b (entryAt m i) later (test false (w .0 .left)) in (
+    let e = step ∙ go-no (a .label) b (entryInRow m i) later (test false (w .0 .left)) in (
       search needs,
       omega (arith, w .1),
       omega (arith, w .2),
       omega (arith, w .1, ap length e, p .loop .inv .3),
-      omega (arith, w .2, ap total e, p .loop .inv .4),
+      omega (arith, w .2, ap totalLeft e, p .loop .inv .4),
     ))
     (c .if2 .came)
 
@@ -107,7 +107,7 @@ returns-2 c =
     let m = a .t1 in
     let e = superseded-end (a .label) (p .loop .begun) (rest m (m .n) (p .loop .i)) (entries-none m (p .loop .i) (m .n) (c .loop-test .left)) in
     let n : p .loop .gone ≡ length (goIn (a .label) (m .begun) (entriesIn m)) = omega (arith, p .loop .inv .3, e .0) in
-    let k : p .loop .bytes ≡ total (goIn (a .label) (m .begun) (entriesIn m)) = omega (arith, p .loop .inv .4, e .1) in
+    let k : p .loop .bytes ≡ totalLeft (goIn (a .label) (m .begun) (entriesIn m)) = omega (arith, p .loop .inv .4, e .1) in
     (λ j. record { n = n j; bytes = k j }) ∙ sym (superseded-start (a .label) (a .n) m (bytes-some (p .before)))
 
 pub superseded-spec : {M : Type 1} → statement M

@@ -3,7 +3,7 @@ use mathlib.Core.Logic.{⊎-elim}
 use Rattle.limits.specs.Limits.{maxTaken}
 use Rattle.ledger.specs.Queue.{withdraws}
 use Rattle.messages.specs.declared.Messages.{Messages}
-use Rattle.messages.specs.Messages.{Entry, entryAt, total, begunIn}
+use Rattle.messages.specs.Messages.{Entry, entryInRow, totalLeft, begunIn}
 use Rattle.messages.specs.MessagesCode.{withdrawn}
 use Rattle.messages.proofs.Entries.{entries-step, entries-none}
 use Rattle.messages.proofs.Scan.{rest, total-turn}
@@ -21,7 +21,7 @@ use Rattle.messages.proofs.withdraw.Tie as tie
 
 abbrev Inv-loop : tie.InvT-loop
 Inv-loop label m rows out₀ begun₀ to₀ i₀ out begun to i =
-    (to ≤ i) × (i ≤ rows) × (out .withdrawn + total (rest m rows i) ≤ maxTaken) × (withdrawn label m ≡ leaves out to label begun (rest m rows i) (begunIn m))
+    (to ≤ i) × (i ≤ rows) × (out .withdrawn + totalLeft (rest m rows i) ≤ maxTaken) × (withdrawn label m ≡ leaves out to label begun (rest m rows i) (begunIn m))
 
 abbrev μ-loop : tie.MeasureT-loop
 μ-loop label m rows out₀ begun₀ to₀ i₀ out begun to i = rows - i
@@ -99,14 +99,14 @@ loop-again c =
       omega (arith, w .3),
       search needs,
       omega (arith, w .1 .ensures, ap (λ (o : Messages). o .withdrawn) (w .2), p .loop .inv .2, turn),
-      step ∙ leaves-go (p .loop .out) (p .loop .to) (a .label) (p .loop .begun) (entryAt m i) later (begunIn m) (test true (w .0 .taken))
+      step ∙ leaves-go (p .loop .out) (p .loop .to) (a .label) (p .loop .begun) (entryInRow m i) later (begunIn m) (test true (w .0 .taken))
           ∙ ap (λ (k : ℕ). go (more (p .loop .out) k) (p .loop .to)) (sym (w .1 .ensures .0)) ∙ sym (ap₂ go (w .2) (w .3)),
     ))
     (λ w. (
       omega (arith, w .2),
       search needs,
       omega (arith, ap (λ (o : Messages). o .withdrawn) (w .1), p .loop .inv .2, turn),
-      step ∙ leaves-stay (p .loop .out) (p .loop .to) (a .label) (p .loop .begun) (entryAt m i) later (begunIn m) (test false (w .0 .left)) ∙ sym (ap₂ go (w .1) (w .2)),
+      step ∙ leaves-stay (p .loop .out) (p .loop .to) (a .label) (p .loop .begun) (entryInRow m i) later (begunIn m) (test false (w .0 .left)) ∙ sym (ap₂ go (w .1) (w .2)),
     ))
     (c .if1 .came)
 

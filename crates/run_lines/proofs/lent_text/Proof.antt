@@ -3,7 +3,7 @@ use borrow.Author.Needs.{needs}
 use mathlib.Core.Path.{refl}
 use borrow.Author.Tests.{eq-eqb, ne-eqb}
 use Rattle.laws.proofs.Picks.{cond-no, cond-yes}
-use Rattle.text.proofs.Laws.{by, told}
+use Rattle.text.proofs.Laws.{appends, told}
 use Rattle.run_lines.specs.RunLines.{lentText}
 use Rattle.run_lines.proofs.lent_text.Statement.{statement}
 use Rattle.run_lines.proofs.lent_text.Tie as tie
@@ -21,7 +21,7 @@ returns : tie.Need-returns
 unfolding lentText
 returns c =
     let d = c .before .before .before .before .before in
-    told (by (c .before .before .answer .ensures))
+    told (appends (c .before .before .answer .ensures))
     (cond-yes _ _ _ _ (eq-eqb _ _ (d .if1 .taken)) refl)
 
 slice-aggregate-answer-2 : tie.Need-slice-aggregate-answer-2
@@ -37,7 +37,7 @@ returns-2 : tie.Need-returns-2
 unfolding lentText
 returns-2 c =
     let d = c .before .before .before .before .before in
-    told (by (c .before .before .answer2 .ensures))
+    told (appends (c .before .before .answer2 .ensures))
     (cond-no _ _ _ _ (ne-eqb _ _ (d .if1 .left)) refl)
 
 pub lent-text-spec : {M : Type 1} → statement M

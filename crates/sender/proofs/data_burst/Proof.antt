@@ -17,6 +17,7 @@ use Rattle.refusals.specs.declared.Verdict.{Verdict}
 use Rattle.verdicts.specs.Verdicts.{passed, firstOf, outputVerdict, burstVerdict}
 use Rattle.verdicts.proofs.Passed.{is-passed, not-passed, burst-passed}
 use Rattle.sender.proofs.Bursting.{next-grows, burst-refused, burst-accepted}
+use Rattle.sender.proofs.Numbers.{burst-numbered}
 use Rattle.sender.proofs.data_burst.Statement.{statement}
 use Rattle.sender.proofs.data_burst.Tie as tie
 use Rattle.limits.specs.Limits.{maxSlots}
@@ -74,7 +75,9 @@ same-length c = search needs
 returns : tie.Need-returns
 returns c =
     let v = c .before .before .before in
-    burst-refused _ _ _ _ _ _ (asked v) (c .no-burst .ensures) (not-passed _ _ _ (asked v) (c .before .before .number .ensures) (c .before .if1 .taken))
+    burst-numbered _ _ _ _
+    (burst-refused _ _ _ _ _ _ (asked v) (c .no-burst .ensures) (not-passed _ _ _ (asked v) (c .before .before .number .ensures) (c .before .if1 .taken)))
+    (c .before .before .number .ensures)
 
 data-burst-requires : tie.Need-data-burst-requires
 data-burst-requires c κs =
@@ -106,8 +109,10 @@ returns-2 : tie.Need-returns-2
 returns-2 c =
     let b = c .before .before .before .before .before .before .before .before .before in
     let s = S (E b .before .before) in
-    burst-accepted (s .args .p) (s .args .t) (now (s .args .a)) (now (s .args .out)) (arrays s) (accepted (E b)) _ _ _ (asked (E b .before .before)) (b .data-burst .ensures)
-    (c .before .before .fly .ensures)
+    burst-numbered _ _ _ _
+    (burst-accepted (s .args .p) (s .args .t) (now (s .args .a)) (now (s .args .out)) (arrays s) (accepted (E b)) _ _ _ (asked (E b .before .before)) (b .data-burst .ensures)
+    (c .before .before .fly .ensures))
+    (E b .before .number .ensures)
 
 pub data-burst-spec : {M : Type 1} → statement M
 data-burst-spec =

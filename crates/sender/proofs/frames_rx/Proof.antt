@@ -8,7 +8,8 @@ use Rattle.record.proofs.View.{Arrays}
 use Rattle.refusals.specs.declared.Verdict.{Verdict}
 use Rattle.verdicts.specs.Verdicts.{passed, firstOf, framesStanding, hearingVerdict, framesVerdict}
 use Rattle.verdicts.proofs.Passed.{is-passed, not-passed}
-use Rattle.sender.proofs.Answered.{frames-refused, frames-ranged, frames-ready, frames-accepted}
+use Rattle.sender.proofs.Accepted.{frames-refused, frames-ranged, frames-ready, frames-accepted}
+use Rattle.sender.proofs.Numbers.{answer-numbered}
 use Rattle.sender.proofs.frames_rx.Statement.{statement}
 use Rattle.sender.proofs.frames_rx.Tie as tie
 use Rattle.limits.specs.Limits.{maxSlots}
@@ -61,8 +62,10 @@ returns : tie.Need-returns
 returns c =
     let v = c .before .before .before in
     let s = S v in
-    frames-refused (s .args .p) (s .args .t) (now (s .args .a)) (s .args .h) (s .args .r) (now (s .args .payloads)) _ (asked v)
-    (not-passed _ _ _ (asked v) (c .before .before .number .ensures) (c .before .if1 .taken))
+    answer-numbered _ _ _ _
+    (frames-refused (s .args .p) (s .args .t) (now (s .args .a)) (s .args .h) (s .args .r) (now (s .args .payloads)) _ (asked v)
+    (not-passed _ _ _ (asked v) (c .before .before .number .ensures) (c .before .if1 .taken)))
+    (c .before .before .number .ensures)
 
 hear-frames-requires : tie.Need-hear-frames-requires
 hear-frames-requires c κs =
@@ -79,8 +82,10 @@ returns-2 : tie.Need-returns-2
 returns-2 c =
     let e = c .before .before .before .before in
     let s = S (e .before .before) in
-    frames-accepted (s .args .p) (s .args .t) (now (s .args .a)) (s .args .h) (s .args .r) (now (s .args .payloads)) (accepted e) _ _ (asked (e .before .before))
-    (c .before .before .hear-frames .ensures)
+    answer-numbered _ _ _ _
+    (frames-accepted (s .args .p) (s .args .t) (now (s .args .a)) (s .args .h) (s .args .r) (now (s .args .payloads)) (accepted e) _ _ (asked (e .before .before))
+    (c .before .before .hear-frames .ensures))
+    (e .before .number .ensures)
 
 pub frames-rx-spec : {M : Type 1} → statement M
 frames-rx-spec =

@@ -35,9 +35,9 @@ module _ (s : Sender) (h : countsOk s ≡ true) where
   unfolding countsOk
   flying-few = leb-true _ _ (all-at _ 4 h)
 
-  pub pieces-few : s .counts .pieces ≤ maxPieces
+  pub pieces-within : s .counts .pieces ≤ maxPieces
   unfolding countsOk
-  pieces-few = leb-true _ _ (all-at _ 5 h)
+  pieces-within = leb-true _ _ (all-at _ 5 h)
 
   pub taken-few : s .counts .«next_offset» + s .counts .waiting ≤ maxTaken
   unfolding countsOk

@@ -41,7 +41,7 @@ use Rattle.record.specs.declared.Sender.{Sender}
 use Rattle.record.proofs.View.{Arrays, Counted, bytes-pieces, view-fresh}
 use Rattle.settle.specs.Settle.{Settling}
 use Rattle.soundness.specs.Soundness.{keptOk, keptIfOk, reportsOk, rememberedOk, gearOk, linkOk, countsOk, listsOk, soundOk}
-use Rattle.soundness.proofs.fields.Counts.{held-few, rest-few, out-few, sent-few, waiting-few, flying-few, pieces-few, taken-few, acked-is}
+use Rattle.soundness.proofs.fields.Counts.{held-few, rest-few, out-few, sent-few, waiting-few, flying-few, pieces-within, taken-few, acked-is}
 use Rattle.soundness.proofs.fields.Gear.{gear-sound, sound-gear, link-sound, sound-link}
 use Rattle.limits.specs.Limits.{maxSlots, maxFlying, maxWaiting, maxTaken, maxNumber}
 use Rattle.ledger.specs.SizesCode.{SizeRange}
@@ -164,7 +164,7 @@ module _ (p : Profile) (s : Sender) (a : List ℕ) (ar : Arrays s) where
         held = held-few s c;
         rest = rest-few s c;
         sent = sent-few s c;
-        pieces = pieces-few s c;
+        pieces = pieces-within s c;
         flying = table-total (sizesOf p .short) (sizesOf p .long) (s .counts .«next_offset») (s .counts .flying) rows t;
         ledger = ledger-sound area c t (all-at _ 3 e) (k .number);
         gear = gear-sound (s .gear) (all-at _ 4 e);

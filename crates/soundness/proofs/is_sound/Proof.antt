@@ -14,7 +14,7 @@ use Rattle.area.specs.declared.table.Row.{Row}
 use Rattle.area.specs.Table.{rowsFrom}
 use Rattle.area_check.specs.Rows.{tableOk, rowOffs}
 use Rattle.soundness.specs.Soundness.{countsOk, listsOk, soundOk}
-use Rattle.soundness.proofs.fields.Counts.{pieces-few}
+use Rattle.soundness.proofs.fields.Counts.{pieces-within}
 use borrow.Author.Needs.{needs}
 use Rattle.soundness.proofs.is_sound.Statement.{statement}
 use Rattle.soundness.proofs.is_sound.Tie as tie
@@ -79,7 +79,7 @@ table-ok-requires : tie.Need-table-ok-requires
 table-ok-requires c κs =
     let s = c .before .before .before .before .before .before .before .before .before .before in
     let e = c .before .before .before .before .before .before .max-payload .ensures in
-    (pieces-few (s .args .s) (counted c), c .before .before .if1 .left, omega (arith, e, s .pre .short .0), omega (arith, e))
+    (pieces-within (s .args .s) (counted c), c .before .before .if1 .left, omega (arith, e, s .pre .short .0), omega (arith, e))
 
 returns-3 : tie.Need-returns-3
 unfolding soundOk all

@@ -2,7 +2,7 @@
 use mathlib.Core.Path.{_∙_}
 use borrow.Author.Needs.{needs}
 use Rattle.state_lines.specs.State.{aimLine}
-use Rattle.text.proofs.Laws.{by, _⨾_}
+use Rattle.text.proofs.Laws.{appends, _⨾_}
 use Rattle.state_lines.proofs.aim.Statement.{statement}
 use Rattle.state_lines.proofs.aim.Tie as tie
 
@@ -44,8 +44,8 @@ returns c =
     let p3 = p4 .before .before .before .before in
     let p2 = p3 .before .before .before .before in
     let p1 = p2 .before .before .before .before in
-    (by (p1 .puts .ensures) ⨾ by (p2 .maybe-single .ensures) ⨾ by (p3 .maybe-single2 .ensures) ⨾ by (p4 .reports .ensures)
-    ⨾ by (p5 .puts2 .ensures)) .is
+    (appends (p1 .puts .ensures) ⨾ appends (p2 .maybe-single .ensures) ⨾ appends (p3 .maybe-single2 .ensures) ⨾ appends (p4 .reports .ensures)
+    ⨾ appends (p5 .puts2 .ensures)) .is
 
 pub aim-spec : {M : Type 1} → statement M
 aim-spec =

@@ -2,7 +2,7 @@
 use mathlib.Core.Path.{_∙_}
 use borrow.Author.Needs.{needs}
 use Rattle.state_lines.specs.State.{countsLine}
-use Rattle.text.proofs.Laws.{by, _⨾_}
+use Rattle.text.proofs.Laws.{appends, _⨾_}
 use Rattle.state_lines.proofs.counts.Statement.{statement}
 use Rattle.state_lines.proofs.counts.Tie as tie
 
@@ -39,7 +39,7 @@ returns c =
     let p3 = p4 .before .before .before .before .before in
     let p2 = p3 .before .before .before .before in
     let p1 = p2 .before .before .before .before in
-    (by (p1 .puts .ensures) ⨾ by (p2 .tally .ensures) ⨾ by (p3 .number .ensures) ⨾ by (p4 .puts2 .ensures)) .is
+    (appends (p1 .puts .ensures) ⨾ appends (p2 .tally .ensures) ⨾ appends (p3 .number .ensures) ⨾ appends (p4 .puts2 .ensures)) .is
 
 pub counts-spec : {M : Type 1} → statement M
 counts-spec =

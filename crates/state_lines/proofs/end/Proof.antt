@@ -1,7 +1,7 @@
 -- `state_lines::end` meets its contract.
 use mathlib.Core.Path.{_∙_}
 use borrow.Author.Needs.{needs}
-use Rattle.text.proofs.Laws.{by, _⨾_}
+use Rattle.text.proofs.Laws.{appends, _⨾_}
 use Rattle.state_lines.proofs.end.Statement.{statement}
 use Rattle.state_lines.proofs.end.Tie as tie
 
@@ -32,7 +32,7 @@ returns c =
     let p3 = c .before .before in
     let p2 = p3 .before .before .before .before .before in
     let p1 = p2 .before .before .before .before in
-    (by (p1 .puts .ensures) ⨾ by (p2 .tally .ensures) ⨾ by (p3 .puts2 .ensures)) .is
+    (appends (p1 .puts .ensures) ⨾ appends (p2 .tally .ensures) ⨾ appends (p3 .puts2 .ensures)) .is
 
 pub end-spec : {M : Type 1} → statement M
 end-spec =

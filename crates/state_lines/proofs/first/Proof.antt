@@ -2,7 +2,7 @@
 use mathlib.Core.Path.{_∙_}
 use borrow.Author.Needs.{needs}
 use Rattle.state_lines.specs.State.{stateLine}
-use Rattle.text.proofs.Laws.{by, _⨾_}
+use Rattle.text.proofs.Laws.{appends, _⨾_}
 use Rattle.state_lines.proofs.first.Statement.{statement}
 use Rattle.state_lines.proofs.first.Tie as tie
 
@@ -84,9 +84,9 @@ returns c =
     let p3 = p4 .before .before .before .before in
     let p2 = p3 .before .before .before .before in
     let p1 = p2 .before .before .before .before in
-    (by (p1 .puts .ensures) ⨾ by (p2 .number .ensures) ⨾ by (p3 .number2 .ensures) ⨾ by (p4 .maybe-double .ensures)
-    ⨾ by (p5 .flag .ensures) ⨾ by (p6 .flag2 .ensures) ⨾ by (p7 .number3 .ensures) ⨾ by (p8 .number4 .ensures)
-    ⨾ by (p9 .maybe-number .ensures) ⨾ by (p10 .maybe-double2 .ensures) ⨾ by (p11 .puts2 .ensures)) .is
+    (appends (p1 .puts .ensures) ⨾ appends (p2 .number .ensures) ⨾ appends (p3 .number2 .ensures) ⨾ appends (p4 .maybe-double .ensures)
+    ⨾ appends (p5 .flag .ensures) ⨾ appends (p6 .flag2 .ensures) ⨾ appends (p7 .number3 .ensures) ⨾ appends (p8 .number4 .ensures)
+    ⨾ appends (p9 .maybe-number .ensures) ⨾ appends (p10 .maybe-double2 .ensures) ⨾ appends (p11 .puts2 .ensures)) .is
 
 pub first-spec : {M : Type 1} → statement M
 first-spec =

@@ -1,7 +1,7 @@
 -- `state_lines::gear_line` meets its contract.
 use mathlib.Core.Path.{_∙_}
 use borrow.Author.Needs.{needs}
-use Rattle.text.proofs.Laws.{by, _⨾_}
+use Rattle.text.proofs.Laws.{appends, _⨾_}
 use Rattle.state_lines.proofs.gear_line.Statement.{statement}
 use Rattle.state_lines.proofs.gear_line.Tie as tie
 
@@ -58,8 +58,8 @@ returns c =
     let p3 = p4 .before .before .before .before in
     let p2 = p3 .before .before .before .before in
     let p1 = p2 .before .before .before .before in
-    (by (p1 .puts .ensures) ⨾ by (p2 .number .ensures) ⨾ by (p3 .maybe-single .ensures) ⨾ by (p4 .double .ensures)
-    ⨾ by (p5 .number2 .ensures) ⨾ by (p6 .double2 .ensures) ⨾ by (p7 .flag .ensures) ⨾ by (p8 .puts2 .ensures)) .is
+    (appends (p1 .puts .ensures) ⨾ appends (p2 .number .ensures) ⨾ appends (p3 .maybe-single .ensures) ⨾ appends (p4 .double .ensures)
+    ⨾ appends (p5 .number2 .ensures) ⨾ appends (p6 .double2 .ensures) ⨾ appends (p7 .flag .ensures) ⨾ appends (p8 .puts2 .ensures)) .is
 
 pub gear-line-spec : {M : Type 1} → statement M
 gear-line-spec =

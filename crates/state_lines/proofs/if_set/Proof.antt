@@ -2,7 +2,7 @@
 use mathlib.Core.Path.{refl}
 use borrow.Author.Needs.{needs}
 use Rattle.laws.proofs.Picks.{cond-yes, cond-no}
-use Rattle.text.proofs.Laws.{by, told, nothing}
+use Rattle.text.proofs.Laws.{appends, told, nothing}
 use Rattle.state_lines.proofs.if_set.Statement.{statement}
 use Rattle.state_lines.proofs.if_set.Tie as tie
 
@@ -17,7 +17,7 @@ same-length c =
 returns : tie.Need-returns
 returns c =
     let p1 = c .before .before in
-    told (by (p1 .single .ensures)) (cond-yes _ _ _ _ (c .before .before .before .before .if1 .taken) refl)
+    told (appends (p1 .single .ensures)) (cond-yes _ _ _ _ (c .before .before .before .before .if1 .taken) refl)
 
 returns-2 : tie.Need-returns-2
 returns-2 c = told (nothing _) (cond-no _ _ _ _ (c .if1 .left) refl)

@@ -1,7 +1,7 @@
 -- `state_lines::level` meets its contract.
 use borrow.Author.Needs.{needs}
 use Rattle.state_lines.specs.State.{gearOf}
-use Rattle.text.proofs.Laws.{by}
+use Rattle.text.proofs.Laws.{appends}
 use Rattle.state_lines.proofs.level.Statement.{statement}
 use Rattle.state_lines.proofs.level.Tie as tie
 
@@ -44,7 +44,7 @@ returns : tie.Need-returns
 unfolding gearOf
 returns c =
     let p1 = c .before .before in
-    (by (p1 .gear-line .ensures)) .is
+    (appends (p1 .gear-line .ensures)) .is
 
 pub level-spec : {M : Type 1} → statement M
 level-spec =

@@ -8,7 +8,7 @@ use Rattle.state_lines.specs.State.{gearOf}
 use Rattle.text.specs.Buffer.{appended, each}
 use Rattle.laws.proofs.Span.{upto-more, upto-none}
 use Rattle.laws.specs.Span.{upto}
-use Rattle.text.proofs.Laws.{by, Left, whole, each-turn, each-end}
+use Rattle.text.proofs.Laws.{appends, Left, whole, each-turn, each-end}
 use Rattle.state_lines.proofs.levels.Statement.{statement}
 use Rattle.state_lines.proofs.levels.Tie as tie
 
@@ -37,7 +37,7 @@ loop-again c = let q = c .before .before in
     let p = l .before in
     let a = p .before .before .args in (
       omega arith,
-      each-turn (gearOf (a .g)) (upto-more (p .loop .l) 17 (l .loop-test .taken)) (p .loop .inv .1) (by (q .level .ensures)),
+      each-turn (gearOf (a .g)) (upto-more (p .loop .l) 17 (l .loop-test .taken)) (p .loop .inv .1) (appends (q .level .ensures)),
       q .level .kept .0
           ∙ p .loop .inv .2,
     )

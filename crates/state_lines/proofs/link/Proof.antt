@@ -2,7 +2,7 @@
 use mathlib.Core.Path.{_∙_}
 use borrow.Author.Needs.{needs}
 use Rattle.state_lines.specs.State.{linkLine}
-use Rattle.text.proofs.Laws.{by, _⨾_}
+use Rattle.text.proofs.Laws.{appends, _⨾_}
 use Rattle.state_lines.proofs.link.Statement.{statement}
 use Rattle.state_lines.proofs.link.Tie as tie
 
@@ -68,8 +68,8 @@ returns c =
     let p3 = p4 .before .before .before .before in
     let p2 = p3 .before .before .before .before in
     let p1 = p2 .before .before .before .before in
-    (by (p1 .puts .ensures) ⨾ by (p2 .flag .ensures) ⨾ by (p3 .flag2 .ensures) ⨾ by (p4 .flag3 .ensures) ⨾ by (p5 .flag4 .ensures)
-    ⨾ by (p6 .number .ensures) ⨾ by (p7 .single .ensures) ⨾ by (p8 .flag5 .ensures) ⨾ by (p9 .puts2 .ensures)) .is
+    (appends (p1 .puts .ensures) ⨾ appends (p2 .flag .ensures) ⨾ appends (p3 .flag2 .ensures) ⨾ appends (p4 .flag3 .ensures) ⨾ appends (p5 .flag4 .ensures)
+    ⨾ appends (p6 .number .ensures) ⨾ appends (p7 .single .ensures) ⨾ appends (p8 .flag5 .ensures) ⨾ appends (p9 .puts2 .ensures)) .is
 
 pub link-spec : {M : Type 1} → statement M
 link-spec =

@@ -2,7 +2,7 @@
 use mathlib.Core.Path.{_∙_}
 use borrow.Author.Needs.{needs}
 use Rattle.state_lines.specs.State.{reports}
-use Rattle.text.proofs.Laws.{by, _⨾_}
+use Rattle.text.proofs.Laws.{appends, _⨾_}
 use Rattle.state_lines.proofs.reports.Statement.{statement}
 use Rattle.state_lines.proofs.reports.Tie as tie
 
@@ -28,7 +28,7 @@ returns c =
     let p3 = c .before .before in
     let p2 = p3 .before .before .before .before .before in
     let p1 = p2 .before .before .before .before .before in
-    (by (p1 .if-set .ensures) ⨾ by (p2 .if-set2 .ensures) ⨾ by (p3 .if-set3 .ensures)) .is
+    (appends (p1 .if-set .ensures) ⨾ appends (p2 .if-set2 .ensures) ⨾ appends (p3 .if-set3 .ensures)) .is
 
 pub reports-spec : {M : Type 1} → statement M
 reports-spec =

@@ -2,7 +2,7 @@
 use mathlib.Core.Path.{_∙_}
 use borrow.Author.Needs.{needs}
 use Rattle.state_lines.specs.State.{stateLines}
-use Rattle.text.proofs.Laws.{by, _⨾_}
+use Rattle.text.proofs.Laws.{appends, _⨾_}
 use Rattle.state_lines.proofs.state.Statement.{statement}
 use Rattle.state_lines.proofs.state.Tie as tie
 
@@ -59,8 +59,8 @@ returns c =
     let p3 = p4 .before .before .before .before in
     let p2 = p3 .before .before .before .before in
     let p1 = p2 .before .before .before .before in
-    (by (p1 .first .ensures) ⨾ by (p2 .link .ensures) ⨾ by (p3 .aim .ensures) ⨾ by (p4 .levels .ensures) ⨾ by (p5 .counts .ensures)
-    ⨾ by (p6 .pieces .ensures) ⨾ by (p7 .held .ensures) ⨾ by (p8 .rest .ensures) ⨾ by (p9 .sent .ensures)) .is
+    (appends (p1 .first .ensures) ⨾ appends (p2 .link .ensures) ⨾ appends (p3 .aim .ensures) ⨾ appends (p4 .levels .ensures) ⨾ appends (p5 .counts .ensures)
+    ⨾ appends (p6 .pieces .ensures) ⨾ appends (p7 .held .ensures) ⨾ appends (p8 .rest .ensures) ⨾ appends (p9 .sent .ensures)) .is
 
 pub state-spec : {M : Type 1} → statement M
 state-spec =

@@ -1,7 +1,7 @@
 -- `state_lines::tally` meets its contract.
 use mathlib.Core.Path.{_∙_}
 use borrow.Author.Needs.{needs}
-use Rattle.text.proofs.Laws.{by, _⨾_}
+use Rattle.text.proofs.Laws.{appends, _⨾_}
 use Rattle.state_lines.proofs.tally.Statement.{statement}
 use Rattle.state_lines.proofs.tally.Tie as tie
 
@@ -52,7 +52,7 @@ returns c =
     let p3 = p4 .before .before .before .before .before in
     let p2 = p3 .before .before .before .before .before in
     let p1 = p2 .before .before .before .before .before in
-    (by (p1 .number .ensures) ⨾ by (p2 .number2 .ensures) ⨾ by (p3 .number3 .ensures) ⨾ by (p4 .number4 .ensures)) .is
+    (appends (p1 .number .ensures) ⨾ appends (p2 .number2 .ensures) ⨾ appends (p3 .number3 .ensures) ⨾ appends (p4 .number4 .ensures)) .is
 
 pub tally-spec : {M : Type 1} → statement M
 tally-spec =

@@ -1,11 +1,12 @@
 -- `station::keep` meets its contract: a walk of its MIR, printed by tools/walk.py station keep --by Rattle.station.proofs.Stored.keeping
-use Rattle.ref_laws.proofs.Kit.{AllGo, Atoms, Calls, Env, FmC, Fun, GName, Given, Heap, Is, Lft, List, Loops, Meets, Memory, MutRef, Routine, SProp, Share, Stays, Tables, URA, Val, Walks, WpFn, WpFn-mono, alloc0, alloc1, assigns, assigns-last, atRet, bin}
-use Rattle.ref_laws.proofs.Kit.{bool-lawful, branches, closes, done, drop, emp, ends-at, ent, enter, entered, eqb, exec, feqI, first, fjoin, fjoin3, flft, fmOf, forget, free0, free1, from, fsplit, fsplit3, fst∗, ftrue, fullShare, givenOf, goes-ref, hop, init, join}
-use Rattle.ref_laws.proofs.Kit.{keep, lit, load, look, move, mut-tells, named, nothing, nothing-lawful, nothing-makes, nothing-vals, of-opd, onEntry, only, opens, owned, owns, params1, pass0, pass1, peeks, plain, ptr-vals, qed, refl, returns, says, shows, skips}
-use Rattle.ref_laws.proofs.Kit.{spelt, split, stay-ref, stop, store-raw, suffices, tables, tablesOf, tripleOf, u8, uint-lawful, uint-tells, uint-vals, unit, unit-lit, via, vptr, w8, walk-meets, walkOf, walked, ℕ, !, [], _$_, _∵_, _∷_, _⊛_, ‵}
+use Rattle.ref_laws.proofs.Kit.{AllGo, Atoms, Calls, Env, FmC, Fun, GName, Given, Heap, Is, Lft, Loops, Meets, Memory, MutRef, Routine, SProp, Share, Stays, Tables, URA, Val, Walks, WpFn, WpFn-mono, alloc0, assigns, assigns-last, atRet, bin, bool-lawful, branches}
+use Rattle.ref_laws.proofs.Kit.{done, drop, emp, ends-at, ent, enter, entered, eqb, exec, first, fjoin, flft, fmOf, forget, free0, free1, from, fsplit, fst∗, ftrue, givenOf, goes-ref, hop, init, join, keep, lit, load, look, move, mut-tells, named, nothing}
+use Rattle.ref_laws.proofs.Kit.{nothing-lawful, nothing-makes, nothing-vals, of-opd, onEntry, only, owned, owns, params1, pass0, pass1, plain, ptr-vals, qed, refl, returns, says, skips, split, stay-ref, stop, store-raw, suffices, tables, tablesOf, tripleOf, u8}
+use Rattle.ref_laws.proofs.Kit.{uint-lawful, uint-tells, uint-vals, unit, unit-lit, via, vptr, w8, walk-meets, walkOf, walked, ℕ, !, [], _$_, _∵_, _∷_, _⊛_, ‵}
 use denote.Struct.Laws as LL
 use Rattle.ref_laws.proofs.Left.{goes-left, stay-left}
 use Rattle.ref_laws.proofs.Loop.{tyAt}
+use Rattle.ref_laws.proofs.Steps.{alloc-in, closes-at, of-two, opens-at}
 use Rattle.station.proofs.Stored.{keeping1, keeping2}
 use Rattle.queuing.specs.declared.Station.{Station}
 use Rattle.queuing.proofs.Station as T0
@@ -44,25 +45,25 @@ module _ {M : Type 1} (𝓤 : URA M) (H : Heap 𝓤) (A : Atoms 𝓤) (W : Given
       qed W ((‵ (flft κ0 q0) ⊛ ‵ ftrue) ∷ ‵ (owns (MutRef (named 0) κ0 T0.the-row ∷ u8 ∷ T0.the-row ∷ []) (record { ptr = (b1, o1); name = γ1; now = h1 }, (x2, (x3, tt))) (vptr b1 o1 ∷ [], ((uint-vals w8) x2, ((LL.vals T0.the-type T0′.the-laws) x3, tt)))) ∷ []) ∵
       split ! $ move ! (1 ∷ []) $ drop ! $ move ! (1 ∷ []) $ fsplit ! $ move ! (1 ∷ []) $ fsplit ! $ drop ! $ fsplit ! $ drop ! $ drop ! $
       enter ! C Λ code.function (vptr b1 o1 ∷ only ((uint-vals w8) x2) ∷ only ((LL.vals T0.the-type T0′.the-laws) x3) ∷ []) Post $
-      alloc1 ! (λ l0. alloc1 ! (λ l1. alloc1 ! (λ l2. alloc1 ! (λ l3. alloc1 ! (λ l4. alloc0 ! $ params1 ! $ pass1 ! (init ! 6 refl (tt, tt)) $ pass1 ! (init ! 4 refl (uint-lawful 𝓤 H A W w8 .typed x2 _ is2 .0)) $ pass1 ! (init ! 2 {τ = T0′.mir} {v = only ((LL.vals T0.the-type T0′.the-laws) x3)} refl (LL.lawful T0.the-type T0′.the-laws 𝓤 H A W .typed x3 ((LL.vals T0.the-type T0′.the-laws) x3) is3 .0)) $ pass0 ! $
-      assigns ! (bin ! (load ! (from ! (stop !)) (look ! 4 refl)) (lit ! tt) tt) (from ! (stop !)) (init ! 0 refl (bool-lawful 𝓤 H A W .typed (eqb x2 0) _ refl .0)) $
-      first ! $ branches ! (load ! (from ! (stop !)) (look ! 0 refl))
-      (λ yes1. move ! (10 ∷ []) $ fsplit3 ! $ drop ! $ move ! (0 ∷ 1 ∷ 12 ∷ []) $ opens ! tt T0.the-row {h = h1} b1 o1 (λ vs1. spelt ! T0.the-row (Is T0.the-row) (shows 𝓤 H A T0.the-row) (LL.vals T0.the-type T0′.the-laws) (LL.tells T0.the-type T0′.the-laws) fullShare h1 vs1 b1 o1 $ move ! (1 ∷ []) $ peeks ! T0.the-row (Is T0.the-row) (shows 𝓤 H A T0.the-row) h1 ((LL.vals T0.the-type T0′.the-laws) h1) (λ was1. drop ! $
+      nothing ! $ alloc-in ! (λ l0. alloc-in ! (λ l1. alloc-in ! (λ l2. alloc-in ! (λ l3. alloc-in ! (λ l4. alloc0 ! $ params1 ! $ pass1 ! (init ! 4 refl (tt, tt)) $ pass1 ! (init ! 3 refl (uint-lawful 𝓤 H A W w8 .typed x2 _ is2 .0)) $ pass1 ! (init ! 2 {τ = T0′.mir} {v = only ((LL.vals T0.the-type T0′.the-laws) x3)} refl (LL.lawful T0.the-type T0′.the-laws 𝓤 H A W .typed x3 ((LL.vals T0.the-type T0′.the-laws) x3) is3 .0)) $ pass0 ! $
+      assigns ! (bin ! (load ! (from ! (stop !)) (look ! 3 refl)) (lit ! tt) tt) (from ! (stop !)) (init ! 1 refl (bool-lawful 𝓤 H A W .typed (eqb x2 0) _ refl .0)) $
+      first ! $ branches ! (load ! (from ! (stop !)) (look ! 1 refl))
+      (λ yes1. move ! (6 ∷ 7 ∷ []) $ opens-at ! tt T0.the-row (LL.vals T0.the-type T0′.the-laws) (LL.tells T0.the-type T0′.the-laws) h1 b1 o1 (λ was1.
       -- the cell behind `t` is at hand
-      assigns-last ! (of-opd ! (load ! (from ! (stop !)) (look ! 6 {τ = T0′.mir} {v = only ((LL.vals T0.the-type T0′.the-laws) x3)} refl))) (from ! (hop ! (look ! 10 refl) (stop !))) (store-raw ! 0 {τ = T0′.mir} {v = only ((LL.vals T0.the-type T0′.the-laws) x3)} refl (LL.lawful T0.the-type T0′.the-laws 𝓤 H A W .typed x3 ((LL.vals T0.the-type T0′.the-laws) x3) is3 .0)) $
+      assigns-last ! (of-opd ! (load ! (from ! (stop !)) (look ! 6 {τ = T0′.mir} {v = only ((LL.vals T0.the-type T0′.the-laws) x3)} refl))) (from ! (hop ! (look ! 8 refl) (stop !))) (store-raw ! 0 {τ = T0′.mir} {v = only ((LL.vals T0.the-type T0′.the-laws) x3)} refl (LL.lawful T0.the-type T0′.the-laws 𝓤 H A W .typed x3 ((LL.vals T0.the-type T0′.the-laws) x3) is3 .0)) $
       exec ! C Λ (En l0 l1 l2 l3 l4) pieces.t-3 (atRet (En l0 l1 l2 l3 l4) Post) $
-      assigns ! (of-opd ! (unit-lit !)) (from ! (stop !)) (init ! 12 refl (nothing-lawful 𝓤 H A W .typed tt _ refl .0)) $
-      owned ! T0.the-row (Is T0.the-row) (LL.makes T0.the-type T0′.the-plain 𝓤 H A) x3 ((LL.vals T0.the-type T0′.the-laws) x3) is3 $ move ! (1 ∷ 0 ∷ 2 ∷ 3 ∷ 4 ∷ []) $ closes ! tt T0.the-row x3 ((LL.vals T0.the-type T0′.the-laws) x3) b1 o1 $ feqI ! (List Val) (vptr b1 o1 ∷ []) (vptr b1 o1 ∷ []) refl $ fjoin3 ! $
+      assigns ! (of-opd ! (unit-lit !)) (from ! (stop !)) (init ! 9 refl (nothing-lawful 𝓤 H A W .typed tt _ refl .0)) $
+      closes-at ! tt T0.the-row (LL.makes T0.the-type T0′.the-plain 𝓤 H A) x3 ((LL.vals T0.the-type T0′.the-laws) x3) is3 b1 o1 $
       -- the locals are freed
-      returns ! (look ! 10 refl) $ forget ! 10 refl $ forget ! 8 refl $ forget ! 6 refl $ forget ! 4 {τ = T0′.mir} {v = only ((LL.vals T0.the-type T0′.the-laws) x3)} refl $ forget ! 2 refl $
-      move ! (10 ∷ 11 ∷ []) $ free1 ! $ move ! (8 ∷ 9 ∷ []) $ free1 ! $ move ! (6 ∷ 7 ∷ []) $ free1 ! $ move ! (4 ∷ 5 ∷ []) $ free1 ! $ move ! (2 ∷ 3 ∷ []) $ free1 ! $ free0 ! $
+      returns ! (look ! 7 refl) $ forget ! 7 refl $ forget ! 6 refl $ forget ! 5 refl $ forget ! 4 {τ = T0′.mir} {v = only ((LL.vals T0.the-type T0′.the-laws) x3)} refl $ forget ! 3 refl $
+      move ! (2 ∷ []) $ of-two ! $ of-two ! $ of-two ! $ of-two ! $ of-two ! $ drop ! $ move ! (11 ∷ 0 ∷ []) $ free1 ! $ move ! (9 ∷ 0 ∷ []) $ free1 ! $ move ! (7 ∷ 0 ∷ []) $ free1 ! $ move ! (5 ∷ 0 ∷ []) $ free1 ! $ move ! (3 ∷ 0 ∷ []) $ free1 ! $ free0 ! $
       -- the exit
-      suffices ! _ (ends-at 𝓤 H A f.ended stayed (f.clauses 𝓤 H A at-mem run) W to-f (only (nothing-vals tt)) tt (x3, (tt, (tt, tt))) (tt, (tt, (tt, tt)))) $ says ! (keeping1 h1 x2 x3 yes1) $ owned ! unit (Is unit) (nothing-makes 𝓤 H A W) tt (nothing-vals tt) refl $ nothing ! $ nothing ! $ fjoin ! $ nothing ! $ fjoin ! $ move ! (2 ∷ 0 ∷ []) $ fjoin ! $ nothing ! $ move ! (3 ∷ 0 ∷ []) $ join ! $ keep ! (0 ∷ 1 ∷ 2 ∷ []) $ done !)))
+      suffices ! _ (ends-at 𝓤 H A f.ended stayed (f.clauses 𝓤 H A at-mem run) W to-f (only (nothing-vals tt)) tt (x3, (tt, (tt, tt))) (tt, (tt, (tt, tt)))) $ says ! (keeping1 h1 x2 x3 yes1) $ owned ! unit (Is unit) (nothing-makes 𝓤 H A W) tt (nothing-vals tt) refl $ nothing ! $ nothing ! $ fjoin ! $ nothing ! $ fjoin ! $ move ! (2 ∷ 0 ∷ []) $ fjoin ! $ nothing ! $ move ! (3 ∷ 0 ∷ []) $ join ! $ keep ! (0 ∷ 1 ∷ 2 ∷ []) $ done !))
       (λ no1. skips ! $ exec ! C Λ (En l0 l1 l2 l3 l4) pieces.t-3 (atRet (En l0 l1 l2 l3 l4) Post) $
-      assigns ! (of-opd ! (unit-lit !)) (from ! (stop !)) (init ! 8 refl (nothing-lawful 𝓤 H A W .typed tt _ refl .0)) $
+      assigns ! (of-opd ! (unit-lit !)) (from ! (stop !)) (init ! 5 refl (nothing-lawful 𝓤 H A W .typed tt _ refl .0)) $
       -- the locals are freed
-      returns ! (look ! 8 refl) $ forget ! 8 refl $ forget ! 6 refl $ forget ! 4 refl $ forget ! 2 {τ = T0′.mir} {v = only ((LL.vals T0.the-type T0′.the-laws) x3)} refl $ forget ! 0 refl $
-      move ! (8 ∷ 9 ∷ []) $ free1 ! $ move ! (6 ∷ 7 ∷ []) $ free1 ! $ move ! (4 ∷ 5 ∷ []) $ free1 ! $ move ! (2 ∷ 3 ∷ []) $ free1 ! $ free1 ! $ free0 ! $
+      returns ! (look ! 5 refl) $ forget ! 5 refl $ forget ! 4 refl $ forget ! 3 refl $ forget ! 2 {τ = T0′.mir} {v = only ((LL.vals T0.the-type T0′.the-laws) x3)} refl $ forget ! 1 refl $
+      of-two ! $ of-two ! $ of-two ! $ of-two ! $ of-two ! $ drop ! $ move ! (9 ∷ 0 ∷ []) $ free1 ! $ move ! (7 ∷ 0 ∷ []) $ free1 ! $ move ! (5 ∷ 0 ∷ []) $ free1 ! $ move ! (3 ∷ 0 ∷ []) $ free1 ! $ move ! (1 ∷ 0 ∷ []) $ free1 ! $ free0 ! $
       -- the exit
       suffices ! _ (ends-at 𝓤 H A f.ended stayed (f.clauses 𝓤 H A at-mem run) W to-f (only (nothing-vals tt)) tt (h1, (tt, (tt, tt))) (tt, (tt, (tt, tt)))) $ says ! (keeping2 h1 x2 x3 no1) $ owned ! unit (Is unit) (nothing-makes 𝓤 H A W) tt (nothing-vals tt) refl $ nothing ! $ nothing ! $ fjoin ! $ nothing ! $ fjoin ! $ move ! (2 ∷ 0 ∷ []) $ fjoin ! $ nothing ! $ move ! (3 ∷ 0 ∷ []) $ join ! $ keep ! (0 ∷ 1 ∷ 2 ∷ []) $ done !)
       )))))

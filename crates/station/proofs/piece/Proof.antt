@@ -1,11 +1,11 @@
 -- `station::piece` meets its contract: a walk of its MIR, printed by tools/walk.py station piece
-use Rattle.ref_laws.proofs.Kit.{AllGo, Atoms, Calls, Contract, FmC, Fun, GName, Given, Heap, Is, Lasts, Lft, List, Loops, Meets, Memory, RefT, Routine, SProp, Share, ShrRef, ShrSlice, Stays, Tables, Triple, URA, Val, Walks, WpFn, WpFn-mono, alloc0, alloc1}
-use Rattle.ref_laws.proofs.Kit.{and-then, assigns, atExit, await, calls-at, cited, done, drop, emp, ends-at, ensured, ent, enter, entered, feqI, fjoin, fjoin3, flft, fmOf, forget, frame, free0, free1, from, fsplit, fsplit3, fst∗, ftrue, givenOf, hop, id⊢, init}
-use Rattle.ref_laws.proofs.Kit.{join, keep, land, lasts, later, load, look, look-raw, looks, move, named, no-more, nothing, of-opd, onEntry, only, owned, owns, params1, pass0, pass1, peeks, pick, plain, ptr-vals, qed, raw, refl, returns, shows, shr-slice-copy}
-use Rattle.ref_laws.proofs.Kit.{shr-slice-lawful, shr-slice-tells, shr-tells, shrRefTo, shrSlice, shuts, slice-vals, some, spelt, split, stop, suffices, tables, tablesOf, tripleOf, u32, u8, uint-lawful, uint-makes, uint-tells, uint-vals, use1, via, vptr, w32}
-use Rattle.ref_laws.proofs.Kit.{walk-meets, walkOf, walked, ℕ, !, [], _$_, _∵_, _∷_, _⊛_, ‵}
+use Rattle.ref_laws.proofs.Kit.{AllGo, Atoms, Calls, Contract, FmC, Fun, GName, Given, Heap, Is, Lasts, Lft, List, Loops, Meets, Memory, RefT, Routine, SProp, Share, ShrRef, ShrSlice, Stays, Tables, Triple, URA, Val, Walks, WpFn, WpFn-mono, alloc0, and-then}
+use Rattle.ref_laws.proofs.Kit.{assigns, atExit, await, calls-at, cited, done, drop, emp, ends-at, ensured, ent, enter, entered, fjoin, flft, fmOf, forget, frame, free0, free1, from, fsplit, fst∗, ftrue, givenOf, hop, id⊢, init, join, keep, land, lasts, later}
+use Rattle.ref_laws.proofs.Kit.{load, look, look-raw, move, named, no-more, nothing, of-opd, onEntry, only, owns, params1, pass0, pass1, peeks, pick, plain, ptr-vals, qed, raw, refl, returns, shows, shr-slice-copy, shr-slice-lawful, shr-slice-tells, shr-tells}
+use Rattle.ref_laws.proofs.Kit.{shrRefTo, shrSlice, slice-vals, some, split, stop, suffices, tables, tablesOf, tripleOf, u32, u8, uint-lawful, uint-makes, uint-tells, uint-vals, use1, via, vptr, w32, walk-meets, walkOf, walked, ℕ, !, [], _$_, _∵_, _∷_, _⊛_, ‵}
 use denote.Struct.Laws as LL
 use Rattle.ref_laws.proofs.Left.{asks, goes-left, stay-left}
+use Rattle.ref_laws.proofs.Steps.{adds, alloc-in, head-of, looks-at, of-two, shuts-at}
 use Rattle.config.specs.declared.Profile.{Profile}
 use Rattle.config.proofs.Profile as T0
 use Rattle.config.proofs.Profile.Laws as T0′
@@ -49,27 +49,27 @@ module _ {M : Type 1} (𝓤 : URA M) (H : Heap 𝓤) (A : Atoms 𝓤) (W : Given
       qed W ((‵ (flft κ0 q0) ⊛ (‵ (flft κ1 q1) ⊛ (‵ (flft κ2 q2) ⊛ ‵ ftrue))) ∷ ‵ (owns (ShrRef (named 0) κ0 T0.the-row ∷ ShrRef (named 1) κ1 T1.the-row ∷ ShrSlice (named 2) κ2 u8 ∷ u32 ∷ []) (record { ptr = (b1, o1); name = γ1; now = h1 }, (record { ptr = (b2, o2); name = γ2; now = h2 }, (x3, (x4, tt)))) (vptr b1 o1 ∷ [], (vptr b2 o2 ∷ [], (slice-vals x3, ((uint-vals w32) x4, tt))))) ∷ []) ∵
       split ! $ move ! (1 ∷ []) $ split ! $ move ! (1 ∷ []) $ split ! $ move ! (1 ∷ []) $ drop ! $ move ! (3 ∷ []) $ fsplit ! $ move ! (1 ∷ []) $ fsplit ! $ move ! (1 ∷ []) $ fsplit ! $ move ! (1 ∷ []) $ fsplit ! $ drop ! $ drop ! $
       enter ! C Λ code.function (vptr b1 o1 ∷ vptr b2 o2 ∷ only (slice-vals x3) ∷ only ((uint-vals w32) x4) ∷ []) Post $
-      alloc1 ! (λ l0. alloc1 ! (λ l1. alloc1 ! (λ l2. alloc1 ! (λ l3. alloc1 ! (λ l4. alloc1 ! (λ l5. alloc1 ! (λ l6. alloc0 ! $ params1 ! $ pass1 ! (init ! 10 refl (tt, tt)) $ pass1 ! (init ! 8 refl (tt, tt)) $ pass1 ! (init ! 6 refl (shr-slice-lawful 𝓤 H A W (named 2) κ2 u8 .typed x3 _ is3 .0)) $ pass1 ! (init ! 4 refl (uint-lawful 𝓤 H A W w32 .typed x4 _ is4 .0)) $ pass0 ! $
-      move ! (16 ∷ []) $ fsplit3 ! $ drop ! $ move ! (1 ∷ 20 ∷ []) $ looks ! tt T0.the-row (Is T0.the-row) (shows 𝓤 H A T0.the-row) (LL.vals T0.the-type T0′.the-laws) (LL.tells T0.the-type T0′.the-laws) (LL.copy T0.the-type T0′.the-copy 𝓤 H A W) h1 b1 o1 (λ sh1 vs1. spelt ! T0.the-row (Is T0.the-row) (shows 𝓤 H A T0.the-row) (LL.vals T0.the-type T0′.the-laws) (LL.tells T0.the-type T0′.the-laws) sh1 h1 vs1 b1 o1 $ move ! (1 ∷ []) $ peeks ! T0.the-row (Is T0.the-row) (shows 𝓤 H A T0.the-row) h1 ((LL.vals T0.the-type T0′.the-laws) h1) (λ was1. drop ! $
+      nothing ! $ alloc-in ! (λ l0. alloc-in ! (λ l1. alloc-in ! (λ l2. alloc-in ! (λ l3. alloc-in ! (λ l4. alloc-in ! (λ l5. alloc-in ! (λ l6. alloc0 ! $ params1 ! $ pass1 ! (init ! 6 refl (tt, tt)) $ pass1 ! (init ! 5 refl (tt, tt)) $ pass1 ! (init ! 4 refl (shr-slice-lawful 𝓤 H A W (named 2) κ2 u8 .typed x3 _ is3 .0)) $ pass1 ! (init ! 3 refl (uint-lawful 𝓤 H A W w32 .typed x4 _ is4 .0)) $ pass0 ! $
+      move ! (10 ∷ 13 ∷ []) $ looks-at ! tt T0.the-row (LL.vals T0.the-type T0′.the-laws) (LL.tells T0.the-type T0′.the-laws) (LL.copy T0.the-type T0′.the-copy 𝓤 H A W) h1 b1 o1 (λ sh1 was1.
       -- the cell behind `p` is at hand
-      assigns ! (of-opd ! (load ! (from ! (hop ! (look ! 14 refl) (stop !))) (look-raw ! 0 refl))) (from ! (stop !)) (init ! 6 {τ = T0′.mir} {v = only ((LL.vals T0.the-type T0′.the-laws) h1)} refl (LL.lawful T0.the-type T0′.the-laws 𝓤 H A W .typed h1 ((LL.vals T0.the-type T0′.the-laws) h1) was1 .0)) $
-      move ! (19 ∷ []) $ fsplit3 ! $ drop ! $ move ! (1 ∷ 22 ∷ []) $ looks ! tt T1.the-row (Is T1.the-row) (shows 𝓤 H A T1.the-row) (LL.vals T1.the-type T1′.the-laws) (LL.tells T1.the-type T1′.the-laws) (LL.copy T1.the-type T1′.the-copy 𝓤 H A W) h2 b2 o2 (λ sh2 vs2. spelt ! T1.the-row (Is T1.the-row) (shows 𝓤 H A T1.the-row) (LL.vals T1.the-type T1′.the-laws) (LL.tells T1.the-type T1′.the-laws) sh2 h2 vs2 b2 o2 $ move ! (1 ∷ []) $ peeks ! T1.the-row (Is T1.the-row) (shows 𝓤 H A T1.the-row) h2 ((LL.vals T1.the-type T1′.the-laws) h2) (λ was2. drop ! $
+      assigns ! (of-opd ! (load ! (from ! (hop ! (look ! 10 refl) (stop !))) (look-raw ! 0 refl))) (from ! (stop !)) (init ! 6 {τ = T0′.mir} {v = only ((LL.vals T0.the-type T0′.the-laws) h1)} refl (LL.lawful T0.the-type T0′.the-laws 𝓤 H A W .typed h1 ((LL.vals T0.the-type T0′.the-laws) h1) was1 .0)) $
+      move ! (13 ∷ 15 ∷ []) $ looks-at ! tt T1.the-row (LL.vals T1.the-type T1′.the-laws) (LL.tells T1.the-type T1′.the-laws) (LL.copy T1.the-type T1′.the-copy 𝓤 H A W) h2 b2 o2 (λ sh2 was2.
       -- the cell behind `t` is at hand
-      assigns ! (of-opd ! (load ! (from ! (hop ! (look ! 16 refl) (stop !))) (look-raw ! 0 refl))) (from ! (stop !)) (init ! 8 {τ = T1′.mir} {v = only ((LL.vals T1.the-type T1′.the-laws) h2)} refl (LL.lawful T1.the-type T1′.the-laws 𝓤 H A W .typed h2 ((LL.vals T1.the-type T1′.the-laws) h2) was2 .0)) $
+      assigns ! (of-opd ! (load ! (from ! (hop ! (look ! 13 refl) (stop !))) (look-raw ! 0 refl))) (from ! (stop !)) (init ! 9 {τ = T1′.mir} {v = only ((LL.vals T1.the-type T1′.the-laws) h2)} refl (LL.lawful T1.the-type T1′.the-laws 𝓤 H A W .typed h2 ((LL.vals T1.the-type T1′.the-laws) h2) was2 .0)) $
       -- `sender::piece`
-      move ! (22 ∷ []) $ use1 W (‵ ((ShrSlice (named 2) κ2 u8) .own x3 (slice-vals x3)) ⊛ ‵ ((ShrSlice (named 2) κ2 u8) .own x3 (slice-vals x3))) (shr-slice-copy 𝓤 H A W (named 2) κ2 u8 .twice x3 (slice-vals x3)) $ split ! $ nothing ! $ owned ! u32 (Is u32) (uint-makes 𝓤 H A W w32) x4 ((uint-vals w32) x4) is4 $ fjoin ! $ move ! (1 ∷ 0 ∷ []) $ fjoin ! $ owned ! T1.the-row (Is T1.the-row) (LL.makes T1.the-type T1′.the-plain 𝓤 H A) h2 ((LL.vals T1.the-type T1′.the-laws) h2) was2 $ fjoin ! $ owned ! T0.the-row (Is T0.the-row) (LL.makes T0.the-type T0′.the-plain 𝓤 H A) h1 ((LL.vals T0.the-type T0′.the-laws) h1) was1 $ fjoin ! $ nothing ! $ move ! (25 ∷ 0 ∷ []) $ join ! $ join ! $
+      move ! (16 ∷ []) $ use1 W (‵ ((ShrSlice (named 2) κ2 u8) .own x3 (slice-vals x3)) ⊛ ‵ ((ShrSlice (named 2) κ2 u8) .own x3 (slice-vals x3))) (shr-slice-copy 𝓤 H A W (named 2) κ2 u8 .twice x3 (slice-vals x3)) $ split ! $ nothing ! $ adds ! u32 (uint-makes 𝓤 H A W w32) x4 ((uint-vals w32) x4) is4 $ move ! (1 ∷ 0 ∷ []) $ fjoin ! $ adds ! T1.the-row (LL.makes T1.the-type T1′.the-plain 𝓤 H A) h2 ((LL.vals T1.the-type T1′.the-laws) h2) was2 $ adds ! T0.the-row (LL.makes T0.the-type T0′.the-plain 𝓤 H A) h1 ((LL.vals T0.the-type T0′.the-laws) h1) was1 $ nothing ! $ move ! (19 ∷ 0 ∷ []) $ join ! $ join ! $
       use1 W (raw (Callee-g0 𝓤 H A at-mem run .pre (((κ2, tt), (q2, tt), tt, (h1, (h2, (x3, (x4, tt)))), ((LL.vals T0.the-type T0′.the-laws) h1, ((LL.vals T1.the-type T1′.the-laws) h2, (slice-vals x3, ((uint-vals w32) x4, tt))))), tt))) (asks 𝓤 _) $
-      calls-at ! fm (Callee-g0 𝓤 H A at-mem run) known-g0 (((κ2, tt), (q2, tt), tt, (h1, (h2, (x3, (x4, tt)))), ((LL.vals T0.the-type T0′.the-laws) h1, ((LL.vals T1.the-type T1′.the-laws) h2, (slice-vals x3, ((uint-vals w32) x4, tt))))), tt) (and-then ! (load ! (from ! (stop !)) (look ! 12 {τ = T0′.mir} {v = only ((LL.vals T0.the-type T0′.the-laws) h1)} refl)) (and-then ! (load ! (from ! (stop !)) (look ! 10 {τ = T1′.mir} {v = only ((LL.vals T1.the-type T1′.the-laws) h2)} refl)) (and-then ! (load ! (from ! (stop !)) (look ! 16 refl)) (and-then ! (load ! (from ! (stop !)) (look ! 14 refl)) (no-more !))))) (λ v1.
+      calls-at ! fm (Callee-g0 𝓤 H A at-mem run) known-g0 (((κ2, tt), (q2, tt), tt, (h1, (h2, (x3, (x4, tt)))), ((LL.vals T0.the-type T0′.the-laws) h1, ((LL.vals T1.the-type T1′.the-laws) h2, (slice-vals x3, ((uint-vals w32) x4, tt))))), tt) (and-then ! (load ! (from ! (stop !)) (look ! 12 {τ = T0′.mir} {v = only ((LL.vals T0.the-type T0′.the-laws) h1)} refl)) (and-then ! (load ! (from ! (stop !)) (look ! 11 {τ = T1′.mir} {v = only ((LL.vals T1.the-type T1′.the-laws) h2)} refl)) (and-then ! (load ! (from ! (stop !)) (look ! 14 refl)) (and-then ! (load ! (from ! (stop !)) (look ! 13 refl)) (no-more !))))) (λ v1.
       use1 W (later (some (λ (r : RefT (List ℕ)). ((‵ (flft κ2 q2) ⊛ ‵ ftrue) ⊛ ‵ ((ShrSlice (named 0) κ2 u8) .own r (v1 ∷ []))) ⊛ raw (ensured 𝓤 H A g0.ended (g0.clauses 𝓤 H A at-mem run) (κ2, tt) (h1, (h2, (x3, (x4, tt)))) tt r)))) (id⊢ 𝓤 _) $ await ! tt $ pick ! (λ r1. split ! $ move ! (1 ∷ []) $
-      use1 W (some (λ (ws : Lasts g0.ended (κ2, tt) (h1, (h2, (x3, (x4, tt))))). ‵ (lasts g0.ended (κ2, tt) (h1, (h2, (x3, (x4, tt)))) ws) ⊛ raw (g0.clauses 𝓤 H A at-mem run (κ2, tt) (h1, (h2, (x3, (x4, tt)))) .ensures tt r1 (atExit g0.ended (κ2, tt) (h1, (h2, (x3, (x4, tt)))) ws)))) (id⊢ 𝓤 _) $ pick ! (λ ws1. split ! $ fsplit ! $ drop ! $ fsplit ! $ drop ! $ fsplit ! $ drop ! $ fsplit ! $ drop ! $ drop ! $ move ! (1 ∷ []) $ split ! $ split ! $ move ! (1 ∷ []) $ drop ! $ move ! (1 ∷ []) $ peeks ! (ShrSlice (named 0) κ2 u8) (Is (ShrSlice (named 0) κ2 u8)) (shows 𝓤 H A (ShrSlice (named 0) κ2 u8)) r1 (v1 ∷ []) (λ isv1.
-      land ! (from ! (stop !)) (init ! 24 refl (shr-slice-lawful 𝓤 H A W (named 0) κ2 u8 .typed r1 _ isv1 .0)) $
-      owned ! T0.the-row (Is T0.the-row) (LL.makes T0.the-type T0′.the-plain 𝓤 H A) h1 ((LL.vals T0.the-type T0′.the-laws) h1) was1 $ move ! (9 ∷ 0 ∷ 10 ∷ []) $ shuts ! tt T0.the-row sh1 h1 ((LL.vals T0.the-type T0′.the-laws) h1) b1 o1 $ move ! (10 ∷ 9 ∷ []) $ feqI ! (List Val) (vptr b1 o1 ∷ []) (vptr b1 o1 ∷ []) refl $ fjoin3 ! $
-      owned ! T1.the-row (Is T1.the-row) (LL.makes T1.the-type T1′.the-plain 𝓤 H A) h2 ((LL.vals T1.the-type T1′.the-laws) h2) was2 $ move ! (7 ∷ 0 ∷ 8 ∷ []) $ shuts ! tt T1.the-row sh2 h2 ((LL.vals T1.the-type T1′.the-laws) h2) b2 o2 $ move ! (8 ∷ 7 ∷ []) $ feqI ! (List Val) (vptr b2 o2 ∷ []) (vptr b2 o2 ∷ []) refl $ fjoin3 ! $
+      use1 W (some (λ (ws : Lasts g0.ended (κ2, tt) (h1, (h2, (x3, (x4, tt))))). ‵ (lasts g0.ended (κ2, tt) (h1, (h2, (x3, (x4, tt)))) ws) ⊛ raw (g0.clauses 𝓤 H A at-mem run (κ2, tt) (h1, (h2, (x3, (x4, tt)))) .ensures tt r1 (atExit g0.ended (κ2, tt) (h1, (h2, (x3, (x4, tt)))) ws)))) (id⊢ 𝓤 _) $ pick ! (λ ws1. split ! $ move ! (2 ∷ []) $ split ! $ head-of ! $ move ! (1 ∷ []) $ peeks ! (ShrSlice (named 0) κ2 u8) (Is (ShrSlice (named 0) κ2 u8)) (shows 𝓤 H A (ShrSlice (named 0) κ2 u8)) r1 (v1 ∷ []) (λ isv1. move ! (2 ∷ []) $ drop ! $
+      land ! (from ! (stop !)) (init ! 19 refl (shr-slice-lawful 𝓤 H A W (named 0) κ2 u8 .typed r1 _ isv1 .0)) $
+      move ! (8 ∷ 9 ∷ 10 ∷ 11 ∷ []) $ shuts-at ! tt T0.the-row (LL.makes T0.the-type T0′.the-plain 𝓤 H A) sh1 h1 ((LL.vals T0.the-type T0′.the-laws) h1) was1 b1 o1 $
+      move ! (6 ∷ 7 ∷ 8 ∷ 9 ∷ []) $ shuts-at ! tt T1.the-row (LL.makes T1.the-type T1′.the-plain 𝓤 H A) sh2 h2 ((LL.vals T1.the-type T1′.the-laws) h2) was2 b2 o2 $
       -- the locals are freed
-      returns ! (look ! 20 refl) $ forget ! 20 refl $ forget ! 18 refl $ forget ! 16 refl $ forget ! 14 refl $ forget ! 12 refl $ forget ! 10 {τ = T0′.mir} {v = only ((LL.vals T0.the-type T0′.the-laws) h1)} refl $ forget ! 8 {τ = T1′.mir} {v = only ((LL.vals T1.the-type T1′.the-laws) h2)} refl $
-      move ! (20 ∷ 21 ∷ []) $ free1 ! $ move ! (18 ∷ 19 ∷ []) $ free1 ! $ move ! (16 ∷ 17 ∷ []) $ free1 ! $ move ! (14 ∷ 15 ∷ []) $ free1 ! $ move ! (12 ∷ 13 ∷ []) $ free1 ! $ move ! (10 ∷ 11 ∷ []) $ free1 ! $ move ! (8 ∷ 9 ∷ []) $ free1 ! $ free0 ! $
+      returns ! (look ! 15 refl) $ forget ! 15 refl $ forget ! 14 refl $ forget ! 13 refl $ forget ! 12 refl $ forget ! 11 refl $ forget ! 10 {τ = T0′.mir} {v = only ((LL.vals T0.the-type T0′.the-laws) h1)} refl $ forget ! 9 {τ = T1′.mir} {v = only ((LL.vals T1.the-type T1′.the-laws) h2)} refl $
+      move ! (8 ∷ []) $ of-two ! $ of-two ! $ of-two ! $ of-two ! $ of-two ! $ of-two ! $ of-two ! $ drop ! $ move ! (21 ∷ 0 ∷ []) $ free1 ! $ move ! (19 ∷ 0 ∷ []) $ free1 ! $ move ! (17 ∷ 0 ∷ []) $ free1 ! $ move ! (15 ∷ 0 ∷ []) $ free1 ! $ move ! (13 ∷ 0 ∷ []) $ free1 ! $ move ! (11 ∷ 0 ∷ []) $ free1 ! $ move ! (9 ∷ 0 ∷ []) $ free1 ! $ free0 ! $
       -- the exit
-      suffices ! _ (ends-at 𝓤 H A f.ended stayed (f.clauses 𝓤 H A at-mem run) W to-f v1 r1 (tt, (tt, (tt, (tt, tt)))) (tt, (tt, (tt, (tt, tt))))) $ nothing ! $ nothing ! $ fjoin ! $ nothing ! $ fjoin ! $ nothing ! $ fjoin ! $ nothing ! $ fjoin ! $ nothing ! $ move ! (7 ∷ 0 ∷ []) $ join ! $ move ! (3 ∷ 0 ∷ []) $ join ! $ move ! (4 ∷ 0 ∷ []) $ join ! $ move ! (1 ∷ 4 ∷ []) $ join ! $ move ! (1 ∷ 0 ∷ []) $ join ! $ keep ! (0 ∷ 3 ∷ []) $ frame ! $ done !)))))))))))))))
+      suffices ! _ (ends-at 𝓤 H A f.ended stayed (f.clauses 𝓤 H A at-mem run) W to-f v1 r1 (tt, (tt, (tt, (tt, tt)))) (tt, (tt, (tt, (tt, tt))))) $ nothing ! $ nothing ! $ fjoin ! $ nothing ! $ fjoin ! $ nothing ! $ fjoin ! $ nothing ! $ fjoin ! $ nothing ! $ move ! (7 ∷ 0 ∷ []) $ join ! $ move ! (3 ∷ 0 ∷ []) $ join ! $ move ! (4 ∷ 0 ∷ []) $ join ! $ move ! (1 ∷ 4 ∷ []) $ join ! $ move ! (1 ∷ 0 ∷ []) $ join ! $ keep ! (0 ∷ 3 ∷ []) $ frame ! $ done !)))))))))))))
 
 module _ {M : Type 1} (𝓤 : URA M) (H : Heap 𝓤) (A : Atoms 𝓤) (W : Given 𝓤 H A) (at-mem : Memory → SProp 𝓤) (run : Routine → Fun 𝓤) where
   f-walks : (𝓣 : Tables 𝓤 H) → Triple 𝓤 (𝓣 .C #g0) (Callee-g0 𝓤 H A at-mem run) → Walks 𝓤 H A f.ended stayed (WpFn 𝓤 H (𝓣 .C) (𝓣 .Λ) code.function) (f.clauses 𝓤 H A at-mem run)

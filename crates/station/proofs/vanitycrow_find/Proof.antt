@@ -1,24 +1,25 @@
 -- `station::vanitycrow_find` meets its contract: a walk of its MIR, printed by tools/walk.py station vanitycrow_find
-use Rattle.ref_laws.proofs.Kit.{AllGo, Atoms, Calls, Contract, FmC, Fun, GName, Given, Heap, Is, Lasts, Lft, List, Loops, Meets, Memory, RefT, Routine, SProp, Share, ShrRef, ShrSlice, Stays, Tables, Triple, URA, Val, Walks, WpFn, WpFn-mono, alloc0, alloc1}
-use Rattle.ref_laws.proofs.Kit.{and-then, ap, assigns, atExit, await, calls-at, cited, done, drop, emp, ends-at, ensured, ent, enter, entered, fat, feqI, fjoin, fjoin3, flft, fmOf, forget, frame, free0, free1, from, fsplit, fsplit3, fst∗, ftrue, fullShare, givenOf}
-use Rattle.ref_laws.proofs.Kit.{hop, id⊢, init, join, keep, land, lasts, later, load, look, look-raw, looks, move, named, no-more, nothing, of-opd, onEntry, only, owned, owns, params1, pass0, pass1, peeks, pick, plain, ptr-vals, qed, raw, refl, returns, rewrite}
-use Rattle.ref_laws.proofs.Kit.{shows, shr-slice-copy, shr-slice-lawful, shr-slice-tells, shr-tells, shrRefTo, shrSlice, shuts, slice-vals, some, spelt, split, stop, subst, suffices, tables, tablesOf, tripleOf, u32, u8, uint-lawful, uint-makes, uint-tells}
-use Rattle.ref_laws.proofs.Kit.{uint-vals, use1, via, vptr, w32, walk-meets, walkOf, walked, ℕ, !, [], _$_, _∵_, _∷_, _⊛_, ‵}
+use Rattle.ref_laws.proofs.Kit.{AllGo, Atoms, Calls, Contract, FmC, Fun, GName, Given, Heap, Is, Lasts, Lft, List, Loops, Meets, Memory, RefT, Routine, SProp, Share, ShrRef, ShrSlice, Stays, Tables, Triple, URA, Val, Walks, WpFn, WpFn-mono, alloc0, and-then, ap}
+use Rattle.ref_laws.proofs.Kit.{assigns, atExit, await, calls-at, cited, done, drop, emp, ends-at, ensured, ent, enter, entered, facts, fat, fjoin, flft, fmOf, forget, frame, free0, free1, from, fsplit, fst∗, ftrue, fullShare, givenOf, hop, id⊢, init, join, keep}
+use Rattle.ref_laws.proofs.Kit.{land, lasts, later, load, look, look-raw, move, named, no-more, nothing, of-opd, onEntry, only, owned, owns, params1, pass0, pass1, pick, plain, ptr-vals, qed, raw, refl, returns, rewrite, shows, shr-slice-copy, shr-slice-lawful}
+use Rattle.ref_laws.proofs.Kit.{shr-slice-tells, shr-tells, shrRefTo, shrSlice, slice-vals, some, split, stop, subst, suffices, tables, tablesOf, tripleOf, u32, u8, uint-lawful, uint-makes, uint-tells, uint-vals, use1, via, vptr, w32, walk-meets, walkOf, walked, ℕ}
+use Rattle.ref_laws.proofs.Kit.{ !, [], _$_, _∵_, _∷_, _⊛_, ‵}
 use denote.Struct.Laws as LL
 use Rattle.ref_laws.proofs.Left.{asks, goes-left, stay-left}
+use Rattle.ref_laws.proofs.Steps.{adds, alloc-in, head-of, looks-at, of-two, shuts-at}
 use Rattle.config.specs.declared.Profile.{Profile}
 use Rattle.config.proofs.Profile as T0
 use Rattle.config.proofs.Profile.Laws as T0′
 use Rattle.queuing.specs.declared.Station.{Station}
 use Rattle.queuing.proofs.Station as T1
 use Rattle.queuing.proofs.Station.Laws as T1′
-use Rattle.numbered.specs.declared.Place.{Place}
-use Rattle.numbered.proofs.Place as T2
-use Rattle.numbered.proofs.Place.Laws as T2′
-use Rattle.numbered.proofs.find as g0
-use Rattle.numbered.proofs.find.Symbol as g0-def
-use Rattle.numbered.proofs.find.Symbol.{name as #g0}
-use Rattle.numbered.proofs.find.Met as g0-thm
+use Rattle.sender.specs.declared.Place.{Place}
+use Rattle.sender.proofs.Place as T2
+use Rattle.sender.proofs.Place.Laws as T2′
+use Rattle.sender.proofs.find as g0
+use Rattle.sender.proofs.find.Symbol as g0-def
+use Rattle.sender.proofs.find.Symbol.{name as #g0}
+use Rattle.sender.proofs.find.Met as g0-thm
 use Rattle.station.proofs.vanitycrow_find.Key.{name as #f}
 use Rattle.station.proofs.vanitycrow_find as f
 use Rattle.station.proofs.vanitycrow_find.Statement as stated
@@ -52,27 +53,27 @@ module _ {M : Type 1} (𝓤 : URA M) (H : Heap 𝓤) (A : Atoms 𝓤) (W : Given
       qed W ((‵ (flft κ0 q0) ⊛ (‵ (flft κ1 q1) ⊛ (‵ (flft κ2 q2) ⊛ ‵ ftrue))) ∷ ‵ (owns (ShrRef (named 0) κ0 T0.the-row ∷ ShrRef (named 1) κ1 T1.the-row ∷ ShrSlice (named 2) κ2 u8 ∷ u32 ∷ []) (record { ptr = (b1, o1); name = γ1; now = h1 }, (record { ptr = (b2, o2); name = γ2; now = h2 }, (x3, (x4, tt)))) (vptr b1 o1 ∷ [], (vptr b2 o2 ∷ [], (slice-vals x3, ((uint-vals w32) x4, tt))))) ∷ []) ∵
       split ! $ move ! (1 ∷ []) $ split ! $ move ! (1 ∷ []) $ split ! $ move ! (1 ∷ []) $ drop ! $ move ! (3 ∷ []) $ fsplit ! $ move ! (1 ∷ []) $ fsplit ! $ move ! (1 ∷ []) $ fsplit ! $ move ! (1 ∷ []) $ fsplit ! $ drop ! $ drop ! $
       enter ! C Λ code.function (vptr b1 o1 ∷ vptr b2 o2 ∷ only (slice-vals x3) ∷ only ((uint-vals w32) x4) ∷ []) Post $
-      alloc1 ! (λ l0. alloc1 ! (λ l1. alloc1 ! (λ l2. alloc1 ! (λ l3. alloc1 ! (λ l4. alloc1 ! (λ l5. alloc1 ! (λ l6. alloc0 ! $ params1 ! $ pass1 ! (init ! 10 refl (tt, tt)) $ pass1 ! (init ! 8 refl (tt, tt)) $ pass1 ! (init ! 6 refl (shr-slice-lawful 𝓤 H A W (named 2) κ2 u8 .typed x3 _ is3 .0)) $ pass1 ! (init ! 4 refl (uint-lawful 𝓤 H A W w32 .typed x4 _ is4 .0)) $ pass0 ! $
-      move ! (16 ∷ []) $ fsplit3 ! $ drop ! $ move ! (1 ∷ 20 ∷ []) $ looks ! tt T0.the-row (Is T0.the-row) (shows 𝓤 H A T0.the-row) (LL.vals T0.the-type T0′.the-laws) (LL.tells T0.the-type T0′.the-laws) (LL.copy T0.the-type T0′.the-copy 𝓤 H A W) h1 b1 o1 (λ sh1 vs1. spelt ! T0.the-row (Is T0.the-row) (shows 𝓤 H A T0.the-row) (LL.vals T0.the-type T0′.the-laws) (LL.tells T0.the-type T0′.the-laws) sh1 h1 vs1 b1 o1 $ move ! (1 ∷ []) $ peeks ! T0.the-row (Is T0.the-row) (shows 𝓤 H A T0.the-row) h1 ((LL.vals T0.the-type T0′.the-laws) h1) (λ was1. drop ! $
+      nothing ! $ alloc-in ! (λ l0. alloc-in ! (λ l1. alloc-in ! (λ l2. alloc-in ! (λ l3. alloc-in ! (λ l4. alloc-in ! (λ l5. alloc-in ! (λ l6. alloc0 ! $ params1 ! $ pass1 ! (init ! 6 refl (tt, tt)) $ pass1 ! (init ! 5 refl (tt, tt)) $ pass1 ! (init ! 4 refl (shr-slice-lawful 𝓤 H A W (named 2) κ2 u8 .typed x3 _ is3 .0)) $ pass1 ! (init ! 3 refl (uint-lawful 𝓤 H A W w32 .typed x4 _ is4 .0)) $ pass0 ! $
+      move ! (10 ∷ 13 ∷ []) $ looks-at ! tt T0.the-row (LL.vals T0.the-type T0′.the-laws) (LL.tells T0.the-type T0′.the-laws) (LL.copy T0.the-type T0′.the-copy 𝓤 H A W) h1 b1 o1 (λ sh1 was1.
       -- the cell behind `p` is at hand
-      assigns ! (of-opd ! (load ! (from ! (hop ! (look ! 14 refl) (stop !))) (look-raw ! 0 refl))) (from ! (stop !)) (init ! 6 {τ = T0′.mir} {v = only ((LL.vals T0.the-type T0′.the-laws) h1)} refl (LL.lawful T0.the-type T0′.the-laws 𝓤 H A W .typed h1 ((LL.vals T0.the-type T0′.the-laws) h1) was1 .0)) $
-      move ! (19 ∷ []) $ fsplit3 ! $ drop ! $ move ! (1 ∷ 22 ∷ []) $ looks ! tt T1.the-row (Is T1.the-row) (shows 𝓤 H A T1.the-row) (LL.vals T1.the-type T1′.the-laws) (LL.tells T1.the-type T1′.the-laws) (LL.copy T1.the-type T1′.the-copy 𝓤 H A W) h2 b2 o2 (λ sh2 vs2. spelt ! T1.the-row (Is T1.the-row) (shows 𝓤 H A T1.the-row) (LL.vals T1.the-type T1′.the-laws) (LL.tells T1.the-type T1′.the-laws) sh2 h2 vs2 b2 o2 $ move ! (1 ∷ []) $ peeks ! T1.the-row (Is T1.the-row) (shows 𝓤 H A T1.the-row) h2 ((LL.vals T1.the-type T1′.the-laws) h2) (λ was2. drop ! $
+      assigns ! (of-opd ! (load ! (from ! (hop ! (look ! 10 refl) (stop !))) (look-raw ! 0 refl))) (from ! (stop !)) (init ! 6 {τ = T0′.mir} {v = only ((LL.vals T0.the-type T0′.the-laws) h1)} refl (LL.lawful T0.the-type T0′.the-laws 𝓤 H A W .typed h1 ((LL.vals T0.the-type T0′.the-laws) h1) was1 .0)) $
+      move ! (13 ∷ 15 ∷ []) $ looks-at ! tt T1.the-row (LL.vals T1.the-type T1′.the-laws) (LL.tells T1.the-type T1′.the-laws) (LL.copy T1.the-type T1′.the-copy 𝓤 H A W) h2 b2 o2 (λ sh2 was2.
       -- the cell behind `t` is at hand
-      assigns ! (of-opd ! (load ! (from ! (hop ! (look ! 16 refl) (stop !))) (look-raw ! 0 refl))) (from ! (stop !)) (init ! 8 {τ = T1′.mir} {v = only ((LL.vals T1.the-type T1′.the-laws) h2)} refl (LL.lawful T1.the-type T1′.the-laws 𝓤 H A W .typed h2 ((LL.vals T1.the-type T1′.the-laws) h2) was2 .0)) $
-      -- `numbered::find`
-      move ! (22 ∷ []) $ use1 W (‵ ((ShrSlice (named 2) κ2 u8) .own x3 (slice-vals x3)) ⊛ ‵ ((ShrSlice (named 2) κ2 u8) .own x3 (slice-vals x3))) (shr-slice-copy 𝓤 H A W (named 2) κ2 u8 .twice x3 (slice-vals x3)) $ split ! $ nothing ! $ owned ! u32 (Is u32) (uint-makes 𝓤 H A W w32) x4 ((uint-vals w32) x4) is4 $ fjoin ! $ move ! (1 ∷ 0 ∷ []) $ fjoin ! $ owned ! T1.the-row (Is T1.the-row) (LL.makes T1.the-type T1′.the-plain 𝓤 H A) h2 ((LL.vals T1.the-type T1′.the-laws) h2) was2 $ fjoin ! $ owned ! T0.the-row (Is T0.the-row) (LL.makes T0.the-type T0′.the-plain 𝓤 H A) h1 ((LL.vals T0.the-type T0′.the-laws) h1) was1 $ fjoin ! $ nothing ! $ move ! (25 ∷ 0 ∷ []) $ join ! $ join ! $
+      assigns ! (of-opd ! (load ! (from ! (hop ! (look ! 13 refl) (stop !))) (look-raw ! 0 refl))) (from ! (stop !)) (init ! 9 {τ = T1′.mir} {v = only ((LL.vals T1.the-type T1′.the-laws) h2)} refl (LL.lawful T1.the-type T1′.the-laws 𝓤 H A W .typed h2 ((LL.vals T1.the-type T1′.the-laws) h2) was2 .0)) $
+      -- `sender::find`
+      move ! (16 ∷ []) $ use1 W (‵ ((ShrSlice (named 2) κ2 u8) .own x3 (slice-vals x3)) ⊛ ‵ ((ShrSlice (named 2) κ2 u8) .own x3 (slice-vals x3))) (shr-slice-copy 𝓤 H A W (named 2) κ2 u8 .twice x3 (slice-vals x3)) $ split ! $ nothing ! $ adds ! u32 (uint-makes 𝓤 H A W w32) x4 ((uint-vals w32) x4) is4 $ move ! (1 ∷ 0 ∷ []) $ fjoin ! $ adds ! T1.the-row (LL.makes T1.the-type T1′.the-plain 𝓤 H A) h2 ((LL.vals T1.the-type T1′.the-laws) h2) was2 $ adds ! T0.the-row (LL.makes T0.the-type T0′.the-plain 𝓤 H A) h1 ((LL.vals T0.the-type T0′.the-laws) h1) was1 $ nothing ! $ move ! (19 ∷ 0 ∷ []) $ join ! $ join ! $
       use1 W (raw (Callee-g0 𝓤 H A at-mem run .pre (((κ2, tt), (q2, tt), tt, (h1, (h2, (x3, (x4, tt)))), ((LL.vals T0.the-type T0′.the-laws) h1, ((LL.vals T1.the-type T1′.the-laws) h2, (slice-vals x3, ((uint-vals w32) x4, tt))))), tt))) (asks 𝓤 _) $
-      calls-at ! fm (Callee-g0 𝓤 H A at-mem run) known-g0 (((κ2, tt), (q2, tt), tt, (h1, (h2, (x3, (x4, tt)))), ((LL.vals T0.the-type T0′.the-laws) h1, ((LL.vals T1.the-type T1′.the-laws) h2, (slice-vals x3, ((uint-vals w32) x4, tt))))), tt) (and-then ! (load ! (from ! (stop !)) (look ! 12 {τ = T0′.mir} {v = only ((LL.vals T0.the-type T0′.the-laws) h1)} refl)) (and-then ! (load ! (from ! (stop !)) (look ! 10 {τ = T1′.mir} {v = only ((LL.vals T1.the-type T1′.the-laws) h2)} refl)) (and-then ! (load ! (from ! (stop !)) (look ! 16 refl)) (and-then ! (load ! (from ! (stop !)) (look ! 14 refl)) (no-more !))))) (λ v1.
+      calls-at ! fm (Callee-g0 𝓤 H A at-mem run) known-g0 (((κ2, tt), (q2, tt), tt, (h1, (h2, (x3, (x4, tt)))), ((LL.vals T0.the-type T0′.the-laws) h1, ((LL.vals T1.the-type T1′.the-laws) h2, (slice-vals x3, ((uint-vals w32) x4, tt))))), tt) (and-then ! (load ! (from ! (stop !)) (look ! 12 {τ = T0′.mir} {v = only ((LL.vals T0.the-type T0′.the-laws) h1)} refl)) (and-then ! (load ! (from ! (stop !)) (look ! 11 {τ = T1′.mir} {v = only ((LL.vals T1.the-type T1′.the-laws) h2)} refl)) (and-then ! (load ! (from ! (stop !)) (look ! 14 refl)) (and-then ! (load ! (from ! (stop !)) (look ! 13 refl)) (no-more !))))) (λ v1.
       use1 W (later (some (λ (r : Place). ((‵ (flft κ2 q2) ⊛ ‵ ftrue) ⊛ ‵ (T2.the-row .own r (v1 ∷ []))) ⊛ raw (ensured 𝓤 H A g0.ended (g0.clauses 𝓤 H A at-mem run) (κ2, tt) (h1, (h2, (x3, (x4, tt)))) tt r)))) (id⊢ 𝓤 _) $ await ! tt $ pick ! (λ r1. split ! $ move ! (1 ∷ []) $
-      use1 W (some (λ (ws : Lasts g0.ended (κ2, tt) (h1, (h2, (x3, (x4, tt))))). ‵ (lasts g0.ended (κ2, tt) (h1, (h2, (x3, (x4, tt)))) ws) ⊛ raw (g0.clauses 𝓤 H A at-mem run (κ2, tt) (h1, (h2, (x3, (x4, tt)))) .ensures tt r1 (atExit g0.ended (κ2, tt) (h1, (h2, (x3, (x4, tt)))) ws)))) (id⊢ 𝓤 _) $ pick ! (λ ws1. split ! $ fsplit ! $ drop ! $ fsplit ! $ drop ! $ fsplit ! $ drop ! $ fsplit ! $ drop ! $ drop ! $ move ! (1 ∷ []) $ split ! $ split ! $ move ! (1 ∷ []) $ drop ! $ move ! (1 ∷ []) $ peeks ! T2.the-row (Is T2.the-row) (shows 𝓤 H A T2.the-row) r1 (v1 ∷ []) (λ isv1. drop ! $
-      land ! (from ! (stop !)) (init ! 23 {τ = T2′.mir} {v = v1} refl (LL.lawful T2.the-type T2′.the-laws 𝓤 H A W .typed r1 (v1 ∷ []) isv1 .0)) $ rewrite ! 23 (λ (u : Val). ‵ (fat fullShare T2′.mir l0 0 u)) (ap only ((LL.tells T2.the-type T2′.the-laws) r1 _ isv1)) refl $
-      owned ! T0.the-row (Is T0.the-row) (LL.makes T0.the-type T0′.the-plain 𝓤 H A) h1 ((LL.vals T0.the-type T0′.the-laws) h1) was1 $ move ! (8 ∷ 0 ∷ 9 ∷ []) $ shuts ! tt T0.the-row sh1 h1 ((LL.vals T0.the-type T0′.the-laws) h1) b1 o1 $ move ! (9 ∷ 8 ∷ []) $ feqI ! (List Val) (vptr b1 o1 ∷ []) (vptr b1 o1 ∷ []) refl $ fjoin3 ! $
-      owned ! T1.the-row (Is T1.the-row) (LL.makes T1.the-type T1′.the-plain 𝓤 H A) h2 ((LL.vals T1.the-type T1′.the-laws) h2) was2 $ move ! (6 ∷ 0 ∷ 7 ∷ []) $ shuts ! tt T1.the-row sh2 h2 ((LL.vals T1.the-type T1′.the-laws) h2) b2 o2 $ move ! (7 ∷ 6 ∷ []) $ feqI ! (List Val) (vptr b2 o2 ∷ []) (vptr b2 o2 ∷ []) refl $ fjoin3 ! $
+      use1 W (some (λ (ws : Lasts g0.ended (κ2, tt) (h1, (h2, (x3, (x4, tt))))). ‵ (lasts g0.ended (κ2, tt) (h1, (h2, (x3, (x4, tt)))) ws) ⊛ raw (g0.clauses 𝓤 H A at-mem run (κ2, tt) (h1, (h2, (x3, (x4, tt)))) .ensures tt r1 (atExit g0.ended (κ2, tt) (h1, (h2, (x3, (x4, tt)))) ws)))) (id⊢ 𝓤 _) $ pick ! (λ ws1. split ! $ move ! (2 ∷ []) $ split ! $ head-of ! $ move ! (1 ∷ []) $ facts ! T2.the-row (Is T2.the-row) (shows 𝓤 H A T2.the-row) r1 (v1 ∷ []) (λ isv1. move ! (1 ∷ []) $ drop ! $
+      land ! (from ! (stop !)) (init ! 18 {τ = T2′.mir} {v = v1} refl (LL.lawful T2.the-type T2′.the-laws 𝓤 H A W .typed r1 (v1 ∷ []) isv1 .0)) $ rewrite ! 18 (λ (u : Val). ‵ (fat fullShare T2′.mir l0 0 u)) (ap only ((LL.tells T2.the-type T2′.the-laws) r1 _ isv1)) refl $
+      move ! (7 ∷ 8 ∷ 9 ∷ 10 ∷ []) $ shuts-at ! tt T0.the-row (LL.makes T0.the-type T0′.the-plain 𝓤 H A) sh1 h1 ((LL.vals T0.the-type T0′.the-laws) h1) was1 b1 o1 $
+      move ! (5 ∷ 6 ∷ 7 ∷ 8 ∷ []) $ shuts-at ! tt T1.the-row (LL.makes T1.the-type T1′.the-plain 𝓤 H A) sh2 h2 ((LL.vals T1.the-type T1′.the-laws) h2) was2 b2 o2 $
       -- the locals are freed
-      returns ! (look ! 19 {τ = T2′.mir} {v = only ((LL.vals T2.the-type T2′.the-laws) r1)} refl) $ forget ! 19 {τ = T2′.mir} {v = only ((LL.vals T2.the-type T2′.the-laws) r1)} refl $ forget ! 17 refl $ forget ! 15 refl $ forget ! 13 refl $ forget ! 11 refl $ forget ! 9 {τ = T0′.mir} {v = only ((LL.vals T0.the-type T0′.the-laws) h1)} refl $ forget ! 7 {τ = T1′.mir} {v = only ((LL.vals T1.the-type T1′.the-laws) h2)} refl $
-      move ! (19 ∷ 20 ∷ []) $ free1 ! $ move ! (17 ∷ 18 ∷ []) $ free1 ! $ move ! (15 ∷ 16 ∷ []) $ free1 ! $ move ! (13 ∷ 14 ∷ []) $ free1 ! $ move ! (11 ∷ 12 ∷ []) $ free1 ! $ move ! (9 ∷ 10 ∷ []) $ free1 ! $ move ! (7 ∷ 8 ∷ []) $ free1 ! $ free0 ! $
+      returns ! (look ! 14 {τ = T2′.mir} {v = only ((LL.vals T2.the-type T2′.the-laws) r1)} refl) $ forget ! 14 {τ = T2′.mir} {v = only ((LL.vals T2.the-type T2′.the-laws) r1)} refl $ forget ! 13 refl $ forget ! 12 refl $ forget ! 11 refl $ forget ! 10 refl $ forget ! 9 {τ = T0′.mir} {v = only ((LL.vals T0.the-type T0′.the-laws) h1)} refl $ forget ! 8 {τ = T1′.mir} {v = only ((LL.vals T1.the-type T1′.the-laws) h2)} refl $
+      move ! (7 ∷ []) $ of-two ! $ of-two ! $ of-two ! $ of-two ! $ of-two ! $ of-two ! $ of-two ! $ drop ! $ move ! (20 ∷ 0 ∷ []) $ free1 ! $ move ! (18 ∷ 0 ∷ []) $ free1 ! $ move ! (16 ∷ 0 ∷ []) $ free1 ! $ move ! (14 ∷ 0 ∷ []) $ free1 ! $ move ! (12 ∷ 0 ∷ []) $ free1 ! $ move ! (10 ∷ 0 ∷ []) $ free1 ! $ move ! (8 ∷ 0 ∷ []) $ free1 ! $ free0 ! $
       -- the exit
-      suffices ! _ (ends-at 𝓤 H A f.ended stayed (f.clauses 𝓤 H A at-mem run) W to-f (only ((LL.vals T2.the-type T2′.the-laws) r1)) r1 (tt, (tt, (tt, (tt, tt)))) (tt, (tt, (tt, (tt, tt))))) $ owned ! T2.the-row (Is T2.the-row) (LL.makes T2.the-type T2′.the-plain 𝓤 H A) r1 ((LL.vals T2.the-type T2′.the-laws) r1) (subst (Is T2.the-row r1) ((LL.tells T2.the-type T2′.the-laws) r1 _ isv1) isv1) $ nothing ! $ nothing ! $ fjoin ! $ nothing ! $ fjoin ! $ nothing ! $ fjoin ! $ nothing ! $ fjoin ! $ nothing ! $ move ! (7 ∷ 0 ∷ []) $ join ! $ move ! (4 ∷ 0 ∷ []) $ join ! $ move ! (5 ∷ 0 ∷ []) $ join ! $ move ! (1 ∷ 2 ∷ []) $ join ! $ move ! (1 ∷ 0 ∷ []) $ join ! $ keep ! (0 ∷ 3 ∷ []) $ frame ! $ done !)))))))))))))))
+      suffices ! _ (ends-at 𝓤 H A f.ended stayed (f.clauses 𝓤 H A at-mem run) W to-f (only ((LL.vals T2.the-type T2′.the-laws) r1)) r1 (tt, (tt, (tt, (tt, tt)))) (tt, (tt, (tt, (tt, tt))))) $ owned ! T2.the-row (Is T2.the-row) (LL.makes T2.the-type T2′.the-plain 𝓤 H A) r1 ((LL.vals T2.the-type T2′.the-laws) r1) (subst (Is T2.the-row r1) ((LL.tells T2.the-type T2′.the-laws) r1 _ isv1) isv1) $ nothing ! $ nothing ! $ fjoin ! $ nothing ! $ fjoin ! $ nothing ! $ fjoin ! $ nothing ! $ fjoin ! $ nothing ! $ move ! (7 ∷ 0 ∷ []) $ join ! $ move ! (4 ∷ 0 ∷ []) $ join ! $ move ! (5 ∷ 0 ∷ []) $ join ! $ move ! (1 ∷ 2 ∷ []) $ join ! $ move ! (1 ∷ 0 ∷ []) $ join ! $ keep ! (0 ∷ 3 ∷ []) $ frame ! $ done !)))))))))))))
 
 module _ {M : Type 1} (𝓤 : URA M) (H : Heap 𝓤) (A : Atoms 𝓤) (W : Given 𝓤 H A) (at-mem : Memory → SProp 𝓤) (run : Routine → Fun 𝓤) where
   f-walks : (𝓣 : Tables 𝓤 H) → Triple 𝓤 (𝓣 .C #g0) (Callee-g0 𝓤 H A at-mem run) → Walks 𝓤 H A f.ended stayed (WpFn 𝓤 H (𝓣 .C) (𝓣 .Λ) code.function) (f.clauses 𝓤 H A at-mem run)
@@ -91,4 +92,4 @@ vanitycrow-find-spec 𝓤 H 𝓜 𝓖 𝓡 =
     entered 𝓤 H (tripleOf 𝓤 H (𝓖 .A) f.signature (f.spec 𝓤 H (𝓖 .A) (𝓜 .mem) (𝓡 .run)))
     (tables 𝓤 H 𝓜 𝓡 code.env .C) (tables 𝓤 H 𝓜 𝓡 code.env .Λ) #f code.function (code.unfolded 𝓤 H 𝓜 𝓡)
     (f-meets 𝓤 H (𝓖 .A) (givenOf 𝓤 H 𝓜 𝓖) (𝓜 .mem) (𝓡 .run) (tablesOf 𝓤 H 𝓜 (tables 𝓤 H 𝓜 𝓡 code.env))
-    (cited 𝓤 H (Callee-g0 𝓤 H (𝓖 .A) (𝓜 .mem) (𝓡 .run)) 𝓜 𝓡 code.env #g0 g0-def.routine code.calls-numbered·find (g0-thm.met 𝓤 H 𝓜 𝓖 𝓡)))
+    (cited 𝓤 H (Callee-g0 𝓤 H (𝓖 .A) (𝓜 .mem) (𝓡 .run)) 𝓜 𝓡 code.env #g0 g0-def.routine code.calls-sender·find (g0-thm.met 𝓤 H 𝓜 𝓖 𝓡)))

@@ -1,10 +1,11 @@
 -- `station::vanitycrow_fresh_receiver` meets its contract: a walk of its MIR, printed by tools/walk.py station vanitycrow_fresh_receiver
-use Rattle.ref_laws.proofs.Kit.{AllGo, Atoms, Calls, Contract, FmC, Fun, GName, Given, Heap, Is, Lasts, Lft, List, Loops, Meets, Memory, MutRef, Routine, SProp, Share, Stays, Tables, Triple, URA, Val, Walks, WpFn, WpFn-mono, alloc0, alloc1, ap, assigns, atExit}
-use Rattle.ref_laws.proofs.Kit.{await, calls-at, cited, closes, done, drop, emp, ends-at, ensured, ent, enter, entered, fat, feqI, fjoin, fjoin3, flft, fmOf, forget, frame, free0, free1, from, fsplit, fsplit3, fst∗, ftrue, fullShare, givenOf, goes-ref, hop, id⊢}
-use Rattle.ref_laws.proofs.Kit.{init, join, keep, land, lasts, later, load, look, move, mut-tells, named, no-more, nothing, nothing-lawful, nothing-makes, nothing-vals, of-opd, onEntry, only, opens, owned, owns, params1, pass0, pass1, peeks, pick, plain, ptr-vals}
-use Rattle.ref_laws.proofs.Kit.{qed, raw, refl, returns, rewrite, shows, some, spelt, split, stay-ref, stop, store-raw, subst, suffices, tables, tablesOf, tripleOf, unit, unit-lit, use1, via, vptr, walk-meets, walkOf, walked, ℕ, !, [], _$_, _∵_, _∷_, _⊛_, ‵}
+use Rattle.ref_laws.proofs.Kit.{AllGo, Atoms, Calls, Contract, FmC, Fun, GName, Given, Heap, Is, Lasts, Lft, Loops, Meets, Memory, MutRef, Routine, SProp, Share, Stays, Tables, Triple, URA, Val, Walks, WpFn, WpFn-mono, alloc0, ap, assigns, atExit, await, calls-at}
+use Rattle.ref_laws.proofs.Kit.{cited, done, drop, emp, ends-at, ensured, ent, enter, entered, facts, fat, fjoin, flft, fmOf, forget, frame, free0, free1, from, fsplit, fst∗, ftrue, fullShare, givenOf, goes-ref, hop, id⊢, init, join, keep, land, lasts, later, load}
+use Rattle.ref_laws.proofs.Kit.{look, move, mut-tells, named, no-more, nothing, nothing-lawful, nothing-makes, nothing-vals, of-opd, onEntry, only, owned, owns, params1, pass0, pass1, pick, plain, ptr-vals, qed, raw, refl, returns, rewrite, shows, some, split}
+use Rattle.ref_laws.proofs.Kit.{stay-ref, stop, store-raw, subst, suffices, tables, tablesOf, tripleOf, unit, unit-lit, use1, via, vptr, walk-meets, walkOf, walked, ℕ, !, [], _$_, _∵_, _∷_, _⊛_, ‵}
 use denote.Struct.Laws as LL
 use Rattle.ref_laws.proofs.Left.{asks}
+use Rattle.ref_laws.proofs.Steps.{alloc-in, closes-at, of-two, opens-at}
 use Rattle.receiver.specs.declared.Receiver.{Receiver}
 use Rattle.receiver.proofs.Receiver as T0
 use Rattle.receiver.proofs.Receiver.Laws as T0′
@@ -45,24 +46,24 @@ module _ {M : Type 1} (𝓤 : URA M) (H : Heap 𝓤) (A : Atoms 𝓤) (W : Given
       qed W ((‵ (flft κ0 q0) ⊛ ‵ ftrue) ∷ ‵ (owns (MutRef (named 0) κ0 T0.the-row ∷ []) (record { ptr = (b1, o1); name = γ1; now = h1 }, tt) (vptr b1 o1 ∷ [], tt)) ∷ []) ∵
       split ! $ move ! (1 ∷ []) $ drop ! $ move ! (1 ∷ []) $ fsplit ! $ move ! (1 ∷ []) $ drop ! $
       enter ! C Λ code.function (vptr b1 o1 ∷ []) Post $
-      alloc1 ! (λ l0. alloc1 ! (λ l1. alloc1 ! (λ l2. alloc0 ! $ params1 ! $ pass1 ! (init ! 2 refl (tt, tt)) $ pass0 ! $
+      nothing ! $ alloc-in ! (λ l0. alloc-in ! (λ l1. alloc-in ! (λ l2. alloc0 ! $ params1 ! $ pass1 ! (init ! 2 refl (tt, tt)) $ pass0 ! $
       -- `receiver::fresh`
       nothing ! $ nothing ! $ join ! $
       use1 W (raw (Callee-g0 𝓤 H A at-mem run .pre ((tt, tt, tt, tt, tt), tt))) (asks 𝓤 _) $
       calls-at ! fm (Callee-g0 𝓤 H A at-mem run) known-g0 ((tt, tt, tt, tt, tt), tt) (no-more !) (λ v1.
       use1 W (later (some (λ (r : Receiver). (‵ ftrue ⊛ ‵ (T0.the-row .own r (v1 ∷ []))) ⊛ raw (ensured 𝓤 H A g0.ended (g0.clauses 𝓤 H A at-mem run) tt tt tt r)))) (id⊢ 𝓤 _) $ await ! tt $ pick ! (λ r1. split ! $ move ! (1 ∷ []) $
-      use1 W (some (λ (ws : Lasts g0.ended tt tt). ‵ (lasts g0.ended tt tt ws) ⊛ raw (g0.clauses 𝓤 H A at-mem run tt tt .ensures tt r1 (atExit g0.ended tt tt ws)))) (id⊢ 𝓤 _) $ pick ! (λ ws1. split ! $ drop ! $ move ! (1 ∷ []) $ split ! $ drop ! $ peeks ! T0.the-row (Is T0.the-row) (shows 𝓤 H A T0.the-row) r1 (v1 ∷ []) (λ isv1. drop ! $
-      land ! (from ! (stop !)) (init ! 1 {τ = T0′.mir} {v = v1} refl (LL.lawful T0.the-type T0′.the-laws 𝓤 H A W .typed r1 (v1 ∷ []) isv1 .0)) $ rewrite ! 1 (λ (u : Val). ‵ (fat fullShare T0′.mir l2 0 u)) (ap only ((LL.tells T0.the-type T0′.the-laws) r1 _ isv1)) refl $
-      move ! (7 ∷ []) $ fsplit3 ! $ drop ! $ move ! (0 ∷ 1 ∷ 9 ∷ []) $ opens ! tt T0.the-row {h = h1} b1 o1 (λ vs1. spelt ! T0.the-row (Is T0.the-row) (shows 𝓤 H A T0.the-row) (LL.vals T0.the-type T0′.the-laws) (LL.tells T0.the-type T0′.the-laws) fullShare h1 vs1 b1 o1 $ move ! (1 ∷ []) $ peeks ! T0.the-row (Is T0.the-row) (shows 𝓤 H A T0.the-row) h1 ((LL.vals T0.the-type T0′.the-laws) h1) (λ was1. drop ! $
+      use1 W (some (λ (ws : Lasts g0.ended tt tt). ‵ (lasts g0.ended tt tt ws) ⊛ raw (g0.clauses 𝓤 H A at-mem run tt tt .ensures tt r1 (atExit g0.ended tt tt ws)))) (id⊢ 𝓤 _) $ pick ! (λ ws1. split ! $ move ! (2 ∷ []) $ split ! $ drop ! $ facts ! T0.the-row (Is T0.the-row) (shows 𝓤 H A T0.the-row) r1 (v1 ∷ []) (λ isv1. drop ! $
+      land ! (from ! (stop !)) (init ! 2 {τ = T0′.mir} {v = v1} refl (LL.lawful T0.the-type T0′.the-laws 𝓤 H A W .typed r1 (v1 ∷ []) isv1 .0)) $ rewrite ! 2 (λ (u : Val). ‵ (fat fullShare T0′.mir l2 0 u)) (ap only ((LL.tells T0.the-type T0′.the-laws) r1 _ isv1)) refl $
+      move ! (5 ∷ 6 ∷ []) $ opens-at ! tt T0.the-row (LL.vals T0.the-type T0′.the-laws) (LL.tells T0.the-type T0′.the-laws) h1 b1 o1 (λ was1.
       -- the cell behind `r` is at hand
-      assigns ! (of-opd ! (load ! (from ! (stop !)) (look ! 5 {τ = T0′.mir} {v = only ((LL.vals T0.the-type T0′.the-laws) r1)} refl))) (from ! (hop ! (look ! 7 refl) (stop !))) (store-raw ! 0 {τ = T0′.mir} {v = only ((LL.vals T0.the-type T0′.the-laws) r1)} refl (LL.lawful T0.the-type T0′.the-laws 𝓤 H A W .typed r1 ((LL.vals T0.the-type T0′.the-laws) r1) (subst (Is T0.the-row r1) ((LL.tells T0.the-type T0′.the-laws) r1 _ isv1) isv1) .0)) $
-      assigns ! (of-opd ! (unit-lit !)) (from ! (stop !)) (init ! 9 refl (nothing-lawful 𝓤 H A W .typed tt _ refl .0)) $
-      owned ! T0.the-row (Is T0.the-row) (LL.makes T0.the-type T0′.the-plain 𝓤 H A) r1 ((LL.vals T0.the-type T0′.the-laws) r1) (subst (Is T0.the-row r1) ((LL.tells T0.the-type T0′.the-laws) r1 _ isv1) isv1) $ move ! (1 ∷ 0 ∷ 2 ∷ 3 ∷ 4 ∷ []) $ closes ! tt T0.the-row r1 ((LL.vals T0.the-type T0′.the-laws) r1) b1 o1 $ feqI ! (List Val) (vptr b1 o1 ∷ []) (vptr b1 o1 ∷ []) refl $ fjoin3 ! $
+      assigns ! (of-opd ! (load ! (from ! (stop !)) (look ! 6 {τ = T0′.mir} {v = only ((LL.vals T0.the-type T0′.the-laws) r1)} refl))) (from ! (hop ! (look ! 7 refl) (stop !))) (store-raw ! 0 {τ = T0′.mir} {v = only ((LL.vals T0.the-type T0′.the-laws) r1)} refl (LL.lawful T0.the-type T0′.the-laws 𝓤 H A W .typed r1 ((LL.vals T0.the-type T0′.the-laws) r1) (subst (Is T0.the-row r1) ((LL.tells T0.the-type T0′.the-laws) r1 _ isv1) isv1) .0)) $
+      assigns ! (of-opd ! (unit-lit !)) (from ! (stop !)) (init ! 8 refl (nothing-lawful 𝓤 H A W .typed tt _ refl .0)) $
+      closes-at ! tt T0.the-row (LL.makes T0.the-type T0′.the-plain 𝓤 H A) r1 ((LL.vals T0.the-type T0′.the-laws) r1) (subst (Is T0.the-row r1) ((LL.tells T0.the-type T0′.the-laws) r1 _ isv1) isv1) b1 o1 $
       -- the locals are freed
-      returns ! (look ! 7 refl) $ forget ! 7 refl $ forget ! 5 refl $ forget ! 3 {τ = T0′.mir} {v = only ((LL.vals T0.the-type T0′.the-laws) r1)} refl $
-      move ! (7 ∷ 8 ∷ []) $ free1 ! $ move ! (5 ∷ 6 ∷ []) $ free1 ! $ move ! (3 ∷ 4 ∷ []) $ free1 ! $ free0 ! $
+      returns ! (look ! 6 refl) $ forget ! 6 refl $ forget ! 5 refl $ forget ! 4 {τ = T0′.mir} {v = only ((LL.vals T0.the-type T0′.the-laws) r1)} refl $
+      move ! (3 ∷ []) $ of-two ! $ of-two ! $ of-two ! $ drop ! $ move ! (8 ∷ 0 ∷ []) $ free1 ! $ move ! (6 ∷ 0 ∷ []) $ free1 ! $ move ! (4 ∷ 0 ∷ []) $ free1 ! $ free0 ! $
       -- the exit
-      suffices ! _ (ends-at 𝓤 H A f.ended stayed (f.clauses 𝓤 H A at-mem run) W to-f (only (nothing-vals tt)) tt (r1, tt) (tt, tt)) $ owned ! unit (Is unit) (nothing-makes 𝓤 H A W) tt (nothing-vals tt) refl $ nothing ! $ move ! (2 ∷ 0 ∷ []) $ fjoin ! $ nothing ! $ move ! (3 ∷ 0 ∷ []) $ join ! $ move ! (1 ∷ 2 ∷ []) $ join ! $ move ! (1 ∷ 0 ∷ []) $ join ! $ keep ! (0 ∷ 1 ∷ []) $ frame ! $ done !)))))))))
+      suffices ! _ (ends-at 𝓤 H A f.ended stayed (f.clauses 𝓤 H A at-mem run) W to-f (only (nothing-vals tt)) tt (r1, tt) (tt, tt)) $ owned ! unit (Is unit) (nothing-makes 𝓤 H A W) tt (nothing-vals tt) refl $ nothing ! $ move ! (2 ∷ 0 ∷ []) $ fjoin ! $ nothing ! $ move ! (3 ∷ 0 ∷ []) $ join ! $ move ! (1 ∷ 2 ∷ []) $ join ! $ move ! (1 ∷ 0 ∷ []) $ join ! $ keep ! (0 ∷ 1 ∷ []) $ frame ! $ done !))))))))
 
 module _ {M : Type 1} (𝓤 : URA M) (H : Heap 𝓤) (A : Atoms 𝓤) (W : Given 𝓤 H A) (at-mem : Memory → SProp 𝓤) (run : Routine → Fun 𝓤) where
   f-walks : (𝓣 : Tables 𝓤 H) → Triple 𝓤 (𝓣 .C #g0) (Callee-g0 𝓤 H A at-mem run) → Walks 𝓤 H A f.ended stayed (WpFn 𝓤 H (𝓣 .C) (𝓣 .Λ) code.function) (f.clauses 𝓤 H A at-mem run)

@@ -1,10 +1,11 @@
 -- `station::vanitycrow_levels` meets its contract: a walk of its MIR, printed by tools/walk.py station vanitycrow_levels
-use Rattle.ref_laws.proofs.Kit.{AllGo, Atoms, Calls, Contract, FmC, Fun, GName, Given, Heap, Is, Lasts, Lft, List, Loops, Meets, Memory, Routine, SProp, Share, ShrRef, Stays, Tables, Triple, URA, Val, Walks, WpFn, WpFn-mono, alloc0, alloc1, and-then, ap, assigns}
-use Rattle.ref_laws.proofs.Kit.{atExit, await, calls-at, cited, done, drop, emp, ends-at, ensured, ent, enter, entered, fat, feqI, fjoin, fjoin3, flft, fmOf, forget, frame, free0, free1, from, fsplit, fsplit3, fst∗, ftrue, fullShare, givenOf, hop, id⊢, init, join}
-use Rattle.ref_laws.proofs.Kit.{keep, land, lasts, later, load, look, look-raw, looks, move, named, no-more, nothing, of-opd, onEntry, only, owned, owns, params1, pass0, pass1, peeks, pick, plain, ptr-vals, qed, raw, refl, returns, rewrite, shows, shr-tells}
-use Rattle.ref_laws.proofs.Kit.{shrRefTo, shuts, some, spelt, split, stop, subst, suffices, tables, tablesOf, tripleOf, u8, uint-lawful, uint-makes, uint-tells, uint-vals, use1, via, vptr, w8, walk-meets, walkOf, walked, ℕ, !, [], _$_, _∵_, _∷_, _⊛_, ‵}
+use Rattle.ref_laws.proofs.Kit.{AllGo, Atoms, Calls, Contract, FmC, Fun, GName, Given, Heap, Is, Lasts, Lft, Loops, Meets, Memory, Routine, SProp, Share, ShrRef, Stays, Tables, Triple, URA, Val, Walks, WpFn, WpFn-mono, alloc0, and-then, ap, assigns, atExit, await}
+use Rattle.ref_laws.proofs.Kit.{calls-at, cited, done, drop, emp, ends-at, ensured, ent, enter, entered, facts, fat, fjoin, flft, fmOf, forget, frame, free0, free1, from, fsplit, fst∗, ftrue, fullShare, givenOf, hop, id⊢, init, join, keep, land, lasts, later, load}
+use Rattle.ref_laws.proofs.Kit.{look, look-raw, move, named, no-more, nothing, of-opd, onEntry, only, owned, owns, params1, pass0, pass1, pick, plain, ptr-vals, qed, raw, refl, returns, rewrite, shows, shr-tells, shrRefTo, some, split, stop, subst, suffices}
+use Rattle.ref_laws.proofs.Kit.{tables, tablesOf, tripleOf, u8, uint-lawful, uint-makes, uint-tells, uint-vals, use1, via, vptr, w8, walk-meets, walkOf, walked, ℕ, !, [], _$_, _∵_, _∷_, _⊛_, ‵}
 use denote.Struct.Laws as LL
 use Rattle.ref_laws.proofs.Left.{asks, goes-left, stay-left}
+use Rattle.ref_laws.proofs.Steps.{adds, alloc-in, looks-at, of-two, shuts-at}
 use Rattle.config.specs.declared.Profile.{Profile}
 use Rattle.config.proofs.Profile as T0
 use Rattle.config.proofs.Profile.Laws as T0′
@@ -51,23 +52,23 @@ module _ {M : Type 1} (𝓤 : URA M) (H : Heap 𝓤) (A : Atoms 𝓤) (W : Given
       qed W ((‵ (flft κ0 q0) ⊛ ‵ ftrue) ∷ ‵ (owns (ShrRef (named 0) κ0 T0.the-row ∷ T1.the-row ∷ u8 ∷ u8 ∷ []) (record { ptr = (b1, o1); name = γ1; now = h1 }, (x2, (x3, (x4, tt)))) (vptr b1 o1 ∷ [], ((LL.vals T1.the-type T1′.the-laws) x2, ((uint-vals w8) x3, ((uint-vals w8) x4, tt))))) ∷ []) ∵
       split ! $ move ! (1 ∷ []) $ drop ! $ move ! (1 ∷ []) $ fsplit ! $ move ! (1 ∷ []) $ fsplit ! $ drop ! $ fsplit ! $ drop ! $ fsplit ! $ drop ! $ drop ! $
       enter ! C Λ code.function (vptr b1 o1 ∷ only ((LL.vals T1.the-type T1′.the-laws) x2) ∷ only ((uint-vals w8) x3) ∷ only ((uint-vals w8) x4) ∷ []) Post $
-      alloc1 ! (λ l0. alloc1 ! (λ l1. alloc1 ! (λ l2. alloc1 ! (λ l3. alloc1 ! (λ l4. alloc1 ! (λ l5. alloc0 ! $ params1 ! $ pass1 ! (init ! 8 refl (tt, tt)) $ pass1 ! (init ! 6 {τ = T1′.mir} {v = only ((LL.vals T1.the-type T1′.the-laws) x2)} refl (LL.lawful T1.the-type T1′.the-laws 𝓤 H A W .typed x2 ((LL.vals T1.the-type T1′.the-laws) x2) is2 .0)) $ pass1 ! (init ! 4 refl (uint-lawful 𝓤 H A W w8 .typed x3 _ is3 .0)) $ pass1 ! (init ! 2 refl (uint-lawful 𝓤 H A W w8 .typed x4 _ is4 .0)) $ pass0 ! $
-      move ! (12 ∷ []) $ fsplit3 ! $ drop ! $ move ! (1 ∷ 14 ∷ []) $ looks ! tt T0.the-row (Is T0.the-row) (shows 𝓤 H A T0.the-row) (LL.vals T0.the-type T0′.the-laws) (LL.tells T0.the-type T0′.the-laws) (LL.copy T0.the-type T0′.the-copy 𝓤 H A W) h1 b1 o1 (λ sh1 vs1. spelt ! T0.the-row (Is T0.the-row) (shows 𝓤 H A T0.the-row) (LL.vals T0.the-type T0′.the-laws) (LL.tells T0.the-type T0′.the-laws) sh1 h1 vs1 b1 o1 $ move ! (1 ∷ []) $ peeks ! T0.the-row (Is T0.the-row) (shows 𝓤 H A T0.the-row) h1 ((LL.vals T0.the-type T0′.the-laws) h1) (λ was1. drop ! $
+      nothing ! $ alloc-in ! (λ l0. alloc-in ! (λ l1. alloc-in ! (λ l2. alloc-in ! (λ l3. alloc-in ! (λ l4. alloc-in ! (λ l5. alloc0 ! $ params1 ! $ pass1 ! (init ! 5 refl (tt, tt)) $ pass1 ! (init ! 4 {τ = T1′.mir} {v = only ((LL.vals T1.the-type T1′.the-laws) x2)} refl (LL.lawful T1.the-type T1′.the-laws 𝓤 H A W .typed x2 ((LL.vals T1.the-type T1′.the-laws) x2) is2 .0)) $ pass1 ! (init ! 3 refl (uint-lawful 𝓤 H A W w8 .typed x3 _ is3 .0)) $ pass1 ! (init ! 2 refl (uint-lawful 𝓤 H A W w8 .typed x4 _ is4 .0)) $ pass0 ! $
+      move ! (7 ∷ 8 ∷ []) $ looks-at ! tt T0.the-row (LL.vals T0.the-type T0′.the-laws) (LL.tells T0.the-type T0′.the-laws) (LL.copy T0.the-type T0′.the-copy 𝓤 H A W) h1 b1 o1 (λ sh1 was1.
       -- the cell behind `p` is at hand
-      assigns ! (of-opd ! (load ! (from ! (hop ! (look ! 12 refl) (stop !))) (look-raw ! 0 refl))) (from ! (stop !)) (init ! 4 {τ = T0′.mir} {v = only ((LL.vals T0.the-type T0′.the-laws) h1)} refl (LL.lawful T0.the-type T0′.the-laws 𝓤 H A W .typed h1 ((LL.vals T0.the-type T0′.the-laws) h1) was1 .0)) $
+      assigns ! (of-opd ! (load ! (from ! (hop ! (look ! 9 refl) (stop !))) (look-raw ! 0 refl))) (from ! (stop !)) (init ! 5 {τ = T0′.mir} {v = only ((LL.vals T0.the-type T0′.the-laws) h1)} refl (LL.lawful T0.the-type T0′.the-laws 𝓤 H A W .typed h1 ((LL.vals T0.the-type T0′.the-laws) h1) was1 .0)) $
       -- `reachable::levels_under`
-      nothing ! $ owned ! u8 (Is u8) (uint-makes 𝓤 H A W w8) x4 ((uint-vals w8) x4) is4 $ fjoin ! $ owned ! u8 (Is u8) (uint-makes 𝓤 H A W w8) x3 ((uint-vals w8) x3) is3 $ fjoin ! $ owned ! T1.the-row (Is T1.the-row) (LL.makes T1.the-type T1′.the-plain 𝓤 H A) x2 ((LL.vals T1.the-type T1′.the-laws) x2) is2 $ fjoin ! $ owned ! T0.the-row (Is T0.the-row) (LL.makes T0.the-type T0′.the-plain 𝓤 H A) h1 ((LL.vals T0.the-type T0′.the-laws) h1) was1 $ fjoin ! $ nothing ! $ join ! $
+      nothing ! $ adds ! u8 (uint-makes 𝓤 H A W w8) x4 ((uint-vals w8) x4) is4 $ adds ! u8 (uint-makes 𝓤 H A W w8) x3 ((uint-vals w8) x3) is3 $ adds ! T1.the-row (LL.makes T1.the-type T1′.the-plain 𝓤 H A) x2 ((LL.vals T1.the-type T1′.the-laws) x2) is2 $ adds ! T0.the-row (LL.makes T0.the-type T0′.the-plain 𝓤 H A) h1 ((LL.vals T0.the-type T0′.the-laws) h1) was1 $ nothing ! $ join ! $
       use1 W (raw (Callee-g0 𝓤 H A at-mem run .pre ((tt, tt, tt, (h1, (x2, (x3, (x4, tt)))), ((LL.vals T0.the-type T0′.the-laws) h1, ((LL.vals T1.the-type T1′.the-laws) x2, ((uint-vals w8) x3, ((uint-vals w8) x4, tt))))), tt))) (asks 𝓤 _) $
-      calls-at ! fm (Callee-g0 𝓤 H A at-mem run) known-g0 ((tt, tt, tt, (h1, (x2, (x3, (x4, tt)))), ((LL.vals T0.the-type T0′.the-laws) h1, ((LL.vals T1.the-type T1′.the-laws) x2, ((uint-vals w8) x3, ((uint-vals w8) x4, tt))))), tt) (and-then ! (load ! (from ! (stop !)) (look ! 5 {τ = T0′.mir} {v = only ((LL.vals T0.the-type T0′.the-laws) h1)} refl)) (and-then ! (load ! (from ! (stop !)) (look ! 11 {τ = T1′.mir} {v = only ((LL.vals T1.the-type T1′.the-laws) x2)} refl)) (and-then ! (load ! (from ! (stop !)) (look ! 9 refl)) (and-then ! (load ! (from ! (stop !)) (look ! 7 refl)) (no-more !))))) (λ v1.
+      calls-at ! fm (Callee-g0 𝓤 H A at-mem run) known-g0 ((tt, tt, tt, (h1, (x2, (x3, (x4, tt)))), ((LL.vals T0.the-type T0′.the-laws) h1, ((LL.vals T1.the-type T1′.the-laws) x2, ((uint-vals w8) x3, ((uint-vals w8) x4, tt))))), tt) (and-then ! (load ! (from ! (stop !)) (look ! 6 {τ = T0′.mir} {v = only ((LL.vals T0.the-type T0′.the-laws) h1)} refl)) (and-then ! (load ! (from ! (stop !)) (look ! 9 {τ = T1′.mir} {v = only ((LL.vals T1.the-type T1′.the-laws) x2)} refl)) (and-then ! (load ! (from ! (stop !)) (look ! 8 refl)) (and-then ! (load ! (from ! (stop !)) (look ! 7 refl)) (no-more !))))) (λ v1.
       use1 W (later (some (λ (r : Listing). (‵ ftrue ⊛ ‵ (T2.the-row .own r (v1 ∷ []))) ⊛ raw (ensured 𝓤 H A g0.ended (g0.clauses 𝓤 H A at-mem run) tt (h1, (x2, (x3, (x4, tt)))) tt r)))) (id⊢ 𝓤 _) $ await ! tt $ pick ! (λ r1. split ! $ move ! (1 ∷ []) $
-      use1 W (some (λ (ws : Lasts g0.ended tt (h1, (x2, (x3, (x4, tt))))). ‵ (lasts g0.ended tt (h1, (x2, (x3, (x4, tt)))) ws) ⊛ raw (g0.clauses 𝓤 H A at-mem run tt (h1, (x2, (x3, (x4, tt)))) .ensures tt r1 (atExit g0.ended tt (h1, (x2, (x3, (x4, tt)))) ws)))) (id⊢ 𝓤 _) $ pick ! (λ ws1. split ! $ fsplit ! $ drop ! $ fsplit ! $ drop ! $ fsplit ! $ drop ! $ fsplit ! $ drop ! $ drop ! $ move ! (1 ∷ []) $ split ! $ drop ! $ peeks ! T2.the-row (Is T2.the-row) (shows 𝓤 H A T2.the-row) r1 (v1 ∷ []) (λ isv1. drop ! $
-      land ! (from ! (stop !)) (init ! 15 {τ = T2′.mir} {v = v1} refl (LL.lawful T2.the-type T2′.the-laws 𝓤 H A W .typed r1 (v1 ∷ []) isv1 .0)) $ rewrite ! 15 (λ (u : Val). ‵ (fat fullShare T2′.mir l0 0 u)) (ap only ((LL.tells T2.the-type T2′.the-laws) r1 _ isv1)) refl $
-      owned ! T0.the-row (Is T0.the-row) (LL.makes T0.the-type T0′.the-plain 𝓤 H A) h1 ((LL.vals T0.the-type T0′.the-laws) h1) was1 $ move ! (2 ∷ 0 ∷ 3 ∷ []) $ shuts ! tt T0.the-row sh1 h1 ((LL.vals T0.the-type T0′.the-laws) h1) b1 o1 $ move ! (3 ∷ 2 ∷ []) $ feqI ! (List Val) (vptr b1 o1 ∷ []) (vptr b1 o1 ∷ []) refl $ fjoin3 ! $
+      use1 W (some (λ (ws : Lasts g0.ended tt (h1, (x2, (x3, (x4, tt))))). ‵ (lasts g0.ended tt (h1, (x2, (x3, (x4, tt)))) ws) ⊛ raw (g0.clauses 𝓤 H A at-mem run tt (h1, (x2, (x3, (x4, tt)))) .ensures tt r1 (atExit g0.ended tt (h1, (x2, (x3, (x4, tt)))) ws)))) (id⊢ 𝓤 _) $ pick ! (λ ws1. split ! $ move ! (2 ∷ []) $ split ! $ drop ! $ facts ! T2.the-row (Is T2.the-row) (shows 𝓤 H A T2.the-row) r1 (v1 ∷ []) (λ isv1. drop ! $
+      land ! (from ! (stop !)) (init ! 11 {τ = T2′.mir} {v = v1} refl (LL.lawful T2.the-type T2′.the-laws 𝓤 H A W .typed r1 (v1 ∷ []) isv1 .0)) $ rewrite ! 11 (λ (u : Val). ‵ (fat fullShare T2′.mir l0 0 u)) (ap only ((LL.tells T2.the-type T2′.the-laws) r1 _ isv1)) refl $
+      move ! (1 ∷ 2 ∷ 3 ∷ 4 ∷ []) $ shuts-at ! tt T0.the-row (LL.makes T0.the-type T0′.the-plain 𝓤 H A) sh1 h1 ((LL.vals T0.the-type T0′.the-laws) h1) was1 b1 o1 $
       -- the locals are freed
-      returns ! (look ! 13 {τ = T2′.mir} {v = only ((LL.vals T2.the-type T2′.the-laws) r1)} refl) $ forget ! 13 {τ = T2′.mir} {v = only ((LL.vals T2.the-type T2′.the-laws) r1)} refl $ forget ! 11 refl $ forget ! 9 {τ = T1′.mir} {v = only ((LL.vals T1.the-type T1′.the-laws) x2)} refl $ forget ! 7 refl $ forget ! 5 refl $ forget ! 3 {τ = T0′.mir} {v = only ((LL.vals T0.the-type T0′.the-laws) h1)} refl $
-      move ! (13 ∷ 14 ∷ []) $ free1 ! $ move ! (11 ∷ 12 ∷ []) $ free1 ! $ move ! (9 ∷ 10 ∷ []) $ free1 ! $ move ! (7 ∷ 8 ∷ []) $ free1 ! $ move ! (5 ∷ 6 ∷ []) $ free1 ! $ move ! (3 ∷ 4 ∷ []) $ free1 ! $ free0 ! $
+      returns ! (look ! 9 {τ = T2′.mir} {v = only ((LL.vals T2.the-type T2′.the-laws) r1)} refl) $ forget ! 9 {τ = T2′.mir} {v = only ((LL.vals T2.the-type T2′.the-laws) r1)} refl $ forget ! 8 refl $ forget ! 7 {τ = T1′.mir} {v = only ((LL.vals T1.the-type T1′.the-laws) x2)} refl $ forget ! 6 refl $ forget ! 5 refl $ forget ! 4 {τ = T0′.mir} {v = only ((LL.vals T0.the-type T0′.the-laws) h1)} refl $
+      move ! (3 ∷ []) $ of-two ! $ of-two ! $ of-two ! $ of-two ! $ of-two ! $ of-two ! $ drop ! $ move ! (14 ∷ 0 ∷ []) $ free1 ! $ move ! (12 ∷ 0 ∷ []) $ free1 ! $ move ! (10 ∷ 0 ∷ []) $ free1 ! $ move ! (8 ∷ 0 ∷ []) $ free1 ! $ move ! (6 ∷ 0 ∷ []) $ free1 ! $ move ! (4 ∷ 0 ∷ []) $ free1 ! $ free0 ! $
       -- the exit
-      suffices ! _ (ends-at 𝓤 H A f.ended stayed (f.clauses 𝓤 H A at-mem run) W to-f (only ((LL.vals T2.the-type T2′.the-laws) r1)) r1 (tt, (tt, (tt, (tt, tt)))) (tt, (tt, (tt, (tt, tt))))) $ owned ! T2.the-row (Is T2.the-row) (LL.makes T2.the-type T2′.the-plain 𝓤 H A) r1 ((LL.vals T2.the-type T2′.the-laws) r1) (subst (Is T2.the-row r1) ((LL.tells T2.the-type T2′.the-laws) r1 _ isv1) isv1) $ nothing ! $ nothing ! $ fjoin ! $ nothing ! $ fjoin ! $ nothing ! $ fjoin ! $ nothing ! $ fjoin ! $ nothing ! $ move ! (4 ∷ 0 ∷ []) $ join ! $ move ! (1 ∷ 2 ∷ []) $ join ! $ move ! (1 ∷ 0 ∷ []) $ join ! $ keep ! (0 ∷ 2 ∷ []) $ frame ! $ done !))))))))))))
+      suffices ! _ (ends-at 𝓤 H A f.ended stayed (f.clauses 𝓤 H A at-mem run) W to-f (only ((LL.vals T2.the-type T2′.the-laws) r1)) r1 (tt, (tt, (tt, (tt, tt)))) (tt, (tt, (tt, (tt, tt))))) $ owned ! T2.the-row (Is T2.the-row) (LL.makes T2.the-type T2′.the-plain 𝓤 H A) r1 ((LL.vals T2.the-type T2′.the-laws) r1) (subst (Is T2.the-row r1) ((LL.tells T2.the-type T2′.the-laws) r1 _ isv1) isv1) $ nothing ! $ nothing ! $ fjoin ! $ nothing ! $ fjoin ! $ nothing ! $ fjoin ! $ nothing ! $ fjoin ! $ nothing ! $ move ! (4 ∷ 0 ∷ []) $ join ! $ move ! (1 ∷ 2 ∷ []) $ join ! $ move ! (1 ∷ 0 ∷ []) $ join ! $ keep ! (0 ∷ 2 ∷ []) $ frame ! $ done !)))))))))))
 
 module _ {M : Type 1} (𝓤 : URA M) (H : Heap 𝓤) (A : Atoms 𝓤) (W : Given 𝓤 H A) (at-mem : Memory → SProp 𝓤) (run : Routine → Fun 𝓤) where
   f-walks : (𝓣 : Tables 𝓤 H) → Triple 𝓤 (𝓣 .C #g0) (Callee-g0 𝓤 H A at-mem run) → Walks 𝓤 H A f.ended stayed (WpFn 𝓤 H (𝓣 .C) (𝓣 .Λ) code.function) (f.clauses 𝓤 H A at-mem run)

@@ -3,7 +3,7 @@ use Prim.Native.Nat.{ℕ, _<_}
 use mathlib.Core.Path.{sym, _∙_}
 use native.Mathlib.Omega.{arith}
 use Rattle.text.proofs.Digits.{decimal-one, decimal-more}
-use Rattle.text.proofs.Laws.{by, told, _⨾_}
+use Rattle.text.proofs.Laws.{appends, told, _⨾_}
 use borrow.Fn.Kinds.{In}
 use borrow.Fn.PlainCycle.{Measures, is, falls, and}
 use Rattle.text.proofs.+decimal.{statement}
@@ -45,7 +45,7 @@ decimal-returns : (t : ℕ) → decimal-lts.Need-returns (
   decimal.Post,
 ) (decimal-at t) decimal.Post
 decimal-returns t c = let q = c .before .before in
-    told (by (q .digit .ensures)) (sym (decimal-one _ (q .before .before .if1 .taken)))
+    told (appends (q .digit .ensures)) (sym (decimal-one _ (q .before .before .if1 .taken)))
 
 decimal-decimal-requires : (t : ℕ) → decimal-lts.Need-decimal-requires (
   digit-reads.Asked,
@@ -83,7 +83,7 @@ decimal-returns-2 : (t : ℕ) → decimal-lts.Need-returns-2 (
 decimal-returns-2 t c =
     let p2 = c .before .before in
     let p1 = p2 .before .before .before .before in
-    told (by (p1 .decimal .ensures) ⨾ by (p2 .digit2 .ensures)) (sym (decimal-more _ (omega arith)))
+    told (appends (p1 .decimal .ensures) ⨾ appends (p2 .digit2 .ensures)) (sym (decimal-more _ (omega arith)))
 
 pub +decimal-spec : {M : Type 1} → statement M
 +decimal-spec = close μ-decimal λ t. decimal-lts.spec (

@@ -4,7 +4,7 @@ use mathlib.Core.Path.{sym, ap, _∙_}
 use native.Mathlib.Omega.{arith}
 use Rattle.text.specs.Digits.{hexDigits}
 use Rattle.text.proofs.Digits.{hex-none, hex-more}
-use Rattle.text.proofs.Laws.{by, told, _⨾_, nothing}
+use Rattle.text.proofs.Laws.{appends, told, _⨾_, nothing}
 use borrow.Fn.Kinds.{In}
 use borrow.Fn.PlainCycle.{Measures, is, falls, and}
 use Rattle.text.proofs.+hexadecimal.{statement}
@@ -77,7 +77,7 @@ hexadecimal-returns-2 : (t : ℕ) → hexadecimal-lts.Need-returns-2 (
 hexadecimal-returns-2 t c =
     let p2 = c .before .before in
     let p1 = p2 .before .before .before .before in
-    told (by (p1 .hexadecimal .ensures) ⨾ by (p2 .digit .ensures)) (sym (hex-more _ _ (omega arith)))
+    told (appends (p1 .hexadecimal .ensures) ⨾ appends (p2 .digit .ensures)) (sym (hex-more _ _ (omega arith)))
 
 pub +hexadecimal-spec : {M : Type 1} → statement M
 +hexadecimal-spec = close μ-hexadecimal λ t. hexadecimal-lts.spec (

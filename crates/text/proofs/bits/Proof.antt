@@ -1,7 +1,7 @@
 -- `text::bits` meets its contract.
 use mathlib.Core.Path.{_∙_}
 use borrow.Author.Needs.{needs}
-use Rattle.text.proofs.Laws.{by, _⨾_}
+use Rattle.text.proofs.Laws.{appends, _⨾_}
 use Rattle.text.proofs.bits.Statement.{statement}
 use Rattle.text.proofs.bits.Tie as tie
 
@@ -24,7 +24,7 @@ returns : tie.Need-returns
 returns c =
     let p2 = c .before .before in
     let p1 = p2 .before .before .before .before in
-    (by (p1 .puts .ensures) ⨾ by (p2 .hexadecimal .ensures)) .is
+    (appends (p1 .puts .ensures) ⨾ appends (p2 .hexadecimal .ensures)) .is
 
 pub bits-spec : {M : Type 1} → statement M
 bits-spec =

@@ -3,7 +3,7 @@ use borrow.Author.Needs.{needs}
 use Rattle.text.proofs.Digits.{float-nan, float-zero, float-bits}
 use lib.Ieee.{binary64}
 use Rattle.text.specs.Words.{doubleWord}
-use Rattle.text.proofs.Laws.{by, told}
+use Rattle.text.proofs.Laws.{appends, told}
 use Rattle.text.proofs.double.Statement.{statement}
 use Rattle.text.proofs.double.Tie as tie
 
@@ -22,7 +22,7 @@ returns : tie.Need-returns
 unfolding doubleWord
 returns c =
     let p1 = c .before .before in
-    told (by (p1 .puts .ensures)) (float-nan binary64 16 _ (c .before .before .before .before .before .if1 .taken))
+    told (appends (p1 .puts .ensures)) (float-nan binary64 16 _ (c .before .before .before .before .before .if1 .taken))
 
 bits-requires : tie.Need-bits-requires
 bits-requires c κs = search needs
@@ -36,7 +36,7 @@ returns-2 : tie.Need-returns-2
 unfolding doubleWord
 returns-2 c =
     let p1 = c .before .before in
-    told (by (p1 .bits .ensures)) (float-zero binary64 16 _ (c .before .before .before .before .before .if1 .left)
+    told (appends (p1 .bits .ensures)) (float-zero binary64 16 _ (c .before .before .before .before .before .if1 .left)
     (c .before .before .before .before .if2 .taken))
 
 to-bits64-requires : tie.Need-to-bits64-requires
@@ -54,7 +54,7 @@ returns-3 : tie.Need-returns-3
 unfolding doubleWord
 returns-3 c =
     let p1 = c .before .before in
-    told (by (p1 .bits2 .ensures)) (float-bits binary64 16 _ 18446744073709551615
+    told (appends (p1 .bits2 .ensures)) (float-bits binary64 16 _ 18446744073709551615
     (c .before .before .before .before .before .before .if1 .left) (c .before .before .before .before .before .if2 .left)
     (p1 .before .to-bits64 .ensures))
 

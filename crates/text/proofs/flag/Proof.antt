@@ -3,7 +3,7 @@ use mathlib.Core.Path.{refl}
 use borrow.Author.Needs.{needs}
 use Rattle.text.specs.Words.{flagWord}
 use Rattle.laws.proofs.Picks.{cond-yes, cond-no}
-use Rattle.text.proofs.Laws.{by, told}
+use Rattle.text.proofs.Laws.{appends, told}
 use Rattle.text.proofs.flag.Statement.{statement}
 use Rattle.text.proofs.flag.Tie as tie
 
@@ -22,7 +22,7 @@ returns : tie.Need-returns
 unfolding flagWord
 returns c =
     let p1 = c .before .before in
-    told (by (p1 .puts .ensures)) (cond-yes _ _ _ _ (c .before .before .before .before .before .if1 .taken) refl)
+    told (appends (p1 .puts .ensures)) (cond-yes _ _ _ _ (c .before .before .before .before .before .if1 .taken) refl)
 
 slice-aggregate-puts-2 : tie.Need-slice-aggregate-puts-2
 slice-aggregate-puts-2 c = search needs
@@ -39,7 +39,7 @@ returns-2 : tie.Need-returns-2
 unfolding flagWord
 returns-2 c =
     let p1 = c .before .before in
-    told (by (p1 .puts2 .ensures)) (cond-no _ _ _ _ (c .before .before .before .before .before .if1 .left) refl)
+    told (appends (p1 .puts2 .ensures)) (cond-no _ _ _ _ (c .before .before .before .before .before .if1 .left) refl)
 
 pub flag-spec : {M : Type 1} → statement M
 flag-spec =

@@ -2,7 +2,7 @@
 use mathlib.Core.Path.{sym, _∙_}
 use borrow.Author.Needs.{needs}
 use Rattle.text.proofs.Digits.{hex-empty, hex-some}
-use Rattle.text.proofs.Laws.{by, told, _⨾_}
+use Rattle.text.proofs.Laws.{appends, told, _⨾_}
 use Rattle.text.proofs.hex.Statement.{statement}
 use Rattle.text.proofs.hex.Tie as tie
 
@@ -20,7 +20,7 @@ same-length c =
 returns : tie.Need-returns
 returns c =
     let p1 = c .before .before in
-    told (by (p1 .puts .ensures)) (sym (hex-empty _ (c .before .before .before .before .before .if1 .taken)))
+    told (appends (p1 .puts .ensures)) (sym (hex-empty _ (c .before .before .before .before .before .if1 .taken)))
 
 slice-aggregate-puts-2 : tie.Need-slice-aggregate-puts-2
 slice-aggregate-puts-2 c = search needs
@@ -41,8 +41,8 @@ returns-2 : tie.Need-returns-2
 returns-2 c =
     let p2 = c .before .before in
     let p1 = p2 .before .before .before .before in
-    told (by (p1 .puts2 .ensures)
-    ⨾ by (p2 .pairs .ensures)) (sym (hex-some _ (c .before .before .before .before .before .before .before .before .before .if1 .left)))
+    told (appends (p1 .puts2 .ensures)
+    ⨾ appends (p2 .pairs .ensures)) (sym (hex-some _ (c .before .before .before .before .before .before .before .before .before .if1 .left)))
 
 pub hex-spec : {M : Type 1} → statement M
 hex-spec =

@@ -2,7 +2,7 @@
 use mathlib.Core.Path.{refl}
 use borrow.Author.Needs.{needs}
 use Rattle.laws.proofs.Picks.{cond-yes, cond-no}
-use Rattle.text.proofs.Laws.{by, told}
+use Rattle.text.proofs.Laws.{appends, told}
 use Rattle.text.proofs.maybe_double.Statement.{statement}
 use Rattle.text.proofs.maybe_double.Tie as tie
 
@@ -17,7 +17,7 @@ same-length c =
 returns : tie.Need-returns
 returns c =
     let p1 = c .before .before in
-    told (by (p1 .double .ensures)) (cond-yes _ _ _ _ (c .before .before .before .before .if1 .taken) refl)
+    told (appends (p1 .double .ensures)) (cond-yes _ _ _ _ (c .before .before .before .before .if1 .taken) refl)
 
 slice-aggregate-puts : tie.Need-slice-aggregate-puts
 slice-aggregate-puts c = search needs
@@ -33,7 +33,7 @@ same-length-2 c =
 returns-2 : tie.Need-returns-2
 returns-2 c =
     let p1 = c .before .before in
-    told (by (p1 .puts .ensures)) (cond-no _ _ _ _ (c .before .before .before .before .before .if1 .left) refl)
+    told (appends (p1 .puts .ensures)) (cond-no _ _ _ _ (c .before .before .before .before .before .if1 .left) refl)
 
 pub maybe-double-spec : {M : Type 1} → statement M
 maybe-double-spec =

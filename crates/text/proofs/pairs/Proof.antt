@@ -9,7 +9,7 @@ use native.Mathlib.Numerals.{add-one}
 use lib.Seq.{drop-cons}
 use Rattle.text.specs.Digits.{pair}
 use Rattle.text.specs.Buffer.{appended, each}
-use Rattle.text.proofs.Laws.{Left, whole, by, each-turn, each-end}
+use Rattle.text.proofs.Laws.{Left, whole, appends, each-turn, each-end}
 use Rattle.text.proofs.pairs.Statement.{statement}
 use Rattle.text.proofs.pairs.Tie as tie
 
@@ -42,7 +42,7 @@ loop-again c = let q = c .before .before in
     let a = p .before .before .before .args .a .now in
     let i = p .loop .i in
     let e : drop i a ≡ getD a i 0 ∷ drop (i + 1) a = simp add-one (drop-cons a i 0 (l .loop-test .taken)) in
-    (omega arith, each-turn pair e (p .loop .inv .1) (by (q .pair .ensures)), q .pair .kept .0 ∙ p .loop .inv .2)
+    (omega arith, each-turn pair e (p .loop .inv .1) (appends (q .pair .ensures)), q .pair .kept .0 ∙ p .loop .inv .2)
 
 same-length : tie.Need-same-length Inv-loop μ-loop
 same-length c = c .before .loop .inv .2

@@ -4,7 +4,7 @@ use borrow.Author.Needs.{needs}
 use Rattle.text.proofs.Digits.{float-nan, float-zero, float-bits}
 use lib.Ieee.{binary32}
 use Rattle.text.specs.Words.{singleWord}
-use Rattle.text.proofs.Laws.{by, told}
+use Rattle.text.proofs.Laws.{appends, told}
 use Rattle.text.proofs.single.Statement.{statement}
 use Rattle.text.proofs.single.Tie as tie
 
@@ -23,7 +23,7 @@ returns : tie.Need-returns
 unfolding singleWord
 returns c =
     let p1 = c .before .before in
-    told (by (p1 .puts .ensures)) (float-nan binary32 8 _ (c .before .before .before .before .before .if1 .taken))
+    told (appends (p1 .puts .ensures)) (float-nan binary32 8 _ (c .before .before .before .before .before .if1 .taken))
 
 bits-requires : tie.Need-bits-requires
 bits-requires c κs = search needs
@@ -37,7 +37,7 @@ returns-2 : tie.Need-returns-2
 unfolding singleWord
 returns-2 c =
     let p1 = c .before .before in
-    told (by (p1 .bits .ensures)) (float-zero binary32 8 _ (c .before .before .before .before .before .if1 .left)
+    told (appends (p1 .bits .ensures)) (float-zero binary32 8 _ (c .before .before .before .before .before .if1 .left)
     (c .before .before .before .before .if2 .taken))
 
 to-bits32-requires : tie.Need-to-bits32-requires
@@ -58,7 +58,7 @@ returns-3 : tie.Need-returns-3
 unfolding singleWord
 returns-3 c =
     let p1 = c .before .before in
-    told (by (p1 .bits2 .ensures)) (float-bits binary32 8 _ 4294967295
+    told (appends (p1 .bits2 .ensures)) (float-bits binary32 8 _ 4294967295
     (c .before .before .before .before .before .before .before .if1 .left)
     (c .before .before .before .before .before .before .if2 .left) (p1 .before .wide .ensures
     ∙ p1 .before .before .to-bits32 .ensures))

@@ -2,7 +2,7 @@
 use mathlib.Core.Path.{_∙_}
 use borrow.Author.Needs.{needs}
 use Rattle.transcript.proofs.Laws.{accepted, refused}
-use Rattle.text.proofs.Laws.{by, told, _⨾_}
+use Rattle.text.proofs.Laws.{appends, told, _⨾_}
 use Rattle.transcript.proofs.answer.Statement.{statement}
 use Rattle.transcript.proofs.answer.Tie as tie
 
@@ -33,8 +33,8 @@ returns c =
     let p3 = c .before .before in
     let p2 = p3 .before .before .before .before .before in
     let p1 = p2 .before .before .before .before .before .before in
-    (by (p1 .puts .ensures) ⨾ by (told (by (p2 .puts2 .ensures)) (accepted _ (p2 .before .before .before .if1 .taken)))
-    ⨾ by (p3 .puts3 .ensures)) .is
+    (appends (p1 .puts .ensures) ⨾ appends (told (appends (p2 .puts2 .ensures)) (accepted _ (p2 .before .before .before .if1 .taken)))
+    ⨾ appends (p3 .puts3 .ensures)) .is
 
 slice-aggregate-puts-3 : tie.Need-slice-aggregate-puts-3
 slice-aggregate-puts-3 c = search needs
@@ -65,9 +65,9 @@ returns-2 c =
     let p3 = p4 .before .before .before .before .before in
     let p2 = p3 .before .before .before .before in
     let p1 = p2 .before .before .before .before .before .before in
-    (by (p1 .puts .ensures)
-    ⨾ by (told (by (p2 .puts4 .ensures) ⨾ by (p3 .number .ensures)) (refused _ (p2 .before .before .before .if1 .left)))
-    ⨾ by (p4 .puts5 .ensures)) .is
+    (appends (p1 .puts .ensures)
+    ⨾ appends (told (appends (p2 .puts4 .ensures) ⨾ appends (p3 .number .ensures)) (refused _ (p2 .before .before .before .if1 .left)))
+    ⨾ appends (p4 .puts5 .ensures)) .is
 
 pub answer-spec : {M : Type 1} → statement M
 answer-spec =

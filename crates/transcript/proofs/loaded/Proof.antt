@@ -2,7 +2,7 @@
 use mathlib.Core.Path.{refl}
 use borrow.Author.Needs.{needs}
 use Rattle.laws.proofs.Picks.{cond-yes, cond-no}
-use Rattle.text.proofs.Laws.{by, told}
+use Rattle.text.proofs.Laws.{appends, told}
 use Rattle.transcript.proofs.loaded.Statement.{statement}
 use Rattle.transcript.proofs.loaded.Tie as tie
 
@@ -18,7 +18,7 @@ same-length c = search needs
 returns : tie.Need-returns
 returns c =
     let p = c .before .before in
-    told (by (p .puts .ensures)) (cond-yes _ _ _ _ (p .before .before .before .if1 .taken) refl)
+    told (appends (p .puts .ensures)) (cond-yes _ _ _ _ (p .before .before .before .if1 .taken) refl)
 
 slice-aggregate-puts-2 : tie.Need-slice-aggregate-puts-2
 slice-aggregate-puts-2 c = search needs
@@ -32,7 +32,7 @@ same-length-2 c = search needs
 returns-2 : tie.Need-returns-2
 returns-2 c =
     let p = c .before .before in
-    told (by (p .puts2 .ensures)) (cond-no _ _ _ _ (p .before .before .before .if1 .left) refl)
+    told (appends (p .puts2 .ensures)) (cond-no _ _ _ _ (p .before .before .before .if1 .left) refl)
 
 pub loaded-spec : {M : Type 1} → statement M
 loaded-spec =

@@ -9,7 +9,7 @@ use borrow.Author.Tests.{eq-eqb, ne-eqb, lt-ltb, le-ltb}
 use Rattle.laws.proofs.Picks.{cond-yes, cond-no}
 use Rattle.limits.specs.Limits.{maxClass, maxMessages}
 use Rattle.area.specs.Room.{queueRefusal}
-use Rattle.messages.specs.Messages.{total, withdrawnIn}
+use Rattle.messages.specs.Messages.{totalLeft, withdrawnIn}
 use Rattle.messages.specs.declared.Withdrawal.{Withdrawal}
 use Rattle.messages.proofs.Kept.{gone-within}
 use Rattle.verdicts.specs.Verdicts.{passed, takenBy, roomVerdict}
@@ -44,7 +44,7 @@ abbrev E : tie.After-queue-refusal → tie.Else2
 E r = G r .before
 
 refusal : (r : tie.After-queue-refusal) →
-    let a = S (E r) .args in r .queue-refusal .result ≡ queueRefusal (a .c .waiting - total (withdrawnIn (a .label) (a .n) (a .m))) (takenBy (a .c) (a .m)) (a .n)
+    let a = S (E r) .args in r .queue-refusal .result ≡ queueRefusal (a .c .waiting - totalLeft (withdrawnIn (a .label) (a .n) (a .m))) (takenBy (a .c) (a .m)) (a .n)
 refusal r =
     let a = S (E r) .args in
     r .queue-refusal .ensures ∙ ap (λ (x : Withdrawal). queueRefusal (a .c .waiting - x .bytes) (takenBy (a .c) (a .m)) (a .n)) (G r .superseded .ensures)

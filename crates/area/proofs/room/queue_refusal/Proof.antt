@@ -1,5 +1,5 @@
 -- `area::room::queue_refusal` meets its contract.
-use Rattle.area.proofs.room.Laws.{full, over, room}
+use Rattle.area.proofs.room.Laws.{full, over, room-enough}
 use mathlib.Core.Path.{sym}
 use Prim.Native.Nat.{_-_}
 use native.Mathlib.Omega.{arith}
@@ -26,7 +26,7 @@ returns-3 : tie.Need-returns-3
 returns-3 c = sym (over _ _ _ (omega arith) (omega arith))
 
 returns-4 : tie.Need-returns-4
-returns-4 c = sym (room _ _ _ (omega arith) (omega arith))
+returns-4 c = sym (room-enough _ _ _ (omega arith) (omega arith))
 
 pub queue-refusal-spec : {M : Type 1} → statement M
 queue-refusal-spec = tie.close (tie.spec returns cast-if2 returns-2 sub-if3 cast-if3 returns-3 returns-4)

@@ -1,5 +1,5 @@
 -- `writing::put_options`: the count and the groups. Assumes nothing.
-use Rattle.card.specs.Card.{optionsOf, wholes}
+use Rattle.card.specs.Card.{optionsOf, wholeNumbers}
 use Rattle.card.proofs.Puts.{counted, joins}
 use borrow.Author.Needs.{needs}
 use Rattle.card.proofs.writing.put_options.Statement.{statement}
@@ -27,7 +27,7 @@ same-length : tie.Need-same-length
 same-length c = search needs
 
 returns : tie.Need-returns
-unfolding optionsOf wholes
+unfolding optionsOf wholeNumbers
 returns c =
     let c6 = c .before .before .before .before .before .before in
     let c12 = c6 .before .before .before .before .before .before in

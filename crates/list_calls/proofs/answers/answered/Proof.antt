@@ -5,7 +5,7 @@ use Prim.Native.Nat.{ℕ}
 use borrow.Author.Needs.{needs}
 use borrow.Author.Tests.{not-true, not-false}
 use Rattle.transcript.specs.Answers.{answerLine}
-use Rattle.text.proofs.Laws.{by, told}
+use Rattle.text.proofs.Laws.{appends, told}
 use Rattle.list_calls.specs.Answers.{answered}
 use Rattle.list_calls.proofs.answers.answered.Statement.{statement}
 use Rattle.list_calls.proofs.answers.answered.Tie as tie
@@ -32,7 +32,7 @@ returns-2 c =
     let d = c .before .before .before .before .before in
     let a = d .before .before .before .before .args in
     rw (not-false (a .ok) (d .before .if1 .left))
-    (told (by (c .before .before .answer .ensures)) (ap (λ (w : List ℕ). answerLine w (a .refusal)) (d .least .ensures .1 .1)))
+    (told (appends (c .before .before .answer .ensures)) (ap (λ (w : List ℕ). answerLine w (a .refusal)) (d .least .ensures .1 .1)))
 
 pub answered-spec : {M : Type 1} → statement M
 answered-spec =

@@ -3,7 +3,7 @@ use mathlib.Core.Path.{refl}
 use borrow.Author.Needs.{needs}
 use borrow.Author.Tests.{eq-eqb, ne-eqb}
 use Rattle.laws.proofs.Picks.{cond-yes, cond-no}
-use Rattle.text.proofs.Laws.{by, told}
+use Rattle.text.proofs.Laws.{appends, told}
 use Rattle.list_calls.specs.Answers.{pieceAnswer}
 use Rattle.list_calls.proofs.answers.piece_text.Statement.{statement}
 use Rattle.list_calls.proofs.answers.piece_text.Tie as tie
@@ -20,7 +20,7 @@ same-length c = search needs
 returns : tie.Need-returns
 unfolding pieceAnswer
 returns c =
-    told (by (c .before .before .answer .ensures))
+    told (appends (c .before .before .answer .ensures))
     (cond-no _ _ _ _ (ne-eqb _ _ (c .before .before .before .before .before .if1 .taken)) refl)
 
 piece-requires : tie.Need-piece-requires
@@ -32,7 +32,7 @@ same-length-2 c = search needs
 returns-2 : tie.Need-returns-2
 unfolding pieceAnswer
 returns-2 c =
-    told (by (c .before .before .piece .ensures))
+    told (appends (c .before .before .piece .ensures))
     (cond-yes _ _ _ _ (eq-eqb _ _ (c .before .before .before .before .before .before .if1 .left))
     (cond-yes _ _ _ _ (c .before .before .before .before .if2 .taken) refl))
 
@@ -45,7 +45,7 @@ same-length-3 c = search needs
 returns-3 : tie.Need-returns-3
 unfolding pieceAnswer
 returns-3 c =
-    told (by (c .before .before .no-piece .ensures))
+    told (appends (c .before .before .no-piece .ensures))
     (cond-yes _ _ _ _ (eq-eqb _ _ (c .before .before .before .before .before .before .if1 .left))
     (cond-no _ _ _ _ (c .before .before .before .before .if2 .left) refl))
 

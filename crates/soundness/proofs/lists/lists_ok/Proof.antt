@@ -13,7 +13,7 @@ use Rattle.area.specs.Table.{rowsFrom}
 use Rattle.area_check.specs.Rows.{rowOffs, allFlying, heldBitsOk, noneListed}
 use Rattle.record.proofs.View.{Arrays}
 use Rattle.soundness.specs.Soundness.{listsOk}
-use Rattle.soundness.proofs.fields.Counts.{held-few, rest-few, sent-few, pieces-few}
+use Rattle.soundness.proofs.fields.Counts.{held-few, rest-few, sent-few, pieces-within}
 use borrow.Author.Needs.{needs, length-unmapped}
 use Rattle.soundness.proofs.lists.lists_ok.Statement.{statement}
 use Rattle.soundness.proofs.lists.lists_ok.Tie as tie
@@ -60,7 +60,7 @@ slice-aggregate-all-flying : tie.Need-slice-aggregate-all-flying
 slice-aggregate-all-flying c = let s = c .before .before .before .before .before .before .before .before .before .before .before in sym (length-take-le (s .args .s .«at_peer» .n) (s .args .s .«at_peer» .off) (omega (arith, arrays s .heldOff, held-few _ (s .pre .0))))
 
 all-flying-requires : tie.Need-all-flying-requires
-all-flying-requires c κs = let s = c .before .before .before .before .before .before .before .before .before .before .before in (pieces-few _ (s .pre .0), s .pre .1, s .pre .2)
+all-flying-requires c κs = let s = c .before .before .before .before .before .before .before .before .before .before .before in (pieces-within _ (s .pre .0), s .pre .1, s .pre .2)
 
 returns : tie.Need-returns
 unfolding listsOk all
@@ -86,7 +86,7 @@ slice-aggregate-all-flying-2 : tie.Need-slice-aggregate-all-flying-2
 slice-aggregate-all-flying-2 c = let s = c .before .before .before .before .before .before .before .before .before .before .before .before .before .before .before .before .before in sym (length-take-le (s .args .s .«last_burst» .n) (s .args .s .«last_burst» .off) (omega (arith, arrays s .sentOff, sent-few _ (s .pre .0))))
 
 all-flying-requires-2 : tie.Need-all-flying-requires-2
-all-flying-requires-2 c κs = let s = c .before .before .before .before .before .before .before .before .before .before .before .before .before .before .before .before .before in (pieces-few _ (s .pre .0), s .pre .1, s .pre .2)
+all-flying-requires-2 c κs = let s = c .before .before .before .before .before .before .before .before .before .before .before .before .before .before .before .before .before in (pieces-within _ (s .pre .0), s .pre .1, s .pre .2)
 
 returns-3 : tie.Need-returns-3
 unfolding listsOk all

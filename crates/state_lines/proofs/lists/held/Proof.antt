@@ -2,7 +2,7 @@
 use mathlib.Core.Path.{_∙_}
 use borrow.Author.Needs.{needs}
 use Rattle.state_lines.specs.State.{heldLine}
-use Rattle.text.proofs.Laws.{by, _⨾_}
+use Rattle.text.proofs.Laws.{appends, _⨾_}
 use Rattle.state_lines.proofs.lists.held.Statement.{statement}
 use Rattle.state_lines.proofs.lists.held.Tie as tie
 
@@ -50,8 +50,8 @@ returns c =
     let p3 = p4 .before .before .before .before .before .before in
     let p2 = p3 .before .before .before .before in
     let p1 = p2 .before .before .before .before in
-    (by (p1 .puts .ensures) ⨾ by (p2 .number .ensures) ⨾ by (p3 .number2 .ensures) ⨾ by (p4 .held-from .ensures)
-    ⨾ by (p5 .puts2 .ensures)) .is
+    (appends (p1 .puts .ensures) ⨾ appends (p2 .number .ensures) ⨾ appends (p3 .number2 .ensures) ⨾ appends (p4 .held-from .ensures)
+    ⨾ appends (p5 .puts2 .ensures)) .is
 
 pub held-spec : {M : Type 1} → statement M
 held-spec =

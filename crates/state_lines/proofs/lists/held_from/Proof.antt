@@ -8,7 +8,7 @@ use Rattle.state_lines.proofs.Laws.{held-more, held-over, held-over-off
 use Rattle.state_lines.specs.State.{heldWord}
 use Rattle.pieces.specs.Lists.{heldOf}
 use Rattle.text.specs.Buffer.{appended, each}
-use Rattle.text.proofs.Laws.{by, Left, whole, each-turn, each-end}
+use Rattle.text.proofs.Laws.{appends, Left, whole, each-turn, each-end}
 use Rattle.state_lines.proofs.lists.held_from.Statement.{statement}
 use Rattle.state_lines.proofs.lists.held_from.Tie as tie
 
@@ -68,7 +68,7 @@ loop-again c = let q = c .before .before in
     let p = l .before in
     let a = p .before .before .before .before .args in
     let more = held-more (a .off .now) (a .bits .now) (a .to) (p .loop .i) (l .loop-test .taken) (e .before .if1 .left) (e .if2 .left) in
-    (each-turn heldWord more (p .loop .inv .0) (by (q .entry .ensures)), q .entry .kept .0 ∙ p .loop .inv .1)
+    (each-turn heldWord more (p .loop .inv .0) (appends (q .entry .ensures)), q .entry .kept .0 ∙ p .loop .inv .1)
 
 same-length-3 : tie.Need-same-length-3 Inv-loop μ-loop
 same-length-3 c = c .before .loop .inv .1

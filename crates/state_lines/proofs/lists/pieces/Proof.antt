@@ -5,7 +5,7 @@ use borrow.Author.Needs.{needs}
 use Rattle.text.specs.Buffer.{each}
 use Rattle.area.specs.Table.{rowsFrom}
 use Rattle.state_lines.specs.State.{piecesLine, pieceWord}
-use Rattle.text.proofs.Laws.{by, told, _⨾_}
+use Rattle.text.proofs.Laws.{appends, told, _⨾_}
 use Rattle.state_lines.proofs.lists.pieces.Statement.{statement}
 use Rattle.state_lines.proofs.lists.pieces.Tie as tie
 
@@ -49,10 +49,10 @@ returns c =
     let p2 = p3 .before .before .before .before .before .before in
     let p1 = p2 .before .before .before .before in
     let a = p1 .before .before .before .before .before .args in
-    (by (p1 .puts .ensures) ⨾ by (p2 .number .ensures)
-    ⨾ by (told (by (p3 .rows .ensures)) (ap (λ (k : ℕ). each pieceWord (rowsFrom (a .area .now) 0 k)) (p3 .before .smaller .ensures
+    (appends (p1 .puts .ensures) ⨾ appends (p2 .number .ensures)
+    ⨾ appends (told (appends (p3 .rows .ensures)) (ap (λ (k : ℕ). each pieceWord (rowsFrom (a .area .now) 0 k)) (p3 .before .smaller .ensures
     ∙ ap (min (a .count)) (p3 .before .before .rows-in .ensures))))
-    ⨾ by (p4 .puts2 .ensures)) .is
+    ⨾ appends (p4 .puts2 .ensures)) .is
 
 pub pieces-spec : {M : Type 1} → statement M
 pieces-spec =

@@ -6,7 +6,7 @@ use borrow.Author.Needs.{needs}
 use Rattle.text.specs.Buffer.{each}
 use Rattle.state_lines.specs.State.{heldWord, restLine}
 use Rattle.record.specs.View.{heldIn}
-use Rattle.text.proofs.Laws.{by, told, _⨾_}
+use Rattle.text.proofs.Laws.{appends, told, _⨾_}
 use Rattle.state_lines.proofs.lists.rest.Statement.{statement}
 use Rattle.state_lines.proofs.lists.rest.Tie as tie
 
@@ -53,9 +53,9 @@ returns c =
     let p2 = p3 .before .before .before .before .before .before .before in
     let p1 = p2 .before .before .before .before in
     let h = p1 .before .before .before .before .before .before .args .h in
-    (by (p1 .puts .ensures) ⨾ by (p2 .number .ensures)
-    ⨾ by (told (by (p3 .held-from .ensures)) (ap (λ (k : ℕ). each heldWord (drop k (heldIn h))) (p3 .before .less .ensures)))
-    ⨾ by (p4 .puts2 .ensures)) .is
+    (appends (p1 .puts .ensures) ⨾ appends (p2 .number .ensures)
+    ⨾ appends (told (appends (p3 .held-from .ensures)) (ap (λ (k : ℕ). each heldWord (drop k (heldIn h))) (p3 .before .less .ensures)))
+    ⨾ appends (p4 .puts2 .ensures)) .is
 
 pub rest-spec : {M : Type 1} → statement M
 rest-spec =

@@ -2,7 +2,7 @@
 use mathlib.Core.Path.{ap₂}
 use borrow.Author.Needs.{needs}
 use Rattle.state_lines.specs.State.{entry}
-use Rattle.text.proofs.Laws.{by, told}
+use Rattle.text.proofs.Laws.{appends, told}
 use Rattle.state_lines.proofs.lists.row.Statement.{statement}
 use Rattle.state_lines.proofs.lists.row.Tie as tie
 
@@ -29,7 +29,7 @@ same-length c = c .before .before .entry .kept .0
 
 returns : tie.Need-returns
 returns c = let q = c .before .before in
-    told (by (q .entry .ensures)) (ap₂ entry (q .before .before .load32 .ensures) (q .before .load322 .ensures))
+    told (appends (q .entry .ensures)) (ap₂ entry (q .before .before .load32 .ensures) (q .before .load322 .ensures))
 
 pub row-spec : {M : Type 1} → statement M
 row-spec =

@@ -8,7 +8,7 @@ use Rattle.state_lines.specs.State.{pieceWord}
 use Rattle.text.specs.Buffer.{appended, each}
 use Rattle.area.proofs.table.Laws.{rows-turn, rows-none}
 use Rattle.area.specs.Table.{rowsFrom}
-use Rattle.text.proofs.Laws.{by, Left, start, each-turn, each-end}
+use Rattle.text.proofs.Laws.{appends, Left, start, each-turn, each-end}
 use Rattle.state_lines.proofs.lists.rows.Statement.{statement}
 use Rattle.state_lines.proofs.lists.rows.Tie as tie
 
@@ -41,7 +41,7 @@ loop-again c = let q = c .before .before in
     let a = p .before .before .before .args in (
       omega arith,
       each-turn pieceWord (rows-turn (a .area .now) (p .loop .i) (a .count) _ (l .loop-test .taken) refl) (p .loop .inv .1)
-          (by (q .row .ensures)),
+          (appends (q .row .ensures)),
       q .row .kept .0
           ∙ p .loop .inv .2,
     )

@@ -8,7 +8,7 @@ use Rattle.state_lines.proofs.Laws.{sent-more, sent-over, sent-over-off
 use Rattle.state_lines.specs.State.{sentWord}
 use Rattle.pieces.specs.Lists.{sentOf}
 use Rattle.text.specs.Buffer.{appended, each}
-use Rattle.text.proofs.Laws.{by, Left, whole, each-turn, each-end}
+use Rattle.text.proofs.Laws.{appends, Left, whole, each-turn, each-end}
 use Rattle.state_lines.proofs.lists.sent_frames.Statement.{statement}
 use Rattle.state_lines.proofs.lists.sent_frames.Tie as tie
 
@@ -83,7 +83,7 @@ loop-again c = let q = c .before .before in
     let a = p .before .before .before .before .before .args in
     let more = sent-more (a .off .now) (a .bits .now) (a .held .now) (a .to) (p .loop .i) (l .loop-test .taken)
     (e .before .before .if1 .left) (e .before .if2 .left) (e .if3 .left) in
-    (each-turn sentWord more (p .loop .inv .0) (by (q .long-entry .ensures)), q .long-entry .kept .0 ∙ p .loop .inv .1)
+    (each-turn sentWord more (p .loop .inv .0) (appends (q .long-entry .ensures)), q .long-entry .kept .0 ∙ p .loop .inv .1)
 
 same-length-4 : tie.Need-same-length-4 Inv-loop μ-loop
 same-length-4 c = c .before .loop .inv .1

@@ -5,7 +5,7 @@ use borrow.Author.Needs.{needs}
 use Rattle.text.specs.Buffer.{each}
 use Rattle.messages.specs.Messages.{entriesFrom}
 use Rattle.state_lines.specs.Queue.{messagesLine, messageWord}
-use Rattle.text.proofs.Laws.{by, told, _⨾_}
+use Rattle.text.proofs.Laws.{appends, told, _⨾_}
 use Rattle.state_lines.proofs.queue.messages.Statement.{statement}
 use Rattle.state_lines.proofs.queue.messages.Tie as tie
 
@@ -59,9 +59,9 @@ returns c =
     let p2 = p3 .before .before .before .before .before .before in
     let p1 = p2 .before .before .before .before in
     let m = p1 .before .before .before .before .args .m in
-    (by (p1 .puts .ensures) ⨾ by (p2 .number .ensures) ⨾ by (p3 .flag .ensures) ⨾ by (p4 .number2 .ensures)
-    ⨾ by (told (by (p5 .rows .ensures)) (ap (λ (k : ℕ). each messageWord (entriesFrom m 0 k)) (p5 .before .smaller .ensures)))
-    ⨾ by (p6 .puts2 .ensures)) .is
+    (appends (p1 .puts .ensures) ⨾ appends (p2 .number .ensures) ⨾ appends (p3 .flag .ensures) ⨾ appends (p4 .number2 .ensures)
+    ⨾ appends (told (appends (p5 .rows .ensures)) (ap (λ (k : ℕ). each messageWord (entriesFrom m 0 k)) (p5 .before .smaller .ensures)))
+    ⨾ appends (p6 .puts2 .ensures)) .is
 
 pub messages-spec : {M : Type 1} → statement M
 messages-spec =

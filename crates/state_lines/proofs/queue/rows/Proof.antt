@@ -8,7 +8,7 @@ use Rattle.state_lines.specs.Queue.{messageWord}
 use Rattle.text.specs.Buffer.{appended, each}
 use Rattle.messages.specs.Messages.{entriesFrom}
 use Rattle.messages.proofs.Entries.{entries-step, entries-none}
-use Rattle.text.proofs.Laws.{by, Left, start, each-turn, each-end}
+use Rattle.text.proofs.Laws.{appends, Left, start, each-turn, each-end}
 use Rattle.state_lines.proofs.queue.rows.Statement.{statement}
 use Rattle.state_lines.proofs.queue.rows.Tie as tie
 
@@ -40,7 +40,7 @@ loop-again c = let q = c .before .before in
     let p = l .before in
     let a = p .before .before .args in (
       omega arith,
-      each-turn messageWord (entries-step (a .m) (p .loop .i) (a .count) (l .loop-test .taken)) (p .loop .inv .1) (by (q .row .ensures)),
+      each-turn messageWord (entries-step (a .m) (p .loop .i) (a .count) (l .loop-test .taken)) (p .loop .inv .1) (appends (q .row .ensures)),
       q .row .kept .0
           ∙ p .loop .inv .2,
     )

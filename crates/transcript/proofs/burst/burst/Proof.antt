@@ -6,7 +6,7 @@ use borrow.Author.Needs.{needs}
 use Rattle.laws.specs.Span.{upto}
 use Rattle.text.specs.Buffer.{each}
 use Rattle.transcript.specs.Answers.{burstLines, frameEntry}
-use Rattle.text.proofs.Laws.{by, told, _⨾_}
+use Rattle.text.proofs.Laws.{appends, told, _⨾_}
 use Rattle.transcript.proofs.burst.burst.Statement.{statement}
 use Rattle.transcript.proofs.burst.burst.Tie as tie
 
@@ -31,8 +31,8 @@ returns c =
     let b = a .b in
     let h = p2 .before .before .if1 .taken in
     let e : b .frames .n ≡ min (b .frames .n) 64 = omega arith in
-    (by (p1 .line .ensures)
-    ⨾ by (told (by (p2 .frames .ensures)) (ap (λ (k : ℕ). each (frameEntry (b .frames) (a .size) (a .out .now)) (upto 0 k)) e))) .is
+    (appends (p1 .line .ensures)
+    ⨾ appends (told (appends (p2 .frames .ensures)) (ap (λ (k : ℕ). each (frameEntry (b .frames) (a .size) (a .out .now)) (upto 0 k)) e))) .is
 
 frames-requires-2 : tie.Need-frames-requires-2
 frames-requires-2 c κs = search needs
@@ -52,8 +52,8 @@ returns-2 c =
     let b = a .b in
     let h = p2 .before .before .if1 .left in
     let e : 64 ≡ min (b .frames .n) 64 = omega arith in
-    (by (p1 .line .ensures)
-    ⨾ by (told (by (p2 .frames2 .ensures)) (ap (λ (k : ℕ). each (frameEntry (b .frames) (a .size) (a .out .now)) (upto 0 k)) e))) .is
+    (appends (p1 .line .ensures)
+    ⨾ appends (told (appends (p2 .frames2 .ensures)) (ap (λ (k : ℕ). each (frameEntry (b .frames) (a .size) (a .out .now)) (upto 0 k)) e))) .is
 
 pub burst-spec : {M : Type 1} → statement M
 burst-spec =

@@ -1,7 +1,7 @@
 -- `transcript::burst::frame` meets its contract.
 use mathlib.Core.Path.{_∙_}
 use borrow.Author.Needs.{needs}
-use Rattle.text.proofs.Laws.{by, _⨾_}
+use Rattle.text.proofs.Laws.{appends, _⨾_}
 use Rattle.transcript.proofs.burst.frame.Statement.{statement}
 use Rattle.transcript.proofs.burst.frame.Tie as tie
 
@@ -53,8 +53,8 @@ returns c =
     let p3 = p4 .before .before .before .before in
     let p2 = p3 .before .before .before .before in
     let p1 = p2 .before .before .before .before in
-    (by (p1 .puts .ensures) ⨾ by (p2 .number .ensures) ⨾ by (p3 .number2 .ensures) ⨾ by (p4 .number3 .ensures) ⨾ by (p5 .number4 .ensures)
-    ⨾ by (p6 .hex .ensures) ⨾ by (p7 .puts2 .ensures)) .is
+    (appends (p1 .puts .ensures) ⨾ appends (p2 .number .ensures) ⨾ appends (p3 .number2 .ensures) ⨾ appends (p4 .number3 .ensures) ⨾ appends (p5 .number4 .ensures)
+    ⨾ appends (p6 .hex .ensures) ⨾ appends (p7 .puts2 .ensures)) .is
 
 pub frame-spec : {M : Type 1} → statement M
 frame-spec =

@@ -10,7 +10,7 @@ use Rattle.transcript.specs.Answers.{frameEntry, frameLine}
 use Rattle.text.specs.Buffer.{appended, each}
 use Rattle.laws.proofs.Span.{upto-more, upto-none}
 use Rattle.laws.specs.Span.{upto}
-use Rattle.text.proofs.Laws.{by, told, Left, whole, each-turn, each-end}
+use Rattle.text.proofs.Laws.{appends, told, Left, whole, each-turn, each-end}
 use Rattle.transcript.proofs.burst.frames.Statement.{statement}
 use Rattle.transcript.proofs.burst.frames.Tie as tie
 
@@ -86,7 +86,7 @@ loop-again c = let q = c .before .before in
     let v = p .loop .inv in
     let bytes = frame-bytes out from (a .size) (a .size * i) to (v .1) (v .2) (z .end-of .ensures) in
     let turn = each-turn (frameEntry (a .t3) (a .size) out) (upto-more i (a .count) (l .loop-test .taken)) (v .3)
-    (by (told (by (q .frame .ensures)) (ap (frameLine _ _ _ _) bytes))) in (
+    (appends (told (appends (q .frame .ensures)) (ap (frameLine _ _ _ _) bytes))) in (
       omega arith,
       omega (arith, z .end-of .ensures),
       frame-next out from (a .size) (a .size * i) to (v .1) (v .2) (z .end-of .ensures)

@@ -8,7 +8,7 @@ use Rattle.transcript.specs.Answers.{levelEntry}
 use Rattle.text.specs.Buffer.{appended, each}
 use Rattle.laws.proofs.Span.{upto-more, upto-none}
 use Rattle.laws.specs.Span.{upto}
-use Rattle.text.proofs.Laws.{by, Left, whole, each-turn, each-end}
+use Rattle.text.proofs.Laws.{appends, Left, whole, each-turn, each-end}
 use Rattle.transcript.proofs.reached.entries.Statement.{statement}
 use Rattle.transcript.proofs.reached.entries.Tie as tie
 
@@ -44,7 +44,7 @@ loop-again c = let q = c .before .before in
     let p = l .before in
     let a = p .before .before .args in (
       omega arith,
-      each-turn (levelEntry (a .t3)) (upto-more (p .loop .i) (a .count) (l .loop-test .taken)) (p .loop .inv .1) (by (q .entry .ensures)),
+      each-turn (levelEntry (a .t3)) (upto-more (p .loop .i) (a .count) (l .loop-test .taken)) (p .loop .inv .1) (appends (q .entry .ensures)),
       q .entry .kept .0
           ∙ p .loop .inv .2,
     )

@@ -5,7 +5,7 @@ use borrow.Author.Needs.{needs}
 use Rattle.laws.specs.Span.{upto}
 use Rattle.text.specs.Buffer.{each}
 use Rattle.transcript.specs.Answers.{levelEntry, levelsLine}
-use Rattle.text.proofs.Laws.{by, told, _⨾_}
+use Rattle.text.proofs.Laws.{appends, told, _⨾_}
 use Rattle.transcript.proofs.reached.levels.Statement.{statement}
 use Rattle.transcript.proofs.reached.levels.Tie as tie
 
@@ -41,9 +41,9 @@ returns c =
     let p2 = p3 .before .before .before .before .before in
     let p1 = p2 .before .before .before .before .before in
     let found = p1 .before .before .before .before .args .found in
-    (by (p1 .puts .ensures) ⨾ by (told (by (p2 .entries .ensures))
+    (appends (p1 .puts .ensures) ⨾ appends (told (appends (p2 .entries .ensures))
     (ap (λ (k : ℕ). each (levelEntry found) (upto 0 k)) (p2 .before .smaller .ensures)))
-    ⨾ by (p3 .puts2 .ensures)) .is
+    ⨾ appends (p3 .puts2 .ensures)) .is
 
 pub levels-spec : {M : Type 1} → statement M
 levels-spec =
