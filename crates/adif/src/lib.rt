@@ -1,4 +1,6 @@
 // A finished link as one ADIF 3 record (document 02, Change 13).
+#![tactic(auto)]
+
 ghost use Rattle.std.specs.Prelude.{◌≡◌, [], ◌∷◌, ◌+◌, ◌≤◌, length};
 ghost use Rattle.laws.specs.Bytes.{overwrite};
 ghost use Rattle.adif.specs.Adif.{last_digits, digit_count, numeral, date_text, time_text, written, record_of};
@@ -13,7 +15,7 @@ const LAST_SECOND: u64 = 4102444799;
 
 // What a call answers: 0 and the characters written, or the refusal's number and 0.
 #[repr(C)]
-#[derive(Drop)]
+#[derive(Clone, Copy)]
 pub struct Logged {
     pub refusal: u8,
     pub len: usize,

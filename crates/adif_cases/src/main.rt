@@ -1,5 +1,7 @@
 // Runs seconds through calendar and links through adif, one line a case. `stdout` holds what `reckon.py` makes of the same cases by
 // Python's own calendar, with nothing of this code.
+#![tactic(auto)]
+
 ghost use Rattle.std.specs.Prelude.{◌≤◌};
 
 use adif::log_link;

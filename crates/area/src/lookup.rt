@@ -9,7 +9,7 @@ ghost use Rattle.area.specs.FindCode.{bytes_at};
 use crate::table::load_row;
 
 // Whether there is a piece, and where its bytes lie in the stream.
-#[derive(Drop)]
+#[derive(Clone, Copy)]
 pub struct Found {
     pub here: bool,
     pub start: usize,

@@ -84,7 +84,7 @@ fn move_piece(a: &mut [u8], i: usize, w: usize, from: usize, to: usize, r: Row)
 }
 
 // How many rows stay, and how many bytes they have.
-#[derive(Drop)]
+#[derive(Clone, Copy)]
 pub struct Kept {
     pub rows: usize,
     pub bytes: usize,

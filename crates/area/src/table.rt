@@ -11,7 +11,7 @@ use limits::STREAM_BYTES;
 const ROW_BYTES: usize = 8;
 
 // A piece in flight: its offset, and how many bytes it has.
-#[derive(Drop)]
+#[derive(Clone, Copy)]
 pub struct Row {
     pub off: u32,
     pub len: u32,

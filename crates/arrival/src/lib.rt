@@ -1,1 +1,2 @@
 // A sender and a listening box over a channel that loses: definitions and proofs, no code.
+#![tactic(auto)]

@@ -1,5 +1,7 @@
 // The lines of a call list that ask the sender or show something (docs/CALLS.md, Calls), by the run of the list: what is to do about a
 // line, and how much of the work area and of the output is lent.
+#![tactic(auto)]
+
 ghost use Rattle.std.specs.Prelude.{◌≡◌};
 ghost use Rattle.run_lines.specs.RunLines.{zeros};
 ghost use Rattle.asked_lines.specs.AskedLines.{sender_left, done_said, line_call, shown_said, showed_of, asked_out, asked_of, called_of};

@@ -1,4 +1,6 @@
 // What bench/ measures, as functions for C: a slice is a pointer and a length.
+#![tactic(auto)]
+
 ghost use Rattle.std.specs.Prelude.{◌≡◌, ◌*◌, ◌≤◌, length};
 ghost use Rattle.frame.specs.V42.{fcs, number};
 ghost use Rattle.frame.specs.Frame.{max_payload};

@@ -1,4 +1,6 @@
 // What bench/area.c measures of the work area, as functions for C: a slice is a pointer and a length.
+#![tactic(auto)]
+
 ghost use Rattle.std.specs.Prelude.{◌≡◌, ◌≤◌, length};
 ghost use Rattle.area.specs.Layout.{area_bytes, stream_bytes};
 ghost use Rattle.area.specs.Table.{rows_from, total};

@@ -1,4 +1,6 @@
 // What bench/ measures of the gear, as a function for C.
+#![tactic(auto)]
+
 ghost use Rattle.std.specs.Prelude.{◌≡◌};
 ghost use Rattle.bench_gear.specs.Acks.{tried, acks};
 

@@ -1,6 +1,8 @@
 // The box of a call list (docs/CALLS.md, The box): the lines that ask it, each read, its call made and its answer put into the transcript's
 // buffer t, of which n bytes are used. Lent beside it: its window w, the bytes h of the frames heard for the next reception, and the last
 // burst's frames `sent`.
+#![tactic(auto)]
+
 ghost use Rattle.std.specs.Prelude.{◌≡◌, false, ◌+◌, ◌*◌, ◌≤◌, ◌<◌, min, leb, length, take};
 ghost use Rattle.laws.specs.Bytes.{overwrite};
 ghost use Rattle.box_calls.specs.BoxCalls.{most_heard, most_bytes, burst_frame_bytes, most_places, fresh_box, box_left, keep_frame};
@@ -31,7 +33,7 @@ const OUT_BYTES: usize = 32768;
 
 // What a box keeps between lines: its record, how many places of its window are lent; of the frames heard the lengths, the slot numbers,
 // how many they are, and how many bytes they have; the last burst's number, frames and frame size; its last answer, where it has answered.
-#[derive(Drop)]
+#[derive(Clone, Copy)]
 pub struct Box {
     pub receiver: Receiver,
     pub lent: usize,
@@ -47,7 +49,7 @@ pub struct Box {
 }
 
 // What a line left: whether it was right, what is used of the transcript's buffer, and the box.
-#[derive(Drop)]
+#[derive(Clone, Copy)]
 pub struct BoxLeft {
     pub ok: bool,
     pub text: usize,

@@ -1,5 +1,7 @@
 // The lines of a call list that are the box's (docs/CALLS.md): their words read, and their answers put into a lent buffer of which n bytes
 // are used.
+#![tactic(auto)]
+
 ghost use Rattle.std.specs.Prelude.{◌≡◌, ◌++◌, ◌≤◌, min, length};
 ghost use Rattle.laws.specs.Bytes.{overwrite};
 ghost use Rattle.text.specs.Buffer.{appended};
@@ -18,7 +20,7 @@ use words::{Read, done, hex, whole};
 const PLACES: usize = 32768;
 
 // A frame's line: its slot number, how many bytes it has, and whether the line was right.
-#[derive(Drop)]
+#[derive(Clone, Copy)]
 pub struct HeardLine {
     pub slot: u8,
     pub len: usize,
@@ -41,7 +43,7 @@ pub fn heard_words(line: &[u8], r: Read, bytes: &mut [u8]) -> HeardLine
 }
 
 // A reception's line: the burst's number, the dB byte to answer, and whether the line was right.
-#[derive(Drop)]
+#[derive(Clone, Copy)]
 pub struct ReceptionLine {
     pub number: u8,
     pub db: u8,
@@ -62,7 +64,7 @@ pub fn reception_words(line: &[u8], r: Read) -> ReceptionLine
 }
 
 // The places that a line names: the dB byte to answer, how many there are, and whether the line was right.
-#[derive(Drop)]
+#[derive(Clone, Copy)]
 pub struct PlacesLine {
     pub db: u8,
     pub n: usize,
@@ -70,7 +72,7 @@ pub struct PlacesLine {
 }
 
 // How many places stand behind what was read, and whether the line ends there.
-#[derive(Drop)]
+#[derive(Clone, Copy)]
 pub struct PlacesRead {
     pub n: usize,
     pub ok: bool,

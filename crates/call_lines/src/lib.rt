@@ -1,4 +1,6 @@
 // A call's line, read: the words after its name become the call's arguments (docs/CALLS.md, Calls).
+#![tactic(auto)]
+
 ghost use Rattle.std.specs.Prelude.{◌≡◌, cond, min, ◌%◌, ◌≤◌, length};
 ghost use Rattle.words.specs.Words.{hex_into};
 ghost use Rattle.words.specs.Lines.{chars_of, next_word};
@@ -18,14 +20,14 @@ use words::{Read, done, double, flag, hex, none, single, whole};
 pub mod names;
 
 // A reply's time, wave and dB measured here, and how far its line was read.
-#[derive(Drop)]
+#[derive(Clone, Copy)]
 pub struct Hearing {
     pub heard: Heard,
     pub read: Read,
 }
 
 // A short ack's line, and whether it was right.
-#[derive(Drop)]
+#[derive(Clone, Copy)]
 pub struct ShortLine {
     pub heard: Heard,
     pub reply: Ack,
@@ -57,7 +59,7 @@ fn heard_first(line: &[u8], r: Read) -> Hearing
 }
 
 // ECHO, DOPPLER and SLOT.
-#[derive(Drop)]
+#[derive(Clone, Copy)]
 pub struct ClassWords {
     pub class: ChanClass,
     pub slot: u8,
@@ -81,7 +83,7 @@ fn class_words(line: &[u8], r: Read) -> ClassWords
 }
 
 // WANT_TURN, WANT_DISC and STORED.
-#[derive(Drop)]
+#[derive(Clone, Copy)]
 pub struct WishWords {
     pub turn: bool,
     pub disc: bool,
@@ -104,7 +106,7 @@ fn wish_words(line: &[u8], r: Read) -> WishWords
 }
 
 // BURST, BITMAP and DB.
-#[derive(Drop)]
+#[derive(Clone, Copy)]
 pub struct BurstWords {
     pub burst: u8,
     pub bitmap: u8,
@@ -127,7 +129,7 @@ fn burst_words(line: &[u8], r: Read) -> BurstWords
 }
 
 // A connect answer's line, and whether it was right.
-#[derive(Drop)]
+#[derive(Clone, Copy)]
 pub struct ConnectLine {
     pub heard: Heard,
     pub reply: ConnAck,
@@ -183,7 +185,7 @@ pub fn short_words(line: &[u8], r: Read) -> ShortLine
 }
 
 // A turn's line, and whether it was right.
-#[derive(Drop)]
+#[derive(Clone, Copy)]
 pub struct TurnLine {
     pub heard: Heard,
     pub reply: Turn,
@@ -209,7 +211,7 @@ pub fn turn_words(line: &[u8], r: Read) -> TurnLine
 }
 
 // A long ack's line: the reply, how many bytes its payload has, and whether the line was right. The payload is put at the start of `bytes`.
-#[derive(Drop)]
+#[derive(Clone, Copy)]
 pub struct LongLine {
     pub heard: Heard,
     pub reply: LongAck,
@@ -262,7 +264,7 @@ fn placed(q: Reception, i: usize, kind: u8, flags: u8, len: u32) -> Reception
 }
 
 // The frames that were read so far: how far the line was read, what they are, and how many bytes their payloads have.
-#[derive(Drop)]
+#[derive(Clone, Copy)]
 pub struct FrameWords {
     pub read: Read,
     pub reception: Reception,
@@ -303,7 +305,7 @@ fn frame_words(line: &[u8], i: usize, g: FrameWords, bytes: &mut [u8]) -> FrameW
 
 // A reception's line: its frames, how many bytes their payloads have, and whether the line was right. The payloads are put at the start of
 // `bytes`, back to back.
-#[derive(Drop)]
+#[derive(Clone, Copy)]
 pub struct FramesLine {
     pub heard: Heard,
     pub reception: Reception,
@@ -373,7 +375,7 @@ fn label_of(labelled: bool, n: u64) -> u16
 }
 
 // A queuing's line: how many bytes it has, their class and label, and whether the line was right. The bytes are put at the start of `bytes`.
-#[derive(Drop)]
+#[derive(Clone, Copy)]
 pub struct QueueLine {
     pub len: usize,
     pub class: u8,
@@ -399,7 +401,7 @@ pub fn queue_words(line: &[u8], r: Read, bytes: &mut [u8]) -> QueueLine
 }
 
 // A finished link's line: how many bytes its call sign has, its seconds and its count, and whether the line was right.
-#[derive(Drop)]
+#[derive(Clone, Copy)]
 pub struct LinkLine {
     pub call: usize,
     pub start: u64,
@@ -426,7 +428,7 @@ pub fn link_words(line: &[u8], r: Read, bytes: &mut [u8]) -> LinkLine
 }
 
 // A line about a range of reports: the channel's class, the lowest and the highest, and whether it was right.
-#[derive(Drop)]
+#[derive(Clone, Copy)]
 pub struct RangeLine {
     pub class: ChanClass,
     pub low: u8,

@@ -38,7 +38,7 @@ pub const CARD: u8 = 14;
 pub const FRAMES: u8 = 15;
 
 // A line's call, and how far the line was read.
-#[derive(Drop)]
+#[derive(Clone, Copy)]
 pub struct Named {
     pub call: u8,
     pub read: Read,

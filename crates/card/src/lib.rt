@@ -1,4 +1,6 @@
 // Station settings on a card: a profile as a file, and a file as a profile (document 02, Change 3).
+#![tactic(auto)]
+
 mod reading;
 mod rows;
 mod writing;
@@ -14,7 +16,7 @@ pub const CARD_BYTES: usize = 751;
 
 // What reading a file gives: 0 or the refusal; the profile, where it is refused the one handed in; and whether harq_stretch, which is
 // retired, was on in a file that is taken.
-#[derive(Drop)]
+#[derive(Clone, Copy)]
 pub struct Found {
     pub refusal: u8,
     pub profile: Profile,
@@ -23,7 +25,7 @@ pub struct Found {
 
 // The same without the profile.
 #[repr(C)]
-#[derive(Drop)]
+#[derive(Clone, Copy)]
 pub struct CardAnswer {
     pub refusal: u8,
     pub stretched: bool,

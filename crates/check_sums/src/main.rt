@@ -2,6 +2,8 @@
 // The rule: the ones complement of the sum modulo 2 of the remainders of x^k (x^31 + .. + 1), k the number of bits, and of x^32 times the
 // bits, divided by the generator. A polynomial is an array of coefficients, 0 or 1, the highest power's first.
 // The values in the file stdout were reckoned apart from this program, by the function crc32 of Python's zlib, from frames laid out there anew.
+#![tactic(auto)]
+
 ghost use Rattle.std.specs.Prelude.{◌≡◌, ◌+◌, ◌*◌, ◌≤◌, ◌<◌, length};
 ghost use Rattle.frame.specs.Table.{table_of};
 ghost use Rattle.frame.specs.Frame.{max_payload};

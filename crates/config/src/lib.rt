@@ -1,4 +1,6 @@
 // config.rs: the profile of a sender, and what stands in for the Air of station.rs.
+#![tactic(auto)]
+
 ghost use Rattle.std.specs.Prelude.{◌≡◌, ◌*◌, ◌<◌};
 ghost use Rattle.config.specs.Durations.{slot_at, frame_bits, max_bits_at, duration_at, ack_at, data_at, frame_bytes};
 ghost use Rattle.config.specs.Entries.{entry_at};
@@ -9,7 +11,7 @@ pub mod ranges;
 
 // An optional dB value: a flag beside it.
 #[repr(C)]
-#[derive(Drop)]
+#[derive(Clone, Copy)]
 pub struct MaybeDb {
     pub set: bool,
     pub db: f32,
@@ -17,7 +19,7 @@ pub struct MaybeDb {
 
 // An optional level.
 #[repr(C)]
-#[derive(Drop)]
+#[derive(Clone, Copy)]
 pub struct MaybeLevel {
     pub set: bool,
     pub level: usize,
@@ -26,7 +28,7 @@ pub struct MaybeLevel {
 // The air: per level the coded bits of a frame, and pre_s + bits / rate seconds for a burst of at most max_bits; per wave the
 // seconds of a short ack; and those of a cue.
 #[repr(C)]
-#[derive(Drop)]
+#[derive(Clone, Copy)]
 pub struct Air {
     pub slot_bits: [u32; 17],
     pub pre_s: [f64; 17],
@@ -39,7 +41,7 @@ pub struct Air {
 // Gear-shift thresholds for each level, and the margin wanted above them: thresholds_db with margin_db, or eff_thresholds_db
 // with eff_margin_db.
 #[repr(C)]
-#[derive(Drop)]
+#[derive(Clone, Copy)]
 pub struct Marks {
     pub thresholds_db: [f32; 17],
     pub margin_db: f32,
@@ -47,7 +49,7 @@ pub struct Marks {
 
 // The length of bursts.
 #[repr(C)]
-#[derive(Drop)]
+#[derive(Clone, Copy)]
 pub struct Lengths {
     pub max_burst_s: f64,
     pub max_burst_long_s: f64,
@@ -60,7 +62,7 @@ pub struct Lengths {
 
 // How long a level is held off.
 #[repr(C)]
-#[derive(Drop)]
+#[derive(Clone, Copy)]
 pub struct HoldTimes {
     pub fail_hold_s: f64,
     pub fail_hold_max_s: f64,
@@ -69,7 +71,7 @@ pub struct HoldTimes {
 
 // The Config values that the sender uses, and the bodies that the files lack.
 #[repr(C)]
-#[derive(Drop)]
+#[derive(Clone, Copy)]
 pub struct Profile {
     pub air: Air,
     pub short_bytes: u32,

@@ -11,7 +11,7 @@ use outgoing::Outgoing;
 use record::Sender;
 
 // The answer of a burst and the next record.
-#[derive(Drop)]
+#[derive(Clone, Copy)]
 pub struct Burst {
     pub outgoing: Outgoing,
     pub next: Sender,

@@ -19,7 +19,7 @@ use plan::{Choice, Planned, plan};
 use record::{AtPeer, Counts, LastBurst, Sender};
 
 // The burst's frames and its plan, and the next record.
-#[derive(Drop)]
+#[derive(Clone, Copy)]
 pub struct Sending {
     pub slots: Slots,
     pub plan: Planned,

@@ -1,4 +1,6 @@
 // The default profile: the values of Config::new, document 01's reckoned harq numbers, and a plausible radio.
+#![tactic(auto)]
+
 ghost use Rattle.std.specs.Prelude.{◌≡◌};
 ghost use Rattle.defaults.specs.Default.{new_air, new_harq, new_lengths, new_profile};
 

@@ -1,4 +1,6 @@
 // Document 01's exp, for f64 and f32; f64 to f32; and holds.
+#![tactic(auto)]
+
 ghost use Rattle.std.specs.Prelude.{◌≡◌, T, pos, negsuc, int_le};
 ghost use Rattle.std.specs.Float.Ieee.{neg, to_signed};
 ghost use Rattle.ieee.specs.Range.{In, w64};

@@ -1,1 +1,2 @@
 // Laws about the definitions of exp: the bounds of E, of narrowing and of holds. The crate has no code.
+#![tactic(auto)]

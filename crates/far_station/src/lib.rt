@@ -1,1 +1,2 @@
 // What a far station cannot force: definitions and proofs, no code.
+#![tactic(auto)]

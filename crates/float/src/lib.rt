@@ -1,4 +1,5 @@
 // Rust's methods on f32 and f64 that pick, and the gear's own numbers.
+#![tactic(auto)]
 
 pub mod order;
 pub mod whole;

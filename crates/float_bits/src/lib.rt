@@ -1,4 +1,6 @@
 // Floats by their bits (IEEE 754-2019, 3.4); every NaN's pattern means NaN.
+#![tactic(auto)]
+
 ghost use Rattle.std.specs.Prelude.{cond, ◌≡◌};
 ghost use Rattle.std.specs.Float.{binary32, binary64};
 ghost use Rattle.std.specs.Float.Ieee.{of_bits, to_bits, ne};

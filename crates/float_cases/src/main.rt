@@ -1,6 +1,7 @@
 // Runs numbers through the public functions of float and exp, one line a case: its arguments, and what each function of
 // such arguments makes of them, floats by their bits. `stdout` holds what `reckon.py` makes of the same lines: document 01's steps
 // and IEEE 754's roundings in exact fractions and in Python's doubles, with nothing of this code.
+#![tactic(auto)]
 
 // How a case is written.
 mod show;

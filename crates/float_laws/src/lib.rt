@@ -1,1 +1,2 @@
 // Laws about the definitions of float that no function's proof needs: ranges, growth, order. The crate has no code.
+#![tactic(auto)]

@@ -1,4 +1,6 @@
 // frame.rs: a data frame is written.
+#![tactic(auto)]
+
 ghost use Rattle.std.specs.Prelude.{◌≡◌, ◌+◌, ◌≤◌, ◌<◌, length};
 ghost use Rattle.laws.specs.Bytes.{overwrite};
 ghost use Rattle.frame.specs.Table.{table_of};

@@ -1,4 +1,6 @@
 // The frames of a burst, written back to back.
+#![tactic(auto)]
+
 ghost use Rattle.std.specs.Prelude.{◌≡◌, ◌≤◌, length};
 ghost use Rattle.laws.specs.Bytes.{overwrite};
 ghost use Rattle.frame.specs.Table.{table_of};

@@ -14,7 +14,7 @@ use harq::Harq;
 use limits::MAX_SLOTS;
 
 // A frame: the piece's offset, the bits that go, the bits that the peer then holds, and where the bytes lie in the stream.
-#[derive(Drop)]
+#[derive(Clone, Copy)]
 pub struct Slot {
     pub off: u32,
     pub bits: u32,
@@ -24,7 +24,7 @@ pub struct Slot {
 }
 
 // The frames of a burst; n of them.
-#[derive(Drop)]
+#[derive(Clone, Copy)]
 pub struct Slots {
     pub off: [u32; MAX_SLOTS],
     pub bits: [u32; MAX_SLOTS],
@@ -115,7 +115,7 @@ fn smaller(a: u32, b: u32) -> u32
 }
 
 // The slots with the new pieces, how many rows there are then, and how many waiting bytes went.
-#[derive(Drop)]
+#[derive(Clone, Copy)]
 pub struct Added {
     pub slots: Slots,
     pub rows: usize,

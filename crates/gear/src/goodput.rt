@@ -52,7 +52,7 @@ fn remembered(now: f64, at: f64, fails: u8) -> f32
 }
 
 // What is remembered of a level.
-#[derive(Drop)]
+#[derive(Clone, Copy)]
 struct Seen {
     tried: bool,
     success: f32,
@@ -81,7 +81,7 @@ pub fn marks(cfg: Profile) -> Marks
 }
 
 // What a level would see, and what it wants.
-#[derive(Drop)]
+#[derive(Clone, Copy)]
 struct Sight {
     db: f32,
     threshold_db: f32,
@@ -120,7 +120,7 @@ fn bar(l: usize, at: usize) -> f64
 }
 
 // The best level so far.
-#[derive(Drop)]
+#[derive(Clone, Copy)]
 pub struct Best {
     pub found: bool,
     pub level: usize,
@@ -156,7 +156,7 @@ impl Best {
 
 // What every level is held against: the present level, the class that the gear goes by, whether both ends agreed to cues, whether
 // the SNR aimed by is not known or calls for them, and the time.
-#[derive(Drop)]
+#[derive(Clone, Copy)]
 pub struct View {
     pub level: usize,
     pub class: ChanClass,

@@ -1,6 +1,8 @@
 // Drives the gear alone with decisions of the original that `oracle/run gear SEED COUNT` stored: a profile and a fresh gear, then replies, and after
 // each of them every field of the record against the original's, by its bits. `stdout` holds the counts, and a difference is written as it is found.
 // stdin: profiles of 1,172 bytes, 146 numbers and how many replies follow. A reply is 60 bytes, and 24 for each level that it changed.
+#![tactic(auto)]
+
 mod read;
 mod same;
 
@@ -20,7 +22,7 @@ use report::ChanClass;
 use same::differing;
 
 // Counts: of profiles, of replies in goodput and in ladder, of each kind of reply from 3 on, and of differences.
-#[derive(Drop)]
+#[derive(Clone, Copy)]
 pub struct Counts {
     pub of: [u64; 11],
 }
@@ -282,7 +284,7 @@ fn noted(c: Counts, reply: u32, field: usize) -> Counts {
 }
 
 // The original's record, and the counts.
-#[derive(Drop)]
+#[derive(Clone, Copy)]
 pub struct Run {
     pub want: Gear,
     pub counts: Counts,

@@ -1,4 +1,6 @@
 // Held numbers: what the far station holds of a piece in bits, and what is sent of it next (harq.rs, from document 01, module 2).
+#![tactic(auto)]
+
 ghost use Rattle.std.specs.Prelude.{◌≡◌, ◌≤◌, ◌<◌};
 ghost use Rattle.limits.specs.Limits.{max_slots, max_bits};
 ghost use Rattle.harq.specs.Held.{increment_of, start_of, h_max, partial_field, check_bits, burst_check_bits};
@@ -8,7 +10,7 @@ use limits::PARTIAL_MAX;
 
 // The mother code's length, and where the six code rates end.
 #[repr(C)]
-#[derive(Drop)]
+#[derive(Clone, Copy)]
 pub struct Harq {
     pub mother: u32,
     pub ends: [u32; 6],

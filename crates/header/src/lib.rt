@@ -1,4 +1,6 @@
 // What the PHY header of a data burst shows: air_code and user_bits of station.rs, the burst number of sender.rs.
+#![tactic(auto)]
+
 ghost use Rattle.std.specs.Prelude.{◌≡◌, ◌<◌};
 ghost use Rattle.header.specs.Header.{air_code, user_bits, next_burst_id};
 

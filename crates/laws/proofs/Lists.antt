@@ -1,7 +1,7 @@
 -- Laws of lists: parts of a mapped list, how often a number stands in a list, and lists of distinct numbers.
 -- Assumes nothing.
 use Prim.Native.Nat.{ℕ, zero, suc, ◌+◌, ◌≤◌}
-use mathlib.Core.Path.{◌≡◌, refl, sym, ◌∙◌}
+use mathlib.Core.Path.{◌≡◌, refl, sym, ◌∙◌, subst}
 use mathlib.Core.Bool.{Bool, true, false}
 use mathlib.Core.List.{List, [], ◌∷◌, ◌++◌, map}
 use native.Mathlib.Omega.{arith}
@@ -89,7 +89,9 @@ distinct-occurs [] ys d a o = omega arith
 distinct-occurs (x ∷ xs) ys d a o =
     let i = distinct-occurs xs ys d.1 a.1 o in
     test (eqb o x)
-    (λ e. let q = eqb-true o x e in rw q (omega (arith, one_same x x refl, unlisted-occurs x xs d.0, listed-occurs x ys a.0)))
+    (λ e.
+    subst (λ (z : ℕ). occurs z (x ∷ xs) ≤ occurs z ys) (sym (eqb-true o x e))
+    (omega (arith, one_same x x refl, unlisted-occurs x xs d.0, listed-occurs x ys a.0)))
     (λ e. omega (arith, one-other o x (eqb-false o x e)))
 
 module _ (ys : List ℕ) where

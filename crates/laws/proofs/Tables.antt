@@ -27,4 +27,6 @@ alike (x ∷ xs) (y ∷ ys) = eqb x y && alike xs ys
 
 pub alike_same : (xs ys : List ℕ) → T (alike xs ys) → xs ≡ ys
 alike_same [] [] t = refl
+alike_same [] (y ∷ ys) t = elim t [ ]
+alike_same (x ∷ xs) [] t = elim t [ ]
 alike_same (x ∷ xs) (y ∷ ys) t = λ i. eqb→eq x y (and_l (eqb x y) (alike xs ys) t) i ∷ alike_same xs ys (and_r (eqb x y) (alike xs ys) t) i

@@ -1,5 +1,7 @@
 // level.rs: the speed ladder, as constant tables by level number, and what gear.rs and station.rs read from it.
 // A wave is its `wave_rank`: 0 lifeline, 1 MFSK R0, 2 MFSK R1, 3 OFDM slice, 4 OFDM long, 5 OFDM normal.
+#![tactic(auto)]
+
 ghost use Rattle.std.specs.Prelude.{◌≡◌, ◌<◌};
 ghost use Rattle.level.specs.Ladder.{wave_rank, rate_of, long_frame, thresholds, eff_thresholds, air_mean, air_mean_td, guard_ms, is_step, top_level_in};
 

@@ -5,7 +5,7 @@ ghost use Rattle.levels.specs.Memory.{pushed, aim_of, share_after, noted, failed
 
 // Per level: whether it was tried, the share of its frames that came through, the time of that, and the bursts lost whole.
 #[repr(C)]
-#[derive(Drop)]
+#[derive(Clone, Copy)]
 pub struct Tries {
     pub tried: [bool; 17],
     pub success: [f32; 17],
@@ -15,7 +15,7 @@ pub struct Tries {
 
 // The last three reports: how many there are; c is the newest, b the one before it, a the oldest.
 #[repr(C)]
-#[derive(Drop)]
+#[derive(Clone, Copy)]
 pub struct Reports {
     pub count: u8,
     pub a: f32,

@@ -8,7 +8,7 @@ use config::Profile;
 
 // What a level's rate goes by: the seconds of a usual burst, pre_s + bits / rate seconds for a burst at the level, those of a
 // cue, the coded bits of a frame, and the bytes of a short and a long one.
-#[derive(Drop)]
+#[derive(Clone, Copy)]
 pub struct Pace {
     pub usual: f64,
     pub pre_s: f64,

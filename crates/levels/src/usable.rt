@@ -8,7 +8,7 @@ use report::ChanClass;
 
 // Per level: the time until which it is held off, and whether the hold rules out every faster level.
 #[repr(C)]
-#[derive(Drop)]
+#[derive(Clone, Copy)]
 pub struct Holds {
     pub blocked_until: [f64; 17],
     pub hold_all: [bool; 17],

@@ -1,4 +1,5 @@
 // The papers' limits, each named once in code and once in specs/Limits.antt. The crate has no function.
+#![tactic(auto)]
 
 // Payload bytes of a frame at most: length byte 255 is reserved.
 pub const MAX_PAYLOAD: usize = 254;

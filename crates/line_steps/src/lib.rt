@@ -1,6 +1,8 @@
 // A line of a call list, where it does not ask the sender: the box's lines (docs/CALLS.md, The box), and those of `run_lines`. Lent
 // beside the run: w, the box's window; h, the bytes of the frames heard; sent, the last burst's frames; t, the transcript's buffer; l, the
 // line that is to ask; v, the numbers of the profile's lines; file, the file that stands for them.
+#![tactic(auto)]
+
 ghost use Rattle.std.specs.Prelude.{◌≡◌};
 ghost use Rattle.run_lines.specs.RunLines.{zeros};
 ghost use Rattle.line_steps.specs.LineSteps.{box_standing, burst_noted, box_before, reply_as_long, listened_step, box_asked, box_or_not};
@@ -11,7 +13,7 @@ use run_lines::{ASKS, Run, Told, is_box, left, looked_at, quiet, to_ask};
 use words::word;
 
 // The run and the box after a line.
-#[derive(Drop)]
+#[derive(Clone, Copy)]
 pub struct RunAndBox {
     pub run: Run,
     pub next: Box,

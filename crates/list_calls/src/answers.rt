@@ -16,7 +16,7 @@ use words::{Read, done, whole};
 const BYTES: usize = 32768;
 
 // What a line left: whether it was right, what is used of the transcript's buffer, and the record.
-#[derive(Drop)]
+#[derive(Clone, Copy)]
 pub struct Said {
     pub ok: bool,
     pub text: usize,
@@ -67,7 +67,7 @@ fn burst(p: Profile, s: Station, area: &mut [u8], out: &mut [u8], t: &mut [u8], 
 }
 
 // What a line left that changes no record: whether it was right, and what is used of the transcript's buffer.
-#[derive(Drop)]
+#[derive(Clone, Copy)]
 pub struct Wrote {
     pub ok: bool,
     pub text: usize,

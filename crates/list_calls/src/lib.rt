@@ -1,5 +1,7 @@
 // The lines of a call list that ask the sender, a queuing, a reply or a reception (docs/CALLS.md, Calls): each is read into what it asks,
 // and the call is made over a record by value. The module `answers` has these with their answers, a burst and the question for a piece.
+#![tactic(auto)]
+
 ghost use Rattle.std.specs.Prelude.{◌≡◌};
 ghost use Rattle.list_calls.specs.Asked.{no_line, reply_line, connect_asks, short_asks, turn_asks, long_asks};
 ghost use Rattle.list_calls.specs.Asked.{frames_asks, queue_asks, ask_line, made};
@@ -18,7 +20,7 @@ pub mod answers;
 
 // A line that asks the sender, read: whether it was right, and what it asks. `kind`: QUEUE, FRAMES, or 0 for a reply. `len`: how many bytes
 // go with it. What the line's kind does not have is as in `no_line`.
-#[derive(Drop)]
+#[derive(Clone, Copy)]
 pub struct AskLine {
     pub ok: bool,
     pub kind: u8,

@@ -1,5 +1,7 @@
 // The lines of a call list that change neither the record nor the work area (docs/CALLS.md, Calls), with their answers; and the file that a
 // line hands in. Of the transcript's buffer t, n bytes are used.
+#![tactic(auto)]
+
 ghost use Rattle.std.specs.Prelude.{◌≡◌, false};
 ghost use Rattle.text.specs.Buffer.{appended};
 ghost use Rattle.look_lines.specs.Looks.{line_left, state_shown, messages_shown, levels_text, levels_shown, card_text, card_shown, log_text, log_shown, look_shown, file_in, load_of};
@@ -19,7 +21,7 @@ use words::{Read, done, hex, word};
 const BYTES: usize = 32768;
 
 // What a line left: whether it was right, and what is used of the transcript's buffer.
-#[derive(Drop)]
+#[derive(Clone, Copy)]
 pub struct Shown {
     pub ok: bool,
     pub text: usize,
@@ -158,7 +160,7 @@ pub fn look(
 }
 
 // A line that hands in a file: whether it was right, how many bytes the file has, the refusal of reading it, and whether harq_stretch was on.
-#[derive(Drop)]
+#[derive(Clone, Copy)]
 pub struct LoadLine {
     pub ok: bool,
     pub len: usize,

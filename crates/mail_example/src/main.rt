@@ -2,6 +2,8 @@
 // in one burst and acknowledged; the program writes the transcript of these calls (docs/CALLS.md).
 // The file stdout was not made by this program: it is the original's transcript of the same calls,
 // `oracle/run transcript examples/short_mail.calls`.
+#![tactic(auto)]
+
 use config::Profile;
 use defaults::new_profile;
 use io::write_all;
@@ -62,7 +64,7 @@ fn arrived() -> Ack {
 }
 
 // The record that the last call left, and how much of the transcript's buffer is used.
-#[derive(Drop)]
+#[derive(Clone, Copy)]
 struct Step {
     s: Station,
     n: usize,

@@ -1,4 +1,6 @@
 // The messages that wait (document 02, Changes 1 and 6), in the order in which they will go.
+#![tactic(auto)]
+
 ghost use Rattle.std.specs.Prelude.{◌≡◌, ◌+◌, ◌≤◌, ◌<◌};
 ghost use Rattle.limits.specs.Limits.{max_messages, max_taken};
 ghost use Rattle.ledger.specs.Queue.{withdraws as withdraws_label};
@@ -10,7 +12,7 @@ use limits::{MAX_CLASS, MAX_MESSAGES};
 // n messages, each with its class, its label, 0 for none, and the bytes of it that wait. `withdrawn`: bytes of messages withdrawn, in all.
 // `begun`: bytes of the first have begun to fly; with no message it says nothing.
 #[repr(C)]
-#[derive(Drop)]
+#[derive(Clone, Copy)]
 pub struct Messages {
     pub left: [u16; MAX_MESSAGES],
     pub class: [u8; MAX_MESSAGES],
@@ -35,21 +37,21 @@ pub fn none() -> Messages
 }
 
 // Where a new message goes, and how many waiting bytes stand before it.
-#[derive(Drop)]
+#[derive(Clone, Copy)]
 pub struct Position {
     pub row: usize,
     pub bytes: usize,
 }
 
 // How many messages a queuing withdraws, and their bytes.
-#[derive(Drop)]
+#[derive(Clone, Copy)]
 pub struct Withdrawal {
     pub n: usize,
     pub bytes: u32,
 }
 
 // The messages of which all bytes begin to fly, the bytes left of the one behind them, and whether it has begun.
-#[derive(Drop)]
+#[derive(Clone, Copy)]
 struct Gone {
     rows: usize,
     left: u16,

@@ -1,4 +1,6 @@
 // The plan of data_burst (sender.rs): how many held pieces go as increments, and how many whole pieces.
+#![tactic(auto)]
+
 ghost use Rattle.std.specs.Prelude.{◌≡◌, ◌≤◌, length};
 ghost use Rattle.plan.specs.Planning.{fits};
 ghost use Rattle.limits.specs.Limits.{max_slots, max_bits, max_burst_bits};
@@ -9,7 +11,7 @@ use harq::Harq;
 use limits::{MAX_SLOTS, PARTIAL_MAX, TINY_ACK_FRAMES};
 
 // What the gear, the level and the profile say of the next burst: seconds on the air are pre_s + bits / rate + cue_s.
-#[derive(Drop)]
+#[derive(Clone, Copy)]
 pub struct Choice {
     pub long: bool,
     // The level's wave is the one that the held pieces were stored from.
@@ -26,7 +28,7 @@ pub struct Choice {
 }
 
 // parity.len(), parity_bits, stored and room.
-#[derive(Drop)]
+#[derive(Clone, Copy)]
 pub struct Planned {
     pub parity: usize,
     pub parity_bits: u32,

@@ -1,4 +1,6 @@
 // The profile of a table of numbers, in the order of docs/CALLS.md, and the lines that fill the table.
+#![tactic(auto)]
+
 ghost use Rattle.std.specs.Prelude.{◌≡◌, ℕ, ◌+◌, ◌*◌, ◌≤◌, ◌<◌, get_or};
 ghost use Rattle.profile_table.specs.Table.{row_of, or_most, u32_at, u8_at, double_at, single_of, single_at, flag_at, maybe_db_at};
 ghost use Rattle.profile_table.specs.Table.{maybe_level_at};

@@ -1,4 +1,6 @@
 // The record of a station: the sender, and the messages of which bytes wait (document 02, Changes 1 and 6); what a queuing leaves.
+#![tactic(auto)]
+
 ghost use Rattle.std.specs.Prelude.{◌≡◌, ◌+◌, ◌≤◌, length, drop};
 ghost use Rattle.laws.specs.Bytes.{overwrite};
 ghost use Rattle.limits.specs.Limits.{max_messages, max_taken};
@@ -12,14 +14,14 @@ use messages::{Messages, insert, place, withdraw, withdraws};
 use record::Sender;
 
 #[repr(C)]
-#[derive(Drop)]
+#[derive(Clone, Copy)]
 pub struct Station {
     pub sender: Sender,
     pub messages: Messages,
 }
 
 // What a queuing leaves of the record beside what it leaves alone: the messages, and how many bytes wait.
-#[derive(Drop)]
+#[derive(Clone, Copy)]
 pub struct Waiting {
     pub messages: Messages,
     pub waiting: u32,

@@ -1,4 +1,6 @@
 // The levels that `level_for` can choose for a report known only within a range (document 02, Change 12).
+#![tactic(auto)]
+
 ghost use Rattle.std.specs.Prelude.{◌≡◌, [], map, ◌<◌, ◌≤◌, get_or};
 ghost use Rattle.laws.specs.Span.{upto};
 ghost use Rattle.reachable.specs.Reachable.{chosen_by, lowest_of, given, reachable, listing};
@@ -13,7 +15,7 @@ use report::{ChanClass, snr_from_q};
 
 // The answer: 0 and n levels, each once, ascending, with the lowest q that gives it; or the refusal and no level. The places behind are 0.
 #[repr(C)]
-#[derive(Drop)]
+#[derive(Clone, Copy)]
 pub struct Listing {
     pub refusal: u8,
     pub n: usize,

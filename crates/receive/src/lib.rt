@@ -1,4 +1,6 @@
 // What an accepted reply leaves.
+#![tactic(auto)]
+
 pub mod accepted;
 pub mod acks;
 pub mod awaited;

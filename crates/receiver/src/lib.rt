@@ -1,4 +1,6 @@
 // The receiving end: keeps what a burst's frames bring, hands the stream on in order, and answers by a long ack.
+#![tactic(auto)]
+
 ghost use Rattle.std.specs.Prelude.{◌≡◌, ◌+◌, ◌^◌, ◌≤◌, ◌<◌, min, length};
 ghost use Rattle.frame.specs.Table.{table_of};
 ghost use Rattle.receiver.specs.Frames.{box_bytes, offsets, off_of, sum_ok, head_ok, frame_ok};
@@ -17,14 +19,14 @@ const OFFSETS: u32 = 16777216;
 
 // The window is lent: 32,768 places of the crate `window`.
 #[repr(C)]
-#[derive(Drop)]
+#[derive(Clone, Copy)]
 pub struct Receiver {
     pub first_missing: u32,
 }
 
 // What a call answers: the refusal, or 0; the payload of the long ack; how many bytes it handed on; the frames left out under 16 and 17.
 #[repr(C)]
-#[derive(Drop)]
+#[derive(Clone, Copy)]
 pub struct Received {
     pub refusal: u8,
     pub payload: [u8; 13],
@@ -33,14 +35,14 @@ pub struct Received {
     pub beyond: usize,
 }
 
-#[derive(Drop)]
+#[derive(Clone, Copy)]
 pub struct Listened {
     pub answer: Received,
     pub next: Receiver,
 }
 
 // So far: the lowest slot number that may come, the bitmap, and the frames left out under 16 and 17.
-#[derive(Drop)]
+#[derive(Clone, Copy)]
 pub struct Taking {
     pub least: u8,
     pub bitmap: u64,

@@ -1,4 +1,6 @@
 // All frames of one reception, once accepted: the loop at the end of sender_rx (sender.rs; document 02, Change 7).
+#![tactic(auto)]
+
 ghost use Rattle.std.specs.Prelude.{◌≡◌, ◌≤◌};
 ghost use Rattle.report.specs.Ack.{ack_of};
 ghost use Rattle.config.specs.Ranged.{Ranged};
@@ -19,7 +21,7 @@ use report::ack::{AckInfo, AckRead};
 // The decoded frames of one reception: n of them, each with its kind and flags as frame.rs numbers them and its payload's length. The
 // payloads travel beside it, back to back.
 #[repr(C)]
-#[derive(Drop)]
+#[derive(Clone, Copy)]
 pub struct Reception {
     pub n: usize,
     pub kind: [u8; MAX_RECEIVED],

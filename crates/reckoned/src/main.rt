@@ -1,4 +1,6 @@
 // Document 01's reckoned examples, run through the code: a line each, as the paper words it, with what came out.
+#![tactic(auto)]
+
 mod holds;
 mod rows;
 

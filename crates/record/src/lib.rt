@@ -1,4 +1,6 @@
 // The sender's record: the sending half of Station (station.rs), nested in small structs.
+#![tactic(auto)]
+
 ghost use Rattle.std.specs.Prelude.{◌≡◌};
 ghost use Rattle.record.specs.Fresh.{fresh_gear, fresh_link, no_counts, no_held, no_sent, fresh};
 
@@ -11,7 +13,7 @@ use report::ChanClass;
 
 // What the sender knows of the link.
 #[repr(C)]
-#[derive(Drop)]
+#[derive(Clone, Copy)]
 pub struct Link {
     // State::Connected.
     pub connected: bool,
@@ -34,7 +36,7 @@ pub struct Link {
 
 // Bytes and pieces, and the milliseconds on the air.
 #[repr(C)]
-#[derive(Drop)]
+#[derive(Clone, Copy)]
 pub struct Counts {
     pub next_offset: u32,
     pub waiting: u32,
@@ -46,7 +48,7 @@ pub struct Counts {
 
 // at_peer: n held pieces; the last `rest` of them are at_peer_rest.
 #[repr(C)]
-#[derive(Drop)]
+#[derive(Clone, Copy)]
 pub struct AtPeer {
     pub off: [u32; MAX_SLOTS],
     pub bits: [u32; MAX_SLOTS],
@@ -56,7 +58,7 @@ pub struct AtPeer {
 
 // last_burst: the n frames of the outstanding burst.
 #[repr(C)]
-#[derive(Drop)]
+#[derive(Clone, Copy)]
 pub struct LastBurst {
     pub off: [u32; MAX_SLOTS],
     pub bits: [u32; MAX_SLOTS],
@@ -65,7 +67,7 @@ pub struct LastBurst {
 }
 
 #[repr(C)]
-#[derive(Drop)]
+#[derive(Clone, Copy)]
 pub struct Sender {
     pub gear: Gear,
     pub link: Link,

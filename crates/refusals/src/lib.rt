@@ -1,11 +1,13 @@
 // What a refusal is: the papers' numbers, and the values that a reply may carry. No function requires anything.
+#![tactic(auto)]
+
 ghost use Rattle.std.specs.Prelude.{◌≡◌};
 ghost use Rattle.refusals.specs.Refusals.{number_of, kind_of, time_ok, report_ok, heard_ok, reply_ok};
 
 use replies::{Ack, ConnAck, Heard, LongAck, Turn};
 
 // What becomes of a call: the papers' refusals, each by its name: document 01's 1 to 10, and 11, 12 and 15 of document 02.
-#[derive(Drop)]
+#[derive(Clone, Copy)]
 pub enum Verdict {
     Accepted,
     ProfileOutOfRange,
@@ -27,7 +29,7 @@ pub enum Verdict {
 pub const MAX_RECEIVED: usize = 16;
 
 // A reply. A long ack's payload travels beside it.
-#[derive(Drop)]
+#[derive(Clone, Copy)]
 pub enum Reply {
     ConnAck(ConnAck),
     Ack(Ack),

@@ -1,4 +1,6 @@
 // Reads a call list on standard input, makes its calls and writes the transcript on standard output (docs/CALLS.md).
+#![tactic(auto)]
+
 mod buffer;
 mod input;
 
@@ -86,7 +88,7 @@ fn no_calls() -> Said {
 }
 
 // What stands between lines: the run and the box, and what the last line left of the sender.
-#[derive(Drop)]
+#[derive(Clone, Copy)]
 pub struct State {
     pub first: RunAndBox,
     pub said: Said,

@@ -1,10 +1,12 @@
 // The replies that sender_rx takes (sender.rs). What each leaves where it is accepted: specs/. No function.
+#![tactic(auto)]
+
 use config::MaybeDb;
 use report::ChanClass;
 
 // When and how a reply was heard: the time, the wave by rank, and the dB measured here.
 #[repr(C)]
-#[derive(Drop)]
+#[derive(Clone, Copy)]
 pub struct Heard {
     pub time: f64,
     pub wave: u8,
@@ -13,7 +15,7 @@ pub struct Heard {
 
 // Tiny::ConnAck, with the session. `cue`: the called station's capabilities include CUE.
 #[repr(C)]
-#[derive(Drop)]
+#[derive(Clone, Copy)]
 pub struct ConnAck {
     pub session: u8,
     pub snr_db: f32,
@@ -24,7 +26,7 @@ pub struct ConnAck {
 
 // Tiny::Ack.
 #[repr(C)]
-#[derive(Drop)]
+#[derive(Clone, Copy)]
 pub struct Ack {
     pub burst: u8,
     pub bitmap: u8,
@@ -38,7 +40,7 @@ pub struct Ack {
 
 // The flags of a long ack's frame.
 #[repr(C)]
-#[derive(Drop)]
+#[derive(Clone, Copy)]
 pub struct LongAck {
     pub want_turn: bool,
     pub want_disc: bool,
@@ -47,7 +49,7 @@ pub struct LongAck {
 
 // Tiny::Turn.
 #[repr(C)]
-#[derive(Drop)]
+#[derive(Clone, Copy)]
 pub struct Turn {
     pub report: MaybeDb,
 }

@@ -6,7 +6,7 @@ use crate::{ChanClass, ChanReport, snr_from_q};
 use byte_copy::{load32, load64};
 
 // A long ack. Where `reported` is false there is no report, and `report` stands for none.
-#[derive(Drop)]
+#[derive(Clone, Copy)]
 pub struct AckInfo {
     pub burst: u8,
     pub bitmap: u64,
@@ -17,7 +17,7 @@ pub struct AckInfo {
 }
 
 // What AckInfo::from_bytes answers.
-#[derive(Drop)]
+#[derive(Clone, Copy)]
 pub enum AckRead {
     TooShort,
     Info(AckInfo),

@@ -1,4 +1,6 @@
 // report.rs: the channel class and the channel report of a long ack.
+#![tactic(auto)]
+
 ghost use Rattle.std.specs.Prelude.{◌≡◌, ◌+◌, ◌≤◌, ◌<◌, length};
 ghost use Rattle.report.specs.Report.{snr_from_q, bit, class_bits, class_from_bits, spread_of, slot_of, report_at};
 
@@ -6,7 +8,7 @@ pub mod ack;
 
 // The two class bits (report.rs).
 #[repr(C)]
-#[derive(Drop)]
+#[derive(Clone, Copy)]
 pub struct ChanClass {
     // Echoes beyond the 4 ms guard.
     pub echo: bool,
@@ -15,7 +17,7 @@ pub struct ChanClass {
 }
 
 // What a long ack carries beyond the short one's fields (report.rs).
-#[derive(Drop)]
+#[derive(Clone, Copy)]
 pub struct ChanReport {
     pub class: ChanClass,
     pub eff_snr_db: f32,

@@ -1,6 +1,8 @@
 // The run of a call list, what stands between its lines beside the sender's record and the box; and the lines that ask neither: those
 // of a profile, `load`, those that lend, remarks (docs/CALLS.md). t: the transcript's buffer; v: the numbers of the profile's lines;
 // file: the file that stands for them; l: the line that is to ask.
+#![tactic(auto)]
+
 ghost use Rattle.std.specs.Prelude.{◌≡◌};
 ghost use Rattle.laws.specs.Bytes.{overwrite};
 ghost use Rattle.text.specs.Buffer.{appended};
@@ -41,7 +43,7 @@ pub const SHOWS: u8 = 4;
 // line that breaks the rules; `anew`: a fresh box starts with the next line; `todo` as above, and the characters of the line that is to
 // ask; what is lent of the work area and of the output, and what is used of the text's buffer; the number of the last burst, and its
 // frames' size.
-#[derive(Drop)]
+#[derive(Clone, Copy)]
 pub struct Run {
     pub stage: usize,
     pub file: usize,
@@ -57,7 +59,7 @@ pub struct Run {
 }
 
 // What the other lines tell of the sender.
-#[derive(Drop)]
+#[derive(Clone, Copy)]
 pub struct Told {
     pub counts: Counts,
     pub withdrawn: u32,

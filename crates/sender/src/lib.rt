@@ -1,5 +1,7 @@
 // The station's calls (sender.rs; the queue of messages: document 02, Changes 1 and 6), by value, with the papers' refusals by number. No call
 // requires anything.
+#![tactic(auto)]
+
 ghost use Rattle.std.specs.Prelude.{◌≡◌, [], true, ◌≤◌, length};
 ghost use Rattle.config.specs.Ranged.{Ranged};
 ghost use Rattle.replies.specs.RepliesCode.{ReplyReady};
@@ -24,28 +26,28 @@ use verdicts::{burst_verdict, frames_verdict, queue_verdict, receive_verdict, st
 
 // What a queuing says of its message: its class, and its label, 0 for none (document 02, Changes 1 and 6).
 #[repr(C)]
-#[derive(Drop)]
+#[derive(Clone, Copy)]
 pub struct Message {
     pub class: u8,
     pub label: u16,
 }
 
 // A refusal's number, 0 where the call is accepted, and the next record.
-#[derive(Drop)]
+#[derive(Clone, Copy)]
 pub struct Left {
     pub refusal: u8,
     pub next: Station,
 }
 
 // The same of a reply, without the messages, which stay.
-#[derive(Drop)]
+#[derive(Clone, Copy)]
 pub struct LeftSender {
     pub sender: Sender,
     pub refusal: u8,
 }
 
 // The same of a queuing, which leaves the rest of the record alone: the messages, and how many bytes wait.
-#[derive(Drop)]
+#[derive(Clone, Copy)]
 pub struct LeftQueue {
     pub messages: Messages,
     pub waiting: u32,
@@ -54,13 +56,13 @@ pub struct LeftQueue {
 
 // A refusal's number, 0 where the burst is made, and the burst.
 #[repr(C)]
-#[derive(Drop)]
+#[derive(Clone, Copy)]
 pub struct Burst {
     pub refusal: u8,
     pub outgoing: Outgoing,
 }
 
-#[derive(Drop)]
+#[derive(Clone, Copy)]
 pub struct LeftBurst {
     pub burst: Burst,
     pub next: Station,
@@ -68,7 +70,7 @@ pub struct LeftBurst {
 
 // A refusal's number; whether there is a piece, and where its bytes lie in the work area.
 #[repr(C)]
-#[derive(Drop)]
+#[derive(Clone, Copy)]
 pub struct Place {
     pub refusal: u8,
     pub here: bool,

@@ -1,4 +1,6 @@
 // settle_burst of sender.rs: what an ack leaves of the outstanding burst; and what it says of the burst to the gear.
+#![tactic(auto)]
+
 ghost use Rattle.std.specs.Prelude.{◌≡◌, ◌∷◌, [], ◌+◌, ◌≤◌, ◌<◌, length, drop};
 ghost use Rattle.pieces.specs.Lists.{held_of};
 ghost use Rattle.settle.specs.Settle.{acked_in, offsets_of, missed_in, with_more_held, new_held, Settling, settled};
@@ -11,7 +13,7 @@ use record::{AtPeer, Counts, LastBurst, Sender};
 pub mod outcome;
 
 // A list of offsets.
-#[derive(Drop)]
+#[derive(Clone, Copy)]
 struct Offsets {
     off: [u32; MAX_SLOTS],
     n: usize,

@@ -9,7 +9,7 @@ use gear::Outcome;
 use record::{LastBurst, Sender};
 
 // Counts over a burst's frames: those sent fresh, those of them that came through, and all that came through.
-#[derive(Drop)]
+#[derive(Clone, Copy)]
 pub struct Came {
     pub fresh: u8,
     pub fresh_got: u8,

@@ -1,4 +1,6 @@
 // The sound record of document 01, tested.
+#![tactic(auto)]
+
 ghost use Rattle.std.specs.Prelude.{◌≡◌};
 ghost use Rattle.config.specs.Ranged.{Ranged};
 ghost use Rattle.soundness.specs.Soundness.{sound_ok};

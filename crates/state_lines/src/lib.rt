@@ -1,5 +1,7 @@
 // The lines of a transcript that tell the sender's state (docs/CALLS.md): those of `state`, `messages` and `end`. As in `transcript`, a lent buffer
 // has n bytes that are used, and each function gives what is used then.
+#![tactic(auto)]
+
 ghost use Rattle.std.specs.Prelude.{◌≡◌, ◌<◌};
 ghost use Rattle.laws.specs.Span.{upto};
 ghost use Rattle.text.specs.Buffer.{appended, each};

@@ -1,6 +1,8 @@
 // The thin layer: a station program holds one record, and each call of the sender changes it. The calls are exported, for C to link: a
 // slice goes as a pointer and a length. No call requires anything; the profile is read where it lies. The link log, the levels within
 // reach and a profile on a card need no record; the receiving end, a box that listens, has one of its own.
+#![tactic(auto)]
+
 ghost use Rattle.std.specs.Prelude.{◌≡◌, []};
 ghost use Rattle.queuing.specs.Station.{fresh_station, with_sender, with_messages};
 ghost use Rattle.sender.specs.Calls.{queue_of, receive_of, frames_of, find_of, piece_of, burst_call};

@@ -1,4 +1,6 @@
 // Text put into a lent buffer, of which n bytes are used: what runs past its end is left out. Each function gives what is used then.
+#![tactic(auto)]
+
 ghost use Rattle.std.specs.Prelude.{◌≡◌, [], ◌∷◌, ◌++◌, ◌<◌};
 ghost use Rattle.text.specs.Buffer.{put, appended, each};
 ghost use Rattle.laws.specs.Text.{text};

@@ -1,4 +1,6 @@
 // The lines of a transcript (docs/CALLS.md), put into a lent buffer of which n bytes are used: each function gives what is used then.
+#![tactic(auto)]
+
 ghost use Rattle.std.specs.Prelude.{◌≡◌};
 ghost use Rattle.text.specs.Buffer.{appended};
 ghost use Rattle.laws.specs.Text.{text};

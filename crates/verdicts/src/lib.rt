@@ -1,4 +1,6 @@
 // What the sender turns down (document 01): the verdict of each call.
+#![tactic(auto)]
+
 ghost use Rattle.std.specs.Prelude.{◌≡◌, true, ◌+◌, ◌≤◌, leb};
 ghost use Rattle.messages.specs.SoundCode.{SoundMessages};
 ghost use Rattle.verdicts.specs.Verdicts.{passed, first_of, taken_by, standing as standing_of, reply_verdict, hearing_verdict, frames_standing, room_verdict, output_verdict};

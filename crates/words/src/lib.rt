@@ -1,4 +1,6 @@
 // The words of a call list (docs/CALLS.md, Lines and words): what each means, and a line, lent without its line feed, read word by word.
+#![tactic(auto)]
+
 ghost use Rattle.std.specs.Prelude.{◌≡◌, ◌≤◌, length};
 ghost use Rattle.words.specs.Lines.{Inside, end_of, first_word, no_cut, next_word, read_to, read_as, chars_of, begun, is_done};
 ghost use Rattle.words.specs.Words.{decimal_of, bits_of, flag_of, none_of, hex_count, hex_into};
@@ -8,14 +10,14 @@ pub mod meaning;
 pub mod taken;
 
 // What a word means: a number, or it is no word of the kind that was asked for.
-#[derive(Drop)]
+#[derive(Clone, Copy)]
 pub struct Number {
     pub ok: bool,
     pub value: u64,
 }
 
 // A word's place in its line, from its first character to past its last; there is none where `ok` is false.
-#[derive(Drop)]
+#[derive(Clone, Copy)]
 pub struct Cut {
     pub from: usize,
     pub to: usize,
@@ -23,7 +25,7 @@ pub struct Cut {
 }
 
 // How far a line was read: the place after its last word, whether all was right so far, and that word's number.
-#[derive(Drop)]
+#[derive(Clone, Copy)]
 pub struct Read {
     pub at: usize,
     pub ok: bool,
@@ -31,7 +33,7 @@ pub struct Read {
 }
 
 // What was read of the input and is not used yet, and the line that is being read: `len` characters of it so far.
-#[derive(Drop)]
+#[derive(Clone, Copy)]
 pub struct Input {
     pub at: usize,
     pub end: usize,

@@ -5,17 +5,17 @@ use borrow.Author.Rules.{rules}
 use Rattle.header.proofs.air_code.Statement.{statement}
 use Rattle.header.proofs.air_code.Tie as tie
 
-cast-result : tie.Need-overflow-cast-result
+cast-result : tie.Need-overflow_cast-result
 cast-result c = search rules
 
 returns : tie.Need-returns
 unfolding air_code
 returns c = search picks
 
-add-result : tie.Need-overflow-add-result
+add-result : tie.Need-overflow_add-result
 add-result c = search rules
 
-cast-result-2 : tie.Need-overflow-cast-result-2
+cast-result-2 : tie.Need-overflow_cast-result-2
 cast-result-2 c = search rules
 
 returns-2 : tie.Need-returns-2

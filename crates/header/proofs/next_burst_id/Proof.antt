@@ -10,15 +10,15 @@ use Rattle.header.proofs.next_burst_id.Tie as tie
 next : (id : ℕ) → (id % 4 + 1) % 4 ≡ (id + 1) % 4
 next id = omega arith
 
-add-n : tie.Need-overflow-add-n
+add-n : tie.Need-overflow_add-n
 add-n c = search rules
 
-add-result : tie.Need-overflow-add-result
+add-result : tie.Need-overflow_add-result
 add-result c = search rules
 
 returns : tie.Need-returns
 unfolding next_burst_id
-returns c = rw (← next c.before.args.burst-id) (cond_yes _ _ _ _ c.if1.true refl)
+returns c = rw (← next c.before.args.burst_id) (cond_yes _ _ _ _ c.if1.true refl)
 
 returns-2 : tie.Need-returns-2
 unfolding next_burst_id

@@ -9,19 +9,19 @@ use Rattle.header.proofs.user_bits.Tie as tie
 air-code-requires : tie.Need-air-code-requires
 air-code-requires c κs = search rules
 
-mul-result : tie.Need-overflow-mul-result
+mul-result : tie.Need-overflow_mul-result
 mul-result c = search rules
 
-add-result : tie.Need-overflow-add-result
+add-result : tie.Need-overflow_add-result
 add-result c = omega (arith, air-lt c.before.args.l c.before.requires, c.air-code.ensures)
 
 cast-result : tie.Need-overflow-cast-result
 cast-result c = search rules
 
-mul-result-2 : tie.Need-overflow-mul-result-2
+mul-result-2 : tie.Need-overflow_mul-result-2
 mul-result-2 c = search rules
 
-add-result-2 : tie.Need-overflow-add-result-2
+add-result-2 : tie.Need-overflow_add-result-2
 add-result-2 c = omega (arith, air-lt c.before.args.l c.before.requires, c.air-code.ensures)
 
 returns : tie.Need-returns

@@ -1,0 +1,29 @@
+use lib.ListN.{replicate, length, length-set}
+use Rattle.laws.specs.Bytes.{overwrite}
+use Rattle.laws.proofs.Bytes.{over-nil, over-fill}
+use Prim.Native.Nat.{ℕ, ◌-◌}
+use mathlib.Core.Path.{◌≡◌, refl, sym, ap, ◌∙◌}
+use native.Mathlib.Omega.{arith}
+use Rattle.byte_copy.proofs.fill.Goals as goal
+
+pub loop-j-init : goal.loop-j-init
+loop-j-init c = (omega arith, sym (over-nil _ _), refl)
+
+pub loop-j-preserved : goal.loop-j-preserved
+loop-j-preserved c =
+    let p = c in
+    let a = p.args in (
+      omega arith,
+      rw p.loop-j.invariant.1 (over-fill a.s.now a.at p.loop-j.j a.v),
+      simp length-set p.loop-j.invariant.2,
+    )
+
+pub shape_of-s : goal.shape_of-s
+shape_of-s c = c.loop-j.invariant.2
+
+pub returns : goal.returns
+returns c =
+    let p = c in
+    let a = p.args in
+    let e : p.loop-j.j ≡ a.n = omega arith in
+    p.loop-j.invariant.1 ∙ ap (λ (k : ℕ). overwrite a.s.now a.at (replicate k a.v)) e
