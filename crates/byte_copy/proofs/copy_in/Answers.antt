@@ -17,9 +17,6 @@ loop-j-preserved c =
     let h = c.loop-j-test.true in
     (omega arith, rw p.loop-j.invariant.1 (over-take a.dst.now a.at a.src.now p.loop-j.j h), simp length-set p.loop-j.invariant.2)
 
-pub shape_of-dst : goal.shape_of-dst
-shape_of-dst c = c.loop-j.invariant.2
-
 pub returns : goal.returns
 returns c =
     let p = c in

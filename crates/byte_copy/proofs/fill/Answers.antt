@@ -18,9 +18,6 @@ loop-j-preserved c =
       simp length-set p.loop-j.invariant.2,
     )
 
-pub shape_of-s : goal.shape_of-s
-shape_of-s c = c.loop-j.invariant.2
-
 pub returns : goal.returns
 returns c =
     let p = c in

@@ -18,10 +18,10 @@ copy_in-requires c = omega (arith, c.if-at-end.true, c.requires)
 pub returns-then-at-end : goal.returns-then-at-end
 returns-then-at-end c =
     let a = c.args in
-    c.copy_in.ensures ∙ none-behind a.dst-1.now a.src.now a.at a.end c.if-at-end.true
+    c.copy_in.ensures ∙ none-behind a.dst.now a.src.now a.at a.end c.if-at-end.true
 
 pub insert_before-requires : goal.insert_before-requires
 insert_before-requires c = c.requires
 
-pub returns-then-at-end : goal.returns
-returns-then-at-end c = c.insert_before.ensures
+pub returns : goal.returns
+returns c = c.insert_before.ensures

@@ -7,8 +7,5 @@ use Rattle.byte_copy.proofs.store16.Goals as goal
 pub bounds-a-at-2 : goal.bounds-a-at-2
 bounds-a-at-2 c = simp length-set (omega arith)
 
-pub shape_of-a : goal.shape_of-a
-shape_of-a c = simp length-set
-
 pub returns : goal.returns
 returns c = store2 c.args.a.now c.args.at _ _

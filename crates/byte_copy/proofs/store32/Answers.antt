@@ -13,8 +13,5 @@ bounds-a-at-3 c = simp length-set (omega arith)
 pub bounds-a-at-4 : goal.bounds-a-at-4
 bounds-a-at-4 c = simp length-set (omega arith)
 
-pub shape_of-a : goal.shape_of-a
-shape_of-a c = simp length-set
-
 pub returns : goal.returns
 returns c = store4 c.args.a.now c.args.at _ _ _ _

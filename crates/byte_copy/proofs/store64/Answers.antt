@@ -11,4 +11,4 @@ pub returns : goal.returns
 returns c =
     let s = c in
     c.store32-2.ensures ∙ ap (λ (l : List ℕ). overwrite l (s.args.at + 4) (le 4 (s.args.v / 4294967296)))
-    c.store32.ensures ∙ store8 s.args.a-1.now s.args.at s.args.v
+    c.store32.ensures ∙ store8 s.args.a.now s.args.at s.args.v
