@@ -1,0 +1,29 @@
+-- `adif::refusal` meets its contract. Assumes nothing.
+use borrow.Author.Tests.{not-true, not-false}
+use Rattle.laws.proofs.Picks.{calls}
+use Rattle.adif.specs.Adif.{refusal_of}
+use Rattle.adif.proofs.refusal.Goals as goal
+
+pub returns-then-not-sign_ok : goal.returns-then-not-sign_ok
+unfolding refusal_of
+returns-then-not-sign_ok c = search (calls, not-true, not-false)
+
+pub returns-then-on-gt-LAST_SECOND : goal.returns-then-on-gt-LAST_SECOND
+unfolding refusal_of
+returns-then-on-gt-LAST_SECOND c = search (calls, not-true, not-false)
+
+pub returns-then-off-gt-LAST_SECOND : goal.returns-then-off-gt-LAST_SECOND
+unfolding refusal_of
+returns-then-off-gt-LAST_SECOND c = search (calls, not-true, not-false)
+
+pub returns-then-off-on : goal.returns-then-off-on
+unfolding refusal_of
+returns-then-off-on c = search (calls, not-true, not-false)
+
+pub returns-then-room-lt256 : goal.returns-then-room-lt256
+unfolding refusal_of
+returns-then-room-lt256 c = search (calls, not-true, not-false)
+
+pub returns : goal.returns
+unfolding refusal_of
+returns c = search (calls, not-true, not-false)

@@ -1,0 +1,11 @@
+-- `adif::time_text` meets its contract. Assumes nothing.
+use mathlib.Core.Path.{refl}
+use Rattle.adif.proofs.Steps.{time-made}
+use Rattle.adif.proofs.time_text.Goals as goal
+
+pub returns : goal.returns
+returns c = let p = c in
+    let q = p in
+    let r = q in
+    let s = r in
+    time-made _ _ _ _ _ _ refl s.time_of-d.ensures r.put_digits.ensures q.put_digits-2.ensures p.put_digits-3.ensures

@@ -1,0 +1,12 @@
+-- `reading::hold_times` meets its contract, by what the calls ensure. Assumes nothing.
+use Rattle.card.specs.Card.{holds_in}
+use Rattle.card.proofs.reading.hold_times.Goals as goal
+
+pub returns : goal.returns
+unfolding holds_in
+returns c =
+    simp (
+      c.f64_at-3.ensures,
+      c.f64_at-2.ensures,
+      c.f64_at.ensures,
+    )

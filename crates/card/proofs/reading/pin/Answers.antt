@@ -1,0 +1,9 @@
+-- `reading::pin` meets its contract, by what the calls ensure. Assumes nothing.
+use Rattle.card.proofs.reading.pin.Goals as goal
+
+pub returns : goal.returns
+returns c =
+    simp (
+      c.load64.ensures,
+      c.flag.ensures,
+    )

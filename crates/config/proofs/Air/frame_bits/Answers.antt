@@ -1,0 +1,6 @@
+use Rattle.config.specs.Durations.{frame_bits}
+use Rattle.config.proofs.Air.frame_bits.Goals as goal
+
+pub returns : goal.returns
+unfolding frame_bits
+returns c = rw c.slot.ensures at c.product.ensures

@@ -1,0 +1,14 @@
+use Rattle.laws.specs.Span.{fold, every, upto}
+use Rattle.config.specs.Ranges.{ack_ok}
+use Prim.Native.Nat.{◌-◌, ◌≤◌}
+use mathlib.Core.Path.{◌≡◌}
+use Rattle.config.proofs.ranges.Every.{along}
+use Rattle.config.proofs.ranges.acks_ok.Given as goal
+
+abbrev pub invariant-loop-w : goal.invariant-loop-w
+invariant-loop-w l =
+    (every (ack_ok l.a) (upto 0 6) ≡ fold (along (ack_ok l.a)) l.ok (upto l.w 6)) × (l.w ≤ 6)
+
+abbrev pub decreases-loop-w : goal.decreases-loop-w
+decreases-loop-w l =
+    6 - l.w

@@ -1,0 +1,11 @@
+-- `exp::shift` meets its contract. Assumes nothing.
+use lib.Ieee.{of_int, of_bits}
+use Rattle.exp.proofs.shift.Goals as goal
+
+pub returns-then-x : goal.returns-then-x
+unfolding of_int of_bits
+returns-then-x c = simp c.if-x.true
+
+pub returns-else-x : goal.returns-else-x
+unfolding of_int of_bits
+returns-else-x c = simp c.if-x.false

@@ -1,0 +1,13 @@
+-- `float::pick::max64` meets its contract (`picked` of `proofs/PickLaws.antt`). Assumes nothing.
+use Rattle.std.proofs.Common.{true, false}
+use Rattle.float.specs.Pick.{max_f}
+use Rattle.float.proofs.PickLaws.{picked}
+use Rattle.float.proofs.pick.max64.Goals as goal
+
+pub returns-then-x-y : goal.returns-then-x-y
+unfolding max_f
+returns-then-x-y c = picked _ _ _ true c.if-x-y.true
+
+pub returns : goal.returns
+unfolding max_f
+returns c = picked _ _ _ false c.if-x-y.false

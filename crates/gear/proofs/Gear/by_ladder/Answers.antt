@@ -1,0 +1,14 @@
+use Rattle.gear.proofs.JudgeLaws.{held-target}
+use Rattle.gear.specs.Judging.{by_ladder}
+use Rattle.gear.proofs.Gear.by_ladder.Goals as goal
+
+pub returns-then-loss-worth_keeping : goal.returns-then-loss-worth_keeping
+unfolding by_ladder
+returns-then-loss-worth_keeping c = simp (rw c.worth_keeping.ensures at c.if-loss-worth_keeping.true, c.capped-l.ensures)
+
+pub next_allowed-requires : goal.next_allowed-requires
+next_allowed-requires c = let s = c in (s.requires.0, rw (c.hold-self.ensures, held-target) s.requires.1.0)
+
+pub returns : goal.returns
+unfolding by_ladder
+returns c = simp (rw c.worth_keeping.ensures at c.if-loss-worth_keeping.false, c.capped-l-2.ensures, c.next_allowed.ensures, c.hold-self.ensures)

@@ -1,0 +1,10 @@
+use Rattle.gear.specs.Judging.{capped}
+use Rattle.std.proofs.Common.{arith}
+use Rattle.gear.proofs.Gear.capped.Goals as goal
+
+pub usable_below-requires : goal.usable_below-requires
+usable_below-requires c = omega (arith, c.smaller-2.ensures, c.requires.top)
+
+pub returns : goal.returns
+unfolding capped
+returns c = simp (c.usable_below.ensures, c.smaller-2.ensures, c.smaller.ensures, c.heeded.ensures)

@@ -1,0 +1,22 @@
+use borrow.Author.Tests.{le-leb, lt-leb}
+use lib.Dec.{leb}
+use Rattle.laws.specs.Steps.{highest}
+use Rattle.laws.proofs.Steps.{highest-none, highest-hit, highest-miss}
+use Rattle.level.specs.Ladder.{wave_rank, top_level_in}
+use Prim.Native.Nat.{◌-◌}
+use mathlib.Core.Path.{◌≡◌, refl, sym, ◌∙◌}
+use native.Mathlib.Omega.{arith}
+use Rattle.level.proofs.top_level_in.Goals as goal
+
+pub loop-k-init : goal.loop-k-init
+unfolding top_level_in
+loop-k-init c = (refl, omega arith)
+
+pub returns-then-wave_rank-w : goal.returns-then-wave_rank-w
+returns-then-wave_rank-w c = sym (c.loop-k.invariant.0 ∙ highest-hit _ _ _ (omega arith) (le-leb _ _ (rw c.wave_rank.ensures at c.if-wave_rank-w.true)))
+
+pub loop-k-preserved : goal.loop-k-preserved
+loop-k-preserved c = (c.loop-k.invariant.0 ∙ highest-miss _ _ _ (omega arith) (lt-leb _ _ (rw c.wave_rank.ensures at c.if-wave_rank-w.false)), omega arith)
+
+pub returns : goal.returns
+returns c = let e : c.loop-k.k ≡ 0 = omega arith in highest-none _ _ ∙ sym (rw e at c.loop-k.invariant.0)

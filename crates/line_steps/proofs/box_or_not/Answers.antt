@@ -1,0 +1,26 @@
+-- `box_or_not`: by whether the line is the box's. Assumes nothing.
+use mathlib.Core.Path.{refl}
+use borrow.Author.Tests.{not-true, not-false}
+use Rattle.laws.proofs.Picks.{cond_yes, cond_no, told-yes, told-no}
+use Rattle.line_steps.specs.LineSteps.{box_or_not}
+use Rattle.line_steps.proofs.box_or_not.Goals as goal
+
+pub is_box-requires : goal.is_box-requires
+is_box-requires c = tt
+
+pub returns-then-not-is_box : goal.returns-then-not-is_box
+unfolding box_or_not
+returns-then-not-is_box c =
+    let d = c.is_box in
+    cond_no _ _ _ _ (told-no _ _ d.ensures (not-true d.result c.if-not-is_box.true)) refl
+
+pub box_asked-requires : goal.box_asked-requires
+box_asked-requires c = tt
+
+pub returns : goal.returns
+unfolding box_or_not
+returns c =
+    let d = c in
+    let e = d in
+    let f = e.is_box in
+    cond_yes _ _ _ _ (told-yes _ _ f.ensures (not-false f.result e.if-not-is_box.false)) d.box_asked.ensures

@@ -1,0 +1,9 @@
+-- `queue`: its words, in a line of none. Assumes nothing.
+use Rattle.list_calls.specs.Asked.{queue_asks}
+use Rattle.list_calls.proofs.queue.Goals as goal
+
+pub returns : goal.returns
+unfolding queue_asks
+returns c =
+    let w = c.queue_words-q in
+    rw (← w.ensures.0, ← w.ensures.1, c.no_line-a.ensures)

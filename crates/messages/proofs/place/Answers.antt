@@ -1,0 +1,44 @@
+-- `messages::place` meets its contract. The invariant: the place is that among the entries from `row` on, with `bytes` before them.
+use mathlib.Core.Bool.{false}
+use native.Mathlib.Nat.{sub-zero}
+use Rattle.messages.specs.MessagesCode.{place_in}
+use Rattle.messages.proofs.Scan.{rest, place-stop, place-pass, place_end}
+use Prim.Native.Nat.{ℕ, ◌+◌, ◌-◌}
+use mathlib.Core.Path.{sym, ap, ◌∙◌}
+use native.Mathlib.Omega.{arith}
+use borrow.Author.Rules.{rules}
+use Rattle.messages.proofs.place.Goals as goal
+
+pub loop-row-init : goal.loop-row-init
+loop-row-init c = (omega arith, omega arith, simp sub-zero)
+
+pub returns-then-begun-class : goal.returns-then-begun-class
+returns-then-begun-class c =
+    let d = c in
+    let a = d.args in
+    sym (d.loop-row.invariant.2 ∙ place-stop a.t1 a.t1.n d.loop-row.row d.loop-row-test.true _ _ _ c.if-begun-class.true)
+
+pub overflow_cast-bytes : goal.overflow_cast-bytes
+overflow_cast-bytes c = omega (arith, c.wide.ensures)
+
+pub overflow_add-bytes : goal.overflow_add-bytes
+overflow_add-bytes c = omega (arith, c.wide.ensures)
+
+pub loop-row-preserved : goal.loop-row-preserved
+loop-row-preserved c =
+    let e = c in
+    let d = e in
+    let p = d in
+    let a = p.args in
+    let j = p.loop-row.row in (
+      search rules,
+      omega (arith, c.wide.ensures),
+      p.loop-row.invariant.2 ∙ place-pass a.t1 a.t1.n j d.loop-row-test.true _ _ _ e.if-begun-class.false
+          ∙ ap (λ (l : ℕ). place_in a.class (j + 1) (p.loop-row.bytes + l) false (rest a.t1 a.t1.n (j + 1))) (sym c.wide.ensures.0),
+    )
+
+pub returns : goal.returns
+returns c =
+    let p = c in
+    let a = p.args in
+    sym (p.loop-row.invariant.2 ∙ place_end a.t1 a.t1.n p.loop-row.row c.loop-row-test.false _ _ _)

@@ -1,0 +1,5 @@
+-- `flag_at`: the number, and what it means. Assumes nothing.
+use Rattle.profile_table.proofs.flag_at.Goals as goal
+
+pub returns : goal.returns
+returns c = cc

@@ -1,0 +1,26 @@
+-- `u32s`: the first places hold their values. Assumes nothing.
+use Prim.Native.Nat.{ℕ, ◌+◌, ◌-◌, ◌*◌}
+use mathlib.Core.Path.{ap, ◌∙◌}
+use lib.ListN.{length, get_or, length-set}
+use borrow.Author.Rules.{rules}
+use Rattle.profile_table.specs.Table.{or_most}
+use Rattle.profile_table.proofs.Rows.{row-none, row-turn, row-end}
+use Rattle.profile_table.proofs.u32s.Goals as goal
+
+pub loop-l-init : goal.loop-l-init
+loop-l-init c = (search rules, row-none (λ (k : ℕ). or_most c.args.most (get_or c.args.v.now (c.args.from + 4 * k) 0)))
+
+pub loop-l-preserved : goal.loop-l-preserved
+loop-l-preserved c = (
+  (search rules, simp length-set (search rules)),
+  row-turn
+      (λ (k : ℕ). or_most c.args.most
+      (get_or c.args.v.now (c.args.from + 4 * k) 0))
+      c.loop-l.l c.loop-l.x _ (search rules) c.loop-l.invariant.1
+      (c.narrowed.ensures ∙ ap (or_most _) c.at.ensures),
+)
+
+pub returns : goal.returns
+returns c = row-end (λ (k : ℕ). or_most c.args.most
+    (get_or c.args.v.now (c.args.from + 4 * k) 0)) 17 c.loop-l.l _
+    c.loop-l.invariant.0.1 (search rules) (search rules) c.loop-l.invariant.1

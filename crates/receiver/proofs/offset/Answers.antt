@@ -1,0 +1,10 @@
+-- `offset` meets its contract: three bytes, low byte first.
+use Rattle.receiver.proofs.Reading.{off-bytes}
+use Prim.Native.Nat.{◌-◌}
+use native.Mathlib.Omega.{arith}
+use Rattle.receiver.proofs.offset.Goals as goal
+
+pub returns : goal.returns
+returns c =
+    let s = c in
+    (omega (arith, off-bytes s.args.f.now s.requires), omega arith)

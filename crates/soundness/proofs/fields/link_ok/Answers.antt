@@ -1,0 +1,10 @@
+use mathlib.Core.Path.{refl}
+use Rattle.laws.specs.Tests.{all}
+use Rattle.soundness.specs.Soundness.{link_ok}
+use Rattle.ieee.specs.Range.{inside}
+use lib.Ieee.{of_int, of_bits}
+use Rattle.soundness.proofs.fields.link_ok.Goals as goal
+
+pub returns : goal.returns
+unfolding all link_ok inside of_int of_bits
+returns c = refl

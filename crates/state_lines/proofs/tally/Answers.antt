@@ -1,0 +1,20 @@
+-- `state_lines::tally` meets its contract.
+use mathlib.Core.Path.{◌∙◌}
+use Rattle.text.proofs.Laws.{appends, ◌⨾◌}
+use Rattle.state_lines.proofs.tally.Goals as goal
+
+pub shape_of-t : goal.shape_of-t
+shape_of-t c =
+    let p4 = c in
+    let p3 = p4 in
+    let p2 = p3 in
+    let p1 = p2 in
+    p4.number.auto.0 ∙ p3.number-n-3.auto.0 ∙ p2.number-n-2.auto.0 ∙ p1.number-n.auto.0
+
+pub returns : goal.returns
+returns c =
+    let p4 = c in
+    let p3 = p4 in
+    let p2 = p3 in
+    let p1 = p2 in
+    (appends p1.number.ensures ⨾ appends p2.number2.ensures ⨾ appends p3.number3.ensures ⨾ appends p4.number4.ensures).is

@@ -1,0 +1,25 @@
+-- `text::maybe_number` meets its contract.
+use mathlib.Core.Path.{refl}
+use Rattle.laws.proofs.Picks.{cond_yes, cond_no}
+use Rattle.text.proofs.Laws.{appends, told}
+use Rattle.text.proofs.maybe_number.Goals as goal
+
+pub shape_of-t-then-set : goal.shape_of-t-then-set
+shape_of-t-then-set c =
+    let p1 = c in
+    p1.number.auto.0
+
+pub returns-then-set : goal.returns-then-set
+returns-then-set c =
+    let p1 = c in
+    told (appends p1.number.ensures) (cond_yes _ _ _ _ c.if-set.true refl)
+
+pub shape_of-t : goal.shape_of-t
+shape_of-t c =
+    let p1 = c in
+    p1.puts.auto.0
+
+pub returns : goal.returns
+returns c =
+    let p1 = c in
+    told (appends p1.puts.ensures) (cond_no _ _ _ _ c.if-set.false refl)
