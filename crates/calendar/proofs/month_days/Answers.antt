@@ -13,7 +13,7 @@ unfolding month_days
 returns-else-leap c = search calls
 
 pub returns-in-4 : goal.returns-in-4
-returns-in-4 c = thirty _ _ c.in-4.keys2
+returns-in-4 c = thirty _ _ c.in-4.is
 
 pub returns-in_default : goal.returns-in_default
-returns-in_default c = longer _ _ c.in_default.rest.0.1 c.in_default.rest.1
+returns-in_default c = longer _ _ c.in_default.in_default-own.rest.0.1 c.in_default.in_default-own.rest.1

@@ -45,7 +45,7 @@ decimal-returns : (t : ℕ) → decimal-lts.Need-returns (
   decimal.Post,
 ) (decimal-at t) decimal.Post
 decimal-returns t c = let q = c.before.before in
-    told (appends q.digit.ensures) (sym (decimal-one _ q.before.before.if1.true))
+    told (appends q.digit-2.ensures) (sym (decimal-one _ q.before.before.if1.true))
 
 decimal-decimal-requires : (t : ℕ) → decimal-lts.Need-decimal-requires (
   digit-reads.Asked,

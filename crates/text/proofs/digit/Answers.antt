@@ -5,7 +5,7 @@ use Rattle.text.specs.Buffer.{put}
 use Rattle.text.proofs.digit.Goals as goal
 
 pub shape_of-t : goal.shape_of-t
-shape_of-t c = c.put.auto.0
+shape_of-t c = c.put.auto.t
 
 pub returns : goal.returns
 returns c = let q = c in

@@ -8,7 +8,7 @@ use Rattle.text.proofs.double.Goals as goal
 pub shape_of-t-then-x : goal.shape_of-t-then-x
 shape_of-t-then-x c =
     let p1 = c in
-    p1.puts.auto.0
+    p1.puts.auto.t
 
 pub returns-then-x : goal.returns-then-x
 unfolding double_word
@@ -19,7 +19,7 @@ returns-then-x c =
 pub shape_of-t-then-x-2 : goal.shape_of-t-then-x-2
 shape_of-t-then-x-2 c =
     let p1 = c in
-    p1.bits.auto.0
+    p1.bits.auto.t
 
 pub returns-then-x-2 : goal.returns-then-x-2
 unfolding double_word
@@ -31,7 +31,7 @@ returns-then-x-2 c =
 pub shape_of-t : goal.shape_of-t
 shape_of-t c =
     let p1 = c in
-    p1.bits-2.auto.0
+    p1.bits-2.auto.t
 
 pub returns : goal.returns
 unfolding double_word

@@ -8,7 +8,7 @@ use Rattle.text.proofs.flag.Goals as goal
 pub shape_of-t-then-b : goal.shape_of-t-then-b
 shape_of-t-then-b c =
     let p1 = c in
-    p1.puts.auto.0
+    p1.puts.auto.t
 
 pub returns-then-b : goal.returns-then-b
 unfolding flag_word
@@ -19,7 +19,7 @@ returns-then-b c =
 pub shape_of-t : goal.shape_of-t
 shape_of-t c =
     let p1 = c in
-    p1.puts-2.auto.0
+    p1.puts-2.auto.t
 
 pub returns : goal.returns
 unfolding flag_word

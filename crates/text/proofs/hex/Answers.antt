@@ -7,7 +7,7 @@ use Rattle.text.proofs.hex.Goals as goal
 pub shape_of-t-then-a-eq0 : goal.shape_of-t-then-a-eq0
 shape_of-t-then-a-eq0 c =
     let p1 = c in
-    p1.puts.auto.0
+    p1.puts.auto.t
 
 pub returns-then-a-eq0 : goal.returns-then-a-eq0
 returns-then-a-eq0 c =
@@ -18,7 +18,7 @@ pub shape_of-t : goal.shape_of-t
 shape_of-t c =
     let p2 = c in
     let p1 = p2 in
-    p2.pairs.auto.0 ∙ p1.puts-n.auto.0
+    p2.pairs.auto.t ∙ p1.puts-n.auto.t
 
 pub returns : goal.returns
 returns c =

@@ -7,7 +7,7 @@ use Rattle.text.proofs.maybe_number.Goals as goal
 pub shape_of-t-then-set : goal.shape_of-t-then-set
 shape_of-t-then-set c =
     let p1 = c in
-    p1.number.auto.0
+    p1.number.auto.t
 
 pub returns-then-set : goal.returns-then-set
 returns-then-set c =
@@ -17,7 +17,7 @@ returns-then-set c =
 pub shape_of-t : goal.shape_of-t
 shape_of-t c =
     let p1 = c in
-    p1.puts.auto.0
+    p1.puts.auto.t
 
 pub returns : goal.returns
 returns c =

@@ -6,7 +6,7 @@ use Rattle.text.proofs.pair.Goals as goal
 pub shape_of-t : goal.shape_of-t
 shape_of-t c =
     let p1 = c in
-    p1.hexadecimal.auto.0
+    p1.hexadecimal.auto.t
 
 pub returns : goal.returns
 returns c =

@@ -21,7 +21,7 @@ loop-i-preserved c = let q = c in
     let a = p.args.a.now in
     let i = p.loop-i.i in
     let e : drop i a ≡ get_or a i 0 ∷ drop (i + 1) a = simp add-one (drop-cons a i 0 l.loop-i-test.true) in
-    (omega arith, each_turn pair e p.loop-i.invariant.1 (appends q.pair-n.ensures), q.pair-n.auto.0 ∙ p.loop-i.invariant.2)
+    (omega arith, each_turn pair e p.loop-i.invariant.1 (appends q.pair-n.ensures), q.pair-n.auto.t ∙ p.loop-i.invariant.2)
 
 pub shape_of-t : goal.shape_of-t
 shape_of-t c = c.loop-i.invariant.2

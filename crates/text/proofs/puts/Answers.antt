@@ -14,7 +14,7 @@ loop-i-preserved c = let q = c in
     let p = l in (
       omega arith,
       slice-turn _ p.loop-i.i l.loop-i-test.true p.loop-i.invariant.1 (by_one q.put-n.ensures),
-      q.put-n.auto.0
+      q.put-n.auto.t
           ∙ p.loop-i.invariant.2,
     )
 

@@ -9,7 +9,7 @@ use Rattle.text.proofs.single.Goals as goal
 pub shape_of-t-then-x : goal.shape_of-t-then-x
 shape_of-t-then-x c =
     let p1 = c in
-    p1.puts.auto.0
+    p1.puts.auto.t
 
 pub returns-then-x : goal.returns-then-x
 unfolding single_word
@@ -20,7 +20,7 @@ returns-then-x c =
 pub shape_of-t-then-x-2 : goal.shape_of-t-then-x-2
 shape_of-t-then-x-2 c =
     let p1 = c in
-    p1.bits.auto.0
+    p1.bits.auto.t
 
 pub returns-then-x-2 : goal.returns-then-x-2
 unfolding single_word
@@ -32,7 +32,7 @@ returns-then-x-2 c =
 pub shape_of-t : goal.shape_of-t
 shape_of-t c =
     let p1 = c in
-    p1.bits-2.auto.0
+    p1.bits-2.auto.t
 
 pub returns : goal.returns
 unfolding single_word

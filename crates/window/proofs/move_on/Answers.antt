@@ -14,14 +14,14 @@ pub clear-requires : goal.clear-requires
 clear-requires c =
     let sl = c in
     let s = sl in
-    omega (arith, drop-lead s.args.w.now, s.requires, sl.slide.auto.0)
+    omega (arith, drop-lead s.args.w.now, s.requires, sl.slide.auto.w)
 
 pub returns-then-n-gt0 : goal.returns-then-n-gt0
 returns-then-n-gt0 c =
     let cl = c in
     let sl = cl in
     let s = sl in
-    slid s.args.w.now _ _ _ s.requires sl.slide.auto.0 sl.slide.ensures cl.clear.ensures
+    slid s.args.w.now _ _ _ s.requires sl.slide.auto.w sl.slide.ensures cl.clear.ensures
 
 pub returns-else-n-gt0 : goal.returns-else-n-gt0
 returns-else-n-gt0 c =
