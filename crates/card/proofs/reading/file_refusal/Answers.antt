@@ -17,7 +17,7 @@ returns-then-not-counts_ok c = (
   rw (
     told-no _ _ c.version_bad.ensures c.if-version_bad.false,
     told-no _ _
-        c.counts_ok.ensures (not-true _ c.if-not-counts_ok.true),
+        c.counts_ok.ensures c.if-not-counts_ok.true,
   ) refl,
   λ z. absurd (omega arith),
 )
@@ -28,8 +28,8 @@ returns c = (
   rw (
     told-no _ _ c.version_bad.ensures c.if-version_bad.false,
     told-yes _ _
-        c.counts_ok.ensures (not-false _ c.if-not-counts_ok.false),
+        c.counts_ok.ensures c.if-not-counts_ok.false,
   ) refl,
   λ z. counts-long _
-      (told-yes _ _ c.counts_ok.ensures (not-false _ c.if-not-counts_ok.false)),
+      (told-yes _ _ c.counts_ok.ensures c.if-not-counts_ok.false),
 )
