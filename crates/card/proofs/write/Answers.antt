@@ -1,6 +1,5 @@
 -- `write`: the refusals in order, then the file. Assumes nothing.
 use native.Mathlib.Omega.{arith}
-use borrow.Author.Tests.{not-true, not-false}
 use Rattle.laws.proofs.Picks.{told-yes, told-no}
 use Rattle.config.specs.Ranges.{in_order}
 use Rattle.config.proofs.ranges.Ranged.{ranged}

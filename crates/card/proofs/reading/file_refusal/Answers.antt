@@ -1,7 +1,6 @@
 -- `reading::file_refusal`: the version, then the counts. Assumes nothing.
 use mathlib.Core.Path.{refl}
 use native.Mathlib.Omega.{arith}
-use borrow.Author.Tests.{not-true, not-false}
 use Rattle.laws.proofs.Picks.{told-yes, told-no}
 use Rattle.card.specs.Card.{file_refusal}
 use Rattle.card.proofs.Refusals.{counts-long}

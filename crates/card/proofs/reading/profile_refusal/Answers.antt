@@ -1,6 +1,5 @@
 -- `reading::profile_refusal`: the place that was harq_stretch's, the flags, the ranges, then the order. Assumes nothing.
 use mathlib.Core.Path.{refl}
-use borrow.Author.Tests.{not-true, not-false}
 use Rattle.laws.proofs.Picks.{told-yes, told-no}
 use Rattle.config.specs.Ranges.{in_order}
 use Rattle.card.specs.Card.{content_refusal}
