@@ -3,7 +3,7 @@ pub use Prim.Native.Nat.{ℕ, ◌<◌}
 pub use base.Fml.{GName, Lft, Share, fat, fdies, flent, flft, froom, ftrue}
 pub use base.Logic.{SProp, emp, ent, fst∗, id⊢, via}
 pub use contract.Monad.{Fun}
-pub use contract.Running.{given_of, tables}
+pub use contract.Running.{tables}
 unfoldable pub use contract.Running.{tables_of}
 pub use denote.Builtin.{u8, u16, u32, u64, usize, i8, i16, i32, i64, isize, f32, f64, bool, unit}
 pub use denote.Floats.{float_Lawful, float_Makes, float_Tells, float_vals}
@@ -25,7 +25,7 @@ pub use denote.Triple.Statement.{Contract, Triple}
 pub use denote.Triple.Table.{cited, entered}
 pub use denote.Triple.Walked.{AllGo, Stays, Walks, ends_at, Goes-ref, Goes-slice, says, stay_ref, stay_slice, walk_Meets, walk_of, walked}
 pub use ghost.Atoms.{Atoms}
-pub use seplogic.Ra.TreeShare.{full_share}
+pub use base.Fraction.{full_share}
 pub use seplogic.Ra.Ura.{Ura}
 pub use lib.Dec.{ltb, leb, eqb, lit<}
 pub use lib.Ieee.{Float, binary32, binary64}
@@ -42,7 +42,7 @@ pub use prog.Routine.{Routine}
 pub use prog.Wp.{Calls, Env, Heap, Loops, Out, Tables, Wp, WpFn, after_block, after_seq, at_return}
 unfoldable pub use prog.Wp.{after_turn}
 pub use sound.WpLaws.{FmC, WpFn-mono, fm_of}
-pub use types.Kit.{Given, Item, Sq, ◌$◌, ◌∵◌, ◌⊛◌, any_q, at_ret, await, done, drop, feq_l, fjoin, frame, fsplit, join, keep, later, move, pick, qed, raw, rewrite, runs, some, split, suffices, use1, use2, use3, ‵, ! }
+pub use types.Kit.{given, Item, Sq, ◌$◌, ◌∵◌, ◌⊛◌, any_q, at_ret, await, done, drop, feq_l, fjoin, frame, fsplit, join, keep, later, move, pick, qed, raw, rewrite, runs, some, split, suffices, use1, use2, use3, ‵, ! }
 pub use types.Part.{agg, look_in, store_in, sub, whole}
 pub use types.Run.{Below, addr, again, alloc0, and_then, assigns, assigns_last, bin, blocks, branches, enter, exec, false_lit, first, fld, forget, free0, free1, from, hop, init, jumps, land, land_last, lit, load, look, look_raw, loops, no_more, of_opd, params1, pass0, pass1, returns, returns_within, skips, stop, store, store_raw, true_lit, unit_lit}
 pub use types.SemTy.{Body}

@@ -1,11 +1,9 @@
 -- What a walk of a loop names.
 --     ty_at     the type of local i.        after   what follows the first part of a sequence
 --     fallen   an order by a measure, which is well founded
-use Prim.Native.Nat.{ℕ, zero, suc, ◌<◌}
+use Prim.Native.Nat.{ℕ, zero, suc}
 use mathlib.Core.List.{List, [], ◌∷◌}
-use mathlib.Core.WellFounded.{WellFounded}
-use lib.WfN.{lt-wf_rel}
-use mir.Syntax.{Ty, ty_unit, Local, local, Body, skip, seq, assign, block, loop, cond, switch, exit, return, call}
+use mir.Syntax.{Ty, ty_unit, Local, local, Body, skip, seq, assign, block, loop, cond, switch, exit, return, call, unreachable, call_v, lend_static}
 
 abbrev ty_of : Local → Ty
 ty_of (local τ h) = τ
@@ -26,3 +24,6 @@ after (switch c arms) = skip
 after (exit n) = skip
 after return = skip
 after (call f xs d) = skip
+after unreachable = skip
+after (call_v f s xs d) = skip
+after (lend_static p τ c) = skip

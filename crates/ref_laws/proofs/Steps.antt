@@ -10,11 +10,11 @@ use Prim.Native.Nat.{ℕ, zero}
 use mathlib.Core.Path.{refl}
 use mathlib.Core.List.{List, [], ◌∷◌}
 use seplogic.Ra.Ura.{Ura}
-use seplogic.Ra.TreeShare.{full_share}
+use base.Fraction.{full_share}
 use mir.Syntax.{Ty, Home, Local, local}
 use mir.Val.{Val, vptr}
 use base.Stored.{Gv}
-use base.Fml.{Fml, Lft, GName, Share, fsep, feq, flft, fobs, fauth, fbor, fobor, fshr_bor, froom, fdies}
+use base.Fml.{Fml, Lft, GName, Share, fsep, feq, flft, fobs, fauth, fbor, fobor, froom, fdies}
 use prog.Wp.{Env}
 use types.Logic.{Logic}
 use types.Kit.{Item, Goal, Soaks, Seq, Step, step, allocs, ‵, raw, some, later, ◌⊛◌, ◌$◌, split, join, move, drop, pick, await, fsplit, fsplit3, fjoin, fjoin3, feq_i}
@@ -22,8 +22,9 @@ use types.Run.{alloc1}
 use types.SemTy.{Body}
 use contract.Monad.{fact}
 use denote.RattleType.{RattleType}
-use denote.Laws.{Is, Tells, Makes, Copy, shows}
-use denote.Memory.{cell_at, part_at, mem}
+use denote.Laws.{Is, Tells, Makes, shows}
+use denote.Memory.{cell_at, part_at, mem, hidden_shr}
+use denote.Opens.{Opens, Shut}
 use denote.Steps.{opens, closes, looks, shuts, facts, owned, heard}
 use denote.Struct.Steps.{spelt}
 
@@ -48,18 +49,18 @@ module _ {M : Type 1} {𝓤 : Ura M} {𝓛 : Logic 𝓤} {K : Type 0} {Γ : List
     closes_at t z R mk h vs is b o = step (λ s. owned t R (Is R) mk h vs is $ move t (1 ∷ 0 ∷ []) $ closes t z R h vs b o $
         feq_i t (List Val) (vptr b o ∷ []) (vptr b o ∷ []) refl $ fjoin3 t $ s)
 
-    pub looks-at : K → Soaks G → (R : RattleType) (vals : R.Denot → List Val) → Tells R (Is R) vals → Copy 𝓛 R → {E N : Fml} {κ : Lft} {q : Share} (h : R.Denot) (b o : ℕ)
-        → ((s : Share) → Is R h (vals h) → Seq K 𝓛 (‵ (cell_at s R.mir (vals h) b o) ∷ ‵ (fobor κ q (part_at R s h b o)) ∷ ‵ (fshr_bor κ (λ s'. part_at R s' h b o)) ∷ ‵ N ∷ Γ) G)
-        → Seq K 𝓛 (‵ (fsep E (fsep N (fshr_bor κ (λ s'. part_at R s' h b o)))) ∷ ‵ (flft κ q) ∷ Γ) G
-    looks-at t z R vals tl cp h b o k =
-        fsplit3 t $ drop t $ move t (1 ∷ 2 ∷ []) $ looks t z R (Is R) (shows 𝓛 R) vals tl cp h b o (λ s vs. spelt t R (Is R) (shows 𝓛 R) vals tl s h vs b o $ move t (1 ∷ []) $
+    pub looks-at : K → Soaks G → (R : RattleType) (vals : R.Denot → List Val) → Tells R (Is R) vals → Opens 𝓛 R → {E : Fml} {κ : Lft} {q : Share} (h : R.Denot) (b o : ℕ)
+        → ((s : Share) → Is R h (vals h) → Seq K 𝓛 (‵ (cell_at s R.mir (vals h) b o) ∷ Shut 𝓛 κ q (part_at R s h b o) ∷ ‵ (hidden_shr R κ h b o) ∷ Γ) G)
+        → Seq K 𝓛 (‵ (fsep E (hidden_shr R κ h b o)) ∷ ‵ (flft κ q) ∷ Γ) G
+    looks-at t z R vals tl op h b o k =
+        fsplit t $ drop t $ looks t z R op h b o (λ s vs. spelt t R (Is R) (shows 𝓛 R) vals tl s h vs b o $ move t (1 ∷ []) $
         facts t R (Is R) (shows 𝓛 R) h (vals h) (λ is. k s is))
 
-    pub shuts-at : K → Soaks G → (R : RattleType) → Makes 𝓛 R (Is R) → {N : Fml} {κ : Lft} {q : Share} (s : Share) (h : R.Denot) (vs : List Val) → Is R h vs → (b o : ℕ)
-        → Step K 𝓛 (‵ (fsep (feq (List Val) (vptr b o ∷ []) (vptr b o ∷ [])) (fsep N (fshr_bor κ (λ s'. part_at R s' h b o)))) ∷ ‵ (flft κ q) ∷ Γ) G
-        (‵ (cell_at s R.mir vs b o) ∷ ‵ (fobor κ q (part_at R s h b o)) ∷ ‵ (fshr_bor κ (λ s'. part_at R s' h b o)) ∷ ‵ N ∷ Γ) G
-    shuts-at t z R mk s h vs is b o = step (λ k. owned t R (Is R) mk h vs is $ move t (1 ∷ 0 ∷ []) $ shuts t z R s h vs b o $ move t (2 ∷ 1 ∷ []) $
-        feq_i t (List Val) (vptr b o ∷ []) (vptr b o ∷ []) refl $ fjoin3 t $ k)
+    pub shuts-at : K → Soaks G → (R : RattleType) → Makes 𝓛 R (Is R) → {κ : Lft} {q : Share} (s : Share) (h : R.Denot) (vs : List Val) → Is R h vs → (b o : ℕ)
+        → Step K 𝓛 (‵ (fsep (feq (List Val) (vptr b o ∷ []) (vptr b o ∷ [])) (hidden_shr R κ h b o)) ∷ ‵ (flft κ q) ∷ Γ) G
+        (‵ (cell_at s R.mir vs b o) ∷ Shut 𝓛 κ q (part_at R s h b o) ∷ ‵ (hidden_shr R κ h b o) ∷ Γ) G
+    shuts-at t z R mk s h vs is b o = step (λ k. owned t R (Is R) mk h vs is $ move t (1 ∷ 0 ∷ []) $ shuts t z R s h vs b o $ move t (1 ∷ []) $
+        feq_i t (List Val) (vptr b o ∷ []) (vptr b o ∷ []) refl $ fjoin t $ k)
 
     pub adds : K → (R : RattleType) → Makes 𝓛 R (Is R) → (x : R.Denot) (vs : List Val) → Is R x vs → {Q : Fml} → Step K 𝓛 (‵ (fsep (R.own_val x vs) Q) ∷ Γ) G (‵ Q ∷ Γ) G
     adds t R mk x vs is = step (λ s. owned t R (Is R) mk x vs is $ fjoin t $ s)

@@ -84,7 +84,7 @@ module _ (t : Station) (n : ℕ) (next : Station) where
   kept-is : (v : Verdict) → n ≡ number_of v → (passed v ≡ false → next ≡ t) → kept t n next ≡ next
   kept-is v e same = by (λ (x : Station). x ≡ next) (eqb n 0) (λ b. refl) (λ b. sym (same (ap (λ (x : ℕ). eqb x 0) (sym e) ∙ b)))
 
--- ---- the calls, as tools/walk.py cites them: each after the call by value, which answers r, and the one that stores it, which answers n and
+-- ---- the calls, as their proofs cite them: each after the call by value, which answers r, and the one that stores it, which answers n and
 -- leaves `after`
 
 kept-left : (t : Station) (v : Verdict) (q : Answer × List ℕ) → q.0.verdict ≡ v → (passed v ≡ false → q.0.next ≡ t)
