@@ -1,6 +1,6 @@
 #!/bin/sh
 # usage: bench/calls.sh [FOLDER]
-# The least nanoseconds of single calls (bench/calls.c), of six runs. FOLDER is another checkout whose library is built (`rt staticlib station` there): the runs of both
+# The least nanoseconds of single calls (bench/calls.c), of six runs. FOLDER is another checkout whose library is built (`tools/prove station` there): the runs of both
 # take turns, and the last column is by how much this one's calls take longer. Wants a C compiler, as `cc` or in CC.
 set -eu
 other=${1:+$(cd "$1" && pwd)}
@@ -10,7 +10,7 @@ trap 'rm -rf "$room"' EXIT
 
 # built FOLDER PROGRAM: the rows' program over the library of a checkout.
 built() {
-    [ -f "$1/target/staticlib/libstation.a" ] || { echo "bench/calls.sh: no library in $1: rt staticlib station" >&2; exit 1; }
+    [ -f "$1/target/staticlib/libstation.a" ] || { echo "bench/calls.sh: no library in $1: tools/prove station" >&2; exit 1; }
     before=
     grep -q 'struct vanitycrow_message ' "$1/include/vanitycrow.h" || before=-DBEFORE_MESSAGES
     "${CC:-cc}" -O3 -D_POSIX_C_SOURCE=199309L $before -I"$1/include" -I"$1/examples" -Ibench -o "$2" bench/calls.c "$1/target/staticlib/libstation.a"

@@ -2,7 +2,7 @@
 # The gear's part of bench/run: an ack in Goodput, beside the Rust's on_ack where cargo and the original's sources are at hand.
 set -eu
 cd "$(dirname "$0")/.."
-rt staticlib bench_gear > /dev/null
+tools/prove bench_gear > /dev/null
 "${CC:-cc}" -O3 -o target/bench_gear bench/gear.c target/staticlib/libbench_gear.a
 rust=
 if command -v cargo > /dev/null 2>&1 && oracle/where > /dev/null 2>&1; then

@@ -8,7 +8,7 @@ if ! command -v cargo > /dev/null 2>&1 || ! oracle/where > /dev/null 2>&1; then
     exit 0
 fi
 if [ -z "${VANITYCROW_LIB:-}" ]; then
-    rt staticlib station > /dev/null
+    tools/prove station > /dev/null
     VANITYCROW_LIB=target/staticlib
 fi
 VANITYCROW_LIB=$(cd "$VANITYCROW_LIB" && pwd)

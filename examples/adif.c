@@ -2,7 +2,7 @@
  *
  * CALL is the far station's call sign and ACKED the bytes acknowledged. START and END are the link's first and last second, each in
  * seconds since 1970 or as UTC, 2026-11-16T11:30:00Z. The record and a line feed go to standard output; a refusal is told in words, with
- * status 1. Build, after `rt staticlib station`:
+ * status 1. Build, after `tools/prove station`:
  *
  *     cc -Iinclude examples/adif.c target/staticlib/libstation.a -o adif
  */

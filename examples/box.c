@@ -3,7 +3,7 @@
  * Standard input has a line for each burst that was heard: NUMBER DB, then SLOT:HEX for each decoded frame, apart by spaces; NUMBER is the burst's, DB
  * the dB byte to answer, both decimal, HEX the frame's bytes. For each line the payload of the long ack to send is written to standard output as 26
  * digits, with how many frames were left out under 16 and under 17 behind it, or `refused` and the number. The stream goes to STREAM, in order, as it
- * comes. A line that is not of this form ends the box with status 2. Build, after `rt staticlib station`:
+ * comes. A line that is not of this form ends the box with status 2. Build, after `tools/prove station`:
  *
  *     cc -Iinclude examples/box.c target/staticlib/libstation.a -o box
  */

@@ -4,7 +4,7 @@
  *     card read FILE          a card's profile as the lines of a call list, to standard output
  *     card show FILE          a card in words, to standard output: every field with its unit, and what is refused, by which number and why
  *
- * A refused profile or card is told with status 1. Build, after `rt staticlib station`:
+ * A refused profile or card is told with status 1. Build, after `tools/prove station`:
  *
  *     cc -Iinclude examples/card.c target/staticlib/libstation.a -o card
  */

@@ -2,7 +2,7 @@
  *
  * LIST is a call list, whose first profile is asked about; LOW and HIGH are the lowest and the highest report, 0 to 255, q for q - 24 dB;
  * the last words are the channel's class. A line for each level goes to standard output, with the lowest report that gives it. A refusal is
- * told in words, with status 1. Build, after `rt staticlib station`:
+ * told in words, with status 1. Build, after `tools/prove station`:
  *
  *     cc -Iinclude examples/levels.c target/staticlib/libstation.a -o levels
  */

@@ -4,7 +4,7 @@
  * A far station loses every third frame or so and answers with short and long acks until the whole mail is there; it puts the mail together
  * from the frames and compares it. What was called goes to CALLS and what was
  * answered to TRANSCRIPT, for a comparison with `replay` (docs/CALLS.md); a station leaves the list_ lines out. Build, after
- * `rt staticlib station`:
+ * `tools/prove station`:
  *
  *     cc -Iinclude examples/link.c target/staticlib/libstation.a -o link
  */

@@ -1,7 +1,7 @@
 /* A mail from a sender to a listening box over a lossy channel, both in one program: mail_to_box [SEED].
  *
  * The channel loses every third frame or so, whole bursts and answers. The box hands the mail on in order, and answers each burst that arrives with a
- * long ack; the sender goes on until all is acknowledged. Build, after `rt staticlib station`:
+ * long ack; the sender goes on until all is acknowledged. Build, after `tools/prove station`:
  *
  *     cc -Iinclude examples/mail_to_box.c target/staticlib/libstation.a -o mail_to_box
  */

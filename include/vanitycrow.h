@@ -1,7 +1,7 @@
 /* The sender of an HF station: six calls over one record and one work area, a lookup, the link log, the levels within reach, and profiles as files; and
  * the receiving end, a box that listens, with a record and a window of its own.
  *
- * Link with libstation.a (`rt staticlib station`). A sender is a struct vanitycrow_station and a work area of VANITYCROW_AREA_BYTES
+ * Link with libstation.a (`tools/prove station`). A sender is a struct vanitycrow_station and a work area of VANITYCROW_AREA_BYTES
  * bytes, all zero at first; vanitycrow_fresh makes the record. Each call changes both, and nothing else may. One profile serves a sender
  * for all its calls. No call asks anything of its values: what it cannot take it refuses, with the number of the first refusal below that
  * holds, and then record, work area and output keep every byte.

@@ -15,7 +15,7 @@ tries() {
     rm -rf "$work/copy"
     mkdir -p "$work/copy/crates/$2/src" "$work/copy/crates/station/src"
     printf '%s:\nstation:\n' "$2" | sort -u >"$work/copy/crates.txt"
-    printf 'pub extern "C" fn vanitycrow_none() -> u8\n    ensures { λ r. ⌜ r ≡ 0 ⌝ }\n{\n    0\n}\n' >"$work/copy/crates/station/src/lib.rt"
+    printf 'pub extern "C" fn vanitycrow_none() -> u8\n    ensures { result ≡ 0 }\n{\n    0\n}\n' >"$work/copy/crates/station/src/lib.rt"
     printf '%b' "$3" >"$work/copy/crates/$2/src/lib.rt"
     status=0
     tools/check-contracts "$work/copy" >"$work/rows" || status=$?
@@ -27,14 +27,14 @@ tries() {
     tried=$((tried + 1))
 }
 
-tries none level 'pub fn a(x: [f32; 17]) -> [f32; 17]\n    ensures { λ r. ⌜ r ≡ x ⌝ }\n{\n    x\n}\n'
+tries none level 'pub fn a(x: [f32; 17]) -> [f32; 17]\n    ensures { result ≡ x }\n{\n    x\n}\n'
 tries 'lib.rt:1 a: no ensures' level 'pub fn a(x: [f32; 17]) -> [f32; 17]\n{\n    x\n}\n'
 tries none level 'pub(crate) fn a() -> u8 {\n    0\n}\nfn b() {}\n'
 tries none level '// pub fn gone() {}\nconst A: u8 = 0;\n'
 tries 'lib.rt:4 Gear::a: no ensures' level 'impl Gear {\n    // ensures { }\n    // a comment\n    pub fn a(mut self) -> Gear {\n        self\n    }\n}\n'
-tries 'lib.rt:2 vanitycrow_a: no ensures' station '#[no_mangle]\npub extern "C" fn vanitycrow_a(\n    p: &Profile,\n    s: &mut Sender,\n) -> u8\n{\n    0\n}\n'
-tries 'lib.rt:1 a: an entry point with a requires' station 'pub fn a(x: u8) -> u8\n    requires { ⌜ x < 2 ⌝ }\n    ensures { λ r. ⌜ r ≡ x ⌝ }\n{\n    x\n}\n'
-tries none level 'pub fn a(x: u8) -> u8\n    requires { ⌜ x < 2 ⌝ }\n    ensures { λ r. ⌜ r ≡ x ⌝ }\n{\n    x\n}\n'
+tries 'lib.rt:2 vanitycrow_a: no ensures' station '#[unsafe(no_mangle)]\npub extern "C" fn vanitycrow_a(\n    p: &Profile,\n    s: &mut Sender,\n) -> u8\n{\n    0\n}\n'
+tries 'lib.rt:1 a: an entry point with a requires' station 'pub fn a(x: u8) -> u8\n    requires { x < 2 }\n    ensures { result ≡ x }\n{\n    x\n}\n'
+tries none level 'pub fn a(x: u8) -> u8\n    requires { x < 2 }\n    ensures { result ≡ x }\n{\n    x\n}\n'
 
 # Of the sources as they stand: each public function of the calls, with its ensures taken out
 for source in crates/sender/src/lib.rt crates/station/src/lib.rt; do
@@ -79,8 +79,8 @@ END
 printf 'pub struct Part {\n    pub n: u8,\n}\n\npub struct Unused {\n    pub n: u8,\n}\n' >"$small/crates/base/src/parts.rt"
 cat >"$small/crates/base/specs/Base.antt" <<'END'
 -- Definitions only.
-use Prim.Native.Nat.{ℕ}
-use Rattle·base·specs.specs.declared.Whole.{Whole}
+use Rattle.std.specs.Prelude.{ℕ}
+use Rattle.base.specs.declared.Whole.{Whole}
 
 pub data Kind : Type 0 where
   one : Kind
@@ -109,14 +109,14 @@ module _ (x : Parameter) where
 END
 cat >"$small/crates/sender/specs/Calls.antt" <<'END'
 -- Definitions only.
-use Prim.Native.Nat.{ℕ}
-use Rattle·base.specs.Base as B
-use Rattle·base.specs.Base.{hidden, field, inside, «IN_QUOTES»}
-use Rattle·base.specs.declared.Whole.{Whole}
+use Rattle.std.specs.Prelude.{ℕ}
+use Rattle.base.specs.Base as B
+use Rattle.base.specs.Base.{hidden, field, inside, «IN_QUOTES»}
+use Rattle.base.specs.declared.Whole.{Whole}
 
 -- mentions Rattle and unused
 abbrev pub helper : ℕ → Whole → ℕ
-helper hidden w = B.cited (w .field)
+helper hidden w = B.cited w.field
 
 abbrev pub call :
     ℕ → Whole → ℕ
@@ -129,17 +129,17 @@ unused = hidden
 END
 cat >"$small/crates/sender/src/lib.rt" <<'END'
 use base::Whole;
-ghost use mathlib.Core.Path.{_≡_};
-ghost use Rattle·sender·specs.specs.Calls.{call, unused};
+ghost use Rattle.std.specs.Prelude.{◌≡◌};
+ghost use Rattle.sender.specs.Calls.{call, unused};
 
 pub fn calls(w: Whole) -> u8
-    ensures { λ r. ⌜ r ≡ call 0 w ⌝ }
+    ensures { result ≡ call 0 w }
 {
     0
 }
 
 fn private() -> u8
-    ensures { λ r. ⌜ r ≡ unused ⌝ }
+    ensures { result ≡ unused }
 {
     1
 }
@@ -154,19 +154,19 @@ printf 'pub in-binary32 : Unit\nin-binary32 = tt\n\npub in-binary64 : Unit\nin-b
 mkdir -p "$small/crates/verdicts/proofs" "$small/crates/calendar/proofs" "$small/crates/adif/proofs" "$small/crates/reachable/proofs" "$small/crates/far_station/proofs" \
     "$small/crates/card/proofs" "$small/crates/arrival/proofs" "$small/crates/receiver/proofs"
 printf 'pub cannot-force : Unit\ncannot-force = tt\n' >"$small/crates/far_station/proofs/Theorem.antt"
-printf 'pub round-trip : Unit\nround-trip = tt\n' >"$small/crates/card/proofs/Round.antt"
+printf 'pub round_trip : Unit\nround_trip = tt\n' >"$small/crates/card/proofs/Round.antt"
 printf 'pub later-versions : Unit\nlater-versions = tt\n' >"$small/crates/card/proofs/Later.antt"
-printf 'pub read-off : Unit\nread-off = tt\n\npub told-alone : Unit\ntold-alone = tt\n' >"$small/crates/card/proofs/Stretch.antt"
-printf 'pub end-to-end : Unit\nend-to-end = tt\n' >"$small/crates/arrival/proofs/Theorem.antt"
+printf 'pub read_off : Unit\nread_off = tt\n\npub told-alone : Unit\ntold-alone = tt\n' >"$small/crates/card/proofs/Stretch.antt"
+printf 'pub end_to_end : Unit\nend_to_end = tt\n' >"$small/crates/arrival/proofs/Theorem.antt"
 printf 'pub keeps-sound : Unit\nkeeps-sound = tt\n' >"$small/crates/receiver/proofs/Keeps.antt"
 printf 'pub sent-taken : Unit\nsent-taken = tt\n' >"$small/crates/receiver/proofs/Sent.antt"
 printf 'pub lists : Unit\nlists = tt\n' >"$small/crates/reachable/proofs/Laws.antt"
 printf 'pub by-claim : Unit\nby-claim = tt\n\npub under-claim : Unit\nunder-claim = tt\n\npub agree : Unit\nagree = tt\n' >"$small/crates/reachable/proofs/Answers.antt"
-for law in queue reply frames burst lookup; do
-    printf 'pub %s-first : Unit\n%s-first = tt\n\n' $law $law
+for law in queue-first reply-first frames-first burst-first lookup_first; do
+    printf 'pub %s : Unit\n%s = tt\n\n' $law $law
 done >"$small/crates/verdicts/proofs/Order.antt"
-printf 'pub date-back : Unit\ndate-back = tt\n\npub second-back : Unit\nsecond-back = tt\n' >"$small/crates/calendar/proofs/Laws.antt"
-printf 'pub read-back : Unit\nread-back = tt\n' >"$small/crates/adif/proofs/Laws.antt"
+printf 'pub date-back : Unit\ndate-back = tt\n\npub second_back : Unit\nsecond_back = tt\n' >"$small/crates/calendar/proofs/Laws.antt"
+printf 'pub read_back : Unit\nread_back = tt\n' >"$small/crates/adif/proofs/Laws.antt"
 "$small/tools/believed" --names >"$work/believed"
 "$small/tools/believed" --rest >"$work/rest"
 for name in Kind cited Parameter inside «IN_QUOTES» helper call ofLists ofPage Whole Part; do
@@ -179,51 +179,46 @@ for name in hidden field unused; do
 done
 ! grep -q Unused "$work/believed"
 
-# tools/prove begins a crate when those that it uses are proved, ends with the crate that was asked for, and stops at one that is not proved. The prover is
-# a script here that writes down what it is asked.
+# tools/prove begins a crate when those that it uses are proved, ends with the crate that was asked for, which it builds, and stops at one that is not proved.
+# The prover is a script here that writes down what it is asked.
 repo=$work/repo
 mkdir -p "$repo/tools" "$repo/bin"
-cp tools/prove tools/memory-room "$repo/tools/"
+cp tools/prove tools/sources.py "$repo/tools/"
 for name in a b c d e f; do
-    mkdir -p "$repo/crates/$name"
-    echo "$name" >"$repo/crates/$name/source"
+    mkdir -p "$repo/crates/$name/src" "$repo/crates/$name/out"
+    echo "$name" >"$repo/crates/$name/src/lib.rt"
 done
-printf 'a:\nb: a\nc: a # a remark\nd: b c\ne: d io\nf: a\n' >"$repo/crates.txt"
+mv "$repo/crates/e/src/lib.rt" "$repo/crates/e/src/main.rt"
+printf 'a:\nb: a\nc: a # a remark\nd: b c\ne: d other\nf staticlib: a\n' >"$repo/crates.txt"
 cat >"$repo/bin/rt" <<'END'
 #!/bin/sh
-echo "begin $2" >>"$LOG"
-echo "lists $2 $(wc -l <crates.txt)" >>"$LOG"
+name=$(basename "$PWD")
+echo "begin $name $1" >>"$LOG"
 sleep 0.3
-[ "$2" != "$BAD" ] || { echo "rt: $2 NOT PROVED"; exit 1; }
-echo "end $2" >>"$LOG"
-echo "rt: $2 proved (0 s)"
+[ "$name" != "$BAD" ] || { echo "rt: $name is not proved"; exit 1; }
+echo "of $name" >"out/$name"
+echo "of $name" >"out/lib$name.a"
+echo "end $name $1" >>"$LOG"
 END
 chmod +x "$repo/bin/rt"
 LOG=$work/asked BAD=none PATH="$repo/bin:$PATH" "$repo/tools/prove" e 2>"$work/said"
 for pair in a:b a:c b:d c:d d:e; do
-    awk -v first="end ${pair%:*}" -v then="begin ${pair#*:}" '$0 == first { a = NR } $0 == then { b = NR } END { exit !(a && b && a < b) }' "$work/asked" ||
+    awk -v first="end ${pair%:*} lib" -v then="begin ${pair#*:} " '$0 == first { a = NR } index($0, then) == 1 { b = NR } END { exit !(a && b && a < b) }' "$work/asked" ||
         { cat "$work/asked"; echo "prove: ${pair#*:} did not wait for ${pair%:*}"; exit 1; }
     tried=$((tried + 1))
 done
-! grep -q ' f$' "$work/asked"
-# below the last one, each is asked for by a list of it alone
-for line in 'a 1' 'b 1' 'c 1' 'd 1' 'e 6'; do
-    grep -q "^lists $line\$" "$work/asked" || { cat "$work/asked"; echo "prove: not asked by its own list: $line"; exit 1; }
-    tried=$((tried + 1))
-done
-# tools/memory-room makes a folder, or says by its status that there is none; none where TMPDIR names a place
-if made=$(unset TMPDIR && tools/memory-room); then
-    [ -d "$made" ] && rmdir "$made" || { echo "memory-room: no empty folder at $made"; exit 1; }
-fi
-! TMPDIR=$work tools/memory-room >/dev/null || { echo "memory-room: TMPDIR is not heeded"; exit 1; }
-tried=$((tried + 2))
-[ "$(tail -n 1 "$work/said")" = "5 of 5: e proved (0 s)" ] || { cat "$work/said"; echo "prove: the last line"; exit 1; }
+! grep -q ' f ' "$work/asked"
+grep -q '^begin e run$' "$work/asked"
+[ "$(cat "$repo/target/bin/e")" = "of e" ] || { echo "prove: no program"; exit 1; }
+tail -n 1 "$work/said" | grep -q '^5 of 5: e proved' || { cat "$work/said"; echo "prove: the last line"; exit 1; }
+LOG=$work/asked BAD=none PATH="$repo/bin:$PATH" "$repo/tools/prove" f 2>"$work/said"
+[ "$(cat "$repo/target/staticlib/libf.a")" = "of f" ] || { echo "prove: no static library"; exit 1; }
 : >"$work/asked"
 status=0
 LOG=$work/asked BAD=c PATH="$repo/bin:$PATH" "$repo/tools/prove" e 2>"$work/said" || status=$?
-[ $status -eq 1 ] && grep -q 'rt: c NOT PROVED' "$work/said" && ! grep -q 'begin [de]' "$work/asked" || { cat "$work/said"; echo "prove: c is not proved, and it went on"; exit 1; }
+[ $status -eq 1 ] && grep -q 'rt: c is not proved' "$work/said" && ! grep -q 'begin [de]' "$work/asked" || { cat "$work/said"; echo "prove: c is not proved, and it went on"; exit 1; }
 status=0
 "$repo/tools/prove" g 2>/dev/null || status=$?
 [ $status -eq 2 ] || { echo "prove: a crate that is not there"; exit 1; }
-tried=$((tried + 4))
+tried=$((tried + 6))
 echo "$tried cases"

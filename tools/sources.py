@@ -9,10 +9,21 @@ def read(path):
         return f.read()
 
 
+def rows(root=ROOT):
+    """The lines of crates.txt, less remarks: the words before the colon, and those behind it."""
+    lines = [l.split('#')[0].strip() for l in read(os.path.join(root, 'crates.txt')).splitlines()]
+    return [(l.split(':')[0].split(), l.split(':')[1].split()) for l in lines if l]
+
+
 def crates(root=ROOT):
     """Names in crates.txt, in its order."""
-    rows = [l.split('#')[0].strip() for l in read(os.path.join(root, 'crates.txt')).splitlines()]
-    return [r.split(':')[0].strip() for r in rows if r]
+    return [words[0] for words, _ in rows(root)]
+
+
+def used(root=ROOT):
+    """What each crate uses of the others, and which are static libraries."""
+    names = crates(root)
+    return {words[0]: [u for u in uses if u in names] for words, uses in rows(root)}, [words[0] for words, _ in rows(root) if 'staticlib' in words]
 
 
 def closing(text, at):

@@ -1,4 +1,4 @@
-//! Links libstation.a, which `rt staticlib station` writes to target/staticlib of the repository; VANITYCROW_LIB names another folder.
+//! Links libstation.a, which `tools/prove station` writes to target/staticlib of the repository; VANITYCROW_LIB names another folder.
 
 fn main() {
     let here = std::env::var("CARGO_MANIFEST_DIR").unwrap();

@@ -1,15 +1,15 @@
 -- "Reading the fields gives the numbers back": of every accepted call the output, read by ADIF's syntax, gives the fields, and these the
 -- call sign, both seconds and the count. First each kind of value by itself, then the output as record and rest, then the claim.
 -- Assumes nothing.
-use Prim.Native.Nat.{ℕ, zero, suc, ◌+◌, ◌-◌, ◌*◌, ◌/◌, ◌%◌, ◌≤◌, ◌<◌}
+use Prim.Native.Nat.{ℕ, suc, ◌+◌, ◌-◌, ◌/◌, ◌%◌, ◌≤◌, ◌<◌}
 use mathlib.Core.Path.{◌≡◌, refl, sym, ap, ap₂, ◌∙◌}
-use mathlib.Core.Bool.{cond, ◌||◌}
-use mathlib.Core.List.{List, [], ◌∷◌, ◌++◌}
+use mathlib.Core.Bool.{◌||◌}
+use mathlib.Core.List.{List, ◌++◌}
 use native.Mathlib.Omega.{arith}
 use native.Mathlib.Nat.{zero-add}
 use borrow.Author.Tests.{eq-eqb}
 use lib.Dec.{eqb}
-use lib.ListN.{length, take, drop, get_or}
+use lib.ListN.{length, take, drop}
 use lib.Seq.{take_at, drop_at, take_all, drop-drop}
 use Rattle.laws.specs.Bytes.{overwrite}
 use Rattle.laws.proofs.Bytes.{over-eq, length_over}
@@ -20,14 +20,14 @@ use Rattle.calendar.specs.Calendar.{last_second, leap_year, month_days, date_of,
 use Rattle.calendar.specs.Meaning.{second_of}
 use Rattle.calendar.proofs.Laws.{date-back, second_back}
 use Rattle.adif.specs.declared.Logged.{Logged}
-use Rattle.adif.specs.Adif.{last_digits, numeral, date_text, time_text, Field, fields_of, written_all, record_of, refusal_of, log_of}
+use Rattle.adif.specs.Adif.{last_digits, numeral, date_text, time_text, fields_of, written_all, record_of, refusal_of, log_of}
 use Rattle.adif.specs.Adif.{«CALL», QSO_DATE, TIME_ON, QSO_DATE_OFF, TIME_OFF, APP_STATION_ACKED}
 use Rattle.adif.specs.Reading.{number_in, alike, read_fields, read_record, value_of, date_in, time_in}
 use Rattle.adif.specs.Claim.{LogHolds, ReadBack}
 use Rattle.adif.proofs.Steps.{length_digits, length-date, length-time, decimal-most, record-most}
-use Rattle.adif.proofs.Refusals.{Accepted, accepted}
+use Rattle.adif.proofs.Refusals.{accepted}
 use Rattle.adif.proofs.Numbers.{tens, digits-back, decimal-back, no_zero}
-use Rattle.adif.proofs.Reading.{Plain, AllPlain, plain-field, fields_back}
+use Rattle.adif.proofs.Reading.{AllPlain, plain-field, fields_back}
 
 -- ---- dates and times
 

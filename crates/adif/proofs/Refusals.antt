@@ -1,15 +1,13 @@
 -- What an accepted call was handed, and the two ways of a call.
 -- Assumes nothing.
-use Prim.Native.Nat.{ℕ, suc, ◌+◌, ◌≤◌}
-use mathlib.Core.Path.{◌≡◌, refl, sym, ap, ◌∙◌}
+use Prim.Native.Nat.{ℕ, suc, ◌≤◌}
+use mathlib.Core.Path.{◌≡◌, refl, sym, ◌∙◌}
 use mathlib.Core.Bool.{Bool, true, false, cond, ◌||◌, false≢true}
 use mathlib.Core.List.{List}
 use native.Mathlib.Omega.{arith}
 use borrow.Author.Tests.{eq-eqb, ne_eqb, ltb-false}
 use lib.ListN.{length}
-use Rattle.laws.specs.Bytes.{overwrite}
 use Rattle.calendar.specs.Calendar.{last_second}
-use Rattle.adif.specs.declared.Logged.{Logged}
 use Rattle.adif.specs.Adif.{sign_ok, refusal_of, record_of, log_of}
 use Rattle.adif.specs.AdifCode.{Put}
 use Rattle.adif.proofs.Steps.{sign-length}

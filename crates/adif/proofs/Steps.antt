@@ -1,17 +1,15 @@
 -- What the loops and the calls of the writer need of its definitions.
 -- Assumes nothing.
-use Prim.Native.Nat.{ℕ, zero, suc, ◌+◌, ◌-◌, ◌*◌, ◌/◌, ◌%◌, ◌≤◌, ◌<◌}
+use Prim.Native.Nat.{ℕ, zero, suc, ◌+◌, ◌-◌, ◌/◌, ◌%◌, ◌≤◌, ◌<◌}
 use mathlib.Core.Path.{◌≡◌, refl, sym, ap, ◌∙◌}
 use mathlib.Core.Bool.{Bool, true, false}
 use mathlib.Core.List.{List, [], ◌∷◌, ◌++◌, append_assoc, append-nil}
 use native.Mathlib.Omega.{arith}
-use native.Mathlib.Numerals.{add-one}
-use native.Mathlib.Nat.{add_assoc}
 use borrow.Author.Tests.{lt-ltb, le-ltb, le-leb, lt-leb, leb-true}
 use lib.Dec.{ltb, leb}
-use lib.ListN.{length, get_or, set, take, drop, length-append, drop_of_length-le}
+use lib.ListN.{length, get_or, set, take, length-append, drop_of_length-le}
 use Rattle.laws.specs.Bytes.{overwrite}
-use Rattle.laws.proofs.Bytes.{over-nil, over-cat, over-front, set-over, over-eq, length_over}
+use Rattle.laws.proofs.Bytes.{over-nil, over-cat, over-front, set-over, over-eq}
 use Rattle.laws.specs.Span.{every, upto}
 use Rattle.laws.proofs.Span.{every-pass, every-fail, every-end}
 use Rattle.laws.proofs.Picks.{by, and_first, and_second}

@@ -181,6 +181,8 @@ null-in = unfold le in record { low = tt; high = tt }
 
 var-in : (R : List Range) (ρ : List Float) (i : ℕ) → Known R ρ → In (pick (null, null) R i).0 (pick (null, null) R i).1 (pick null ρ i)
 var-in [] [] i none = null-in
+var-in [] (x ∷ ρ) i h = elim h [ ]
+var-in (r ∷ R) [] i h = elim h [ ]
 var-in (r ∷ R) (x ∷ ρ) zero (more h k) = h
 var-in (r ∷ R) (x ∷ ρ) (suc i) (more h k) = var-in R ρ i k
 

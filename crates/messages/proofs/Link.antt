@@ -334,7 +334,7 @@ module _ (m : Messages) (w : List ℕ) (sum : total_left (entries_in m) ≡ leng
       unfolding withdrawn
       withdraw-sum =
           ap total_left
-          (entries-withdrawn _ (store_entries (begun_in m) (stay_in l (begun_in m) (entries_in m)) m)
+          (entries-withdrawn sums (store_entries (begun_in m) (stay_in l (begun_in m) (entries_in m)) m)
           ∙ entries-stored m z (begun_in m) (stay_in l (begun_in m) (entries_in m)) (omega (arith, rows_stay, few-stay)))
           ∙ bytes-stay
 

@@ -90,8 +90,7 @@ pub extern "C" fn vanitycrow_queue(
     m: Message,
     bytes: &[u8],
 ) -> u8
-    ensures { (left result t.new, a.new)
-        ≡ answer_number (queue_of p.now t.old a.old m.class m.label bytes.now) }
+    ensures { (left result t.new, a.new) ≡ answer_number (queue_of p.now t.old a.old m.class m.label bytes.now) }
 {
     let q = sender::queue(*p, *t, a, m, bytes);
     keep_queue(t, q)

@@ -1,5 +1,4 @@
 -- `adif::count_digits` meets its contract.
-use Prim.Native.Nat.{◌-◌}
 use native.Mathlib.Omega.{arith}
 use Rattle.adif.proofs.Steps.{count-found, count_next, count-last}
 use Rattle.adif.proofs.count_digits.Goals as goal

@@ -2,7 +2,7 @@
 use Prim.Native.Nat.{ℕ, suc, ◌-◌}
 use mathlib.Core.Path.{◌≡◌, refl, sym, ap, ◌∙◌}
 use native.Mathlib.Omega.{arith}
-use lib.ListN.{length, length-set}
+use lib.ListN.{length-set}
 use Rattle.laws.specs.Bytes.{overwrite}
 use Rattle.adif.specs.Adif.{last_digits}
 use Rattle.adif.proofs.Steps.{digits-next, digits-none}

@@ -25,4 +25,4 @@ returns c = let p₆ = c in
     let p₁ = p₂ in
     let value = put-more _ _ _ _ _ _ _ _ p₅.put_char-e.ensures p₆.put_all.ensures in
     let count = put-more _ _ _ _ _ _ _ _ p₃.put_char-c.ensures (put-more _ _ _ _ _ _ _ _ p₄.put_decimal-d.ensures value) in
-    put-more _ _ _ _ _ _ _ _ p₁.put_char-a.ensures (put-more _ _ _ _ _ _ _ _ p₂.put_all_lem.ensures count)
+    put-more _ _ _ _ _ _ _ _ p₁.put_char-a.ensures (put-more _ _ _ _ _ _ _ _ p₂.put_all-b.ensures count)

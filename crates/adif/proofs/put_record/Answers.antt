@@ -30,4 +30,4 @@ returns c = let p₅ = c in
     let p₁ = p₂ in
     record-made
     _ _ _ _ _ _ _ _ _ _ _ _ _ _ _
-    p₁.put_field-a.ensures p₂.put_moment-b.ensures p₃.put_moment-c.ensures p₄.put_count-d.ensures p₅.put_all_lem.ensures
+    p₁.put_field-a.ensures p₂.put_moment-b.ensures p₃.put_moment-c.ensures p₄.put_count-d.ensures p₅.put_all.ensures

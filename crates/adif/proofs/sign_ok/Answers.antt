@@ -1,7 +1,5 @@
 -- `adif::sign_ok` meets its contract. The loop's invariant: the characters passed are good, so those that are left tell. Assumes nothing.
-use Prim.Native.Nat.{◌-◌}
 use native.Mathlib.Omega.{arith}
-use borrow.Author.Tests.{not-true, not-false}
 use Rattle.adif.proofs.Steps.{sign-short, sign-long, sign-start, sign-bad, sign-good, sign-end}
 use Rattle.adif.proofs.sign_ok.Goals as goal
 
@@ -16,11 +14,11 @@ loop-i-init c = (omega arith, sign-start _ (omega arith) (omega arith))
 
 pub returns-then-not-sign_char : goal.returns-then-not-sign_char
 returns-then-not-sign_char c = let p = c in
-    sign-bad _ _ p.loop-i.invariant.1 _ c.sign_char.ensures (omega arith) (not-true _ c.if-not-sign_char.true)
+    sign-bad _ _ p.loop-i.invariant.1 _ c.sign_char.ensures (omega arith) c.if-not-sign_char.true
 
 pub loop-i-preserved : goal.loop-i-preserved
 loop-i-preserved c = let p = c in
-    (omega arith, sign-good _ _ p.loop-i.invariant.1 _ c.sign_char.ensures (omega arith) (not-false _ c.if-not-sign_char.false))
+    (omega arith, sign-good _ _ p.loop-i.invariant.1 _ c.sign_char.ensures (omega arith) c.if-not-sign_char.false)
 
 pub returns : goal.returns
 returns c = sign-end _ _ c.loop-i.invariant.1 (omega arith)

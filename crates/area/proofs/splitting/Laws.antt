@@ -5,7 +5,6 @@ use mathlib.Core.List.{List, [], ◌∷◌, ◌++◌, append_assoc, append-nil}
 use mathlib.Core.Bool.{Bool, true, false, cond}
 use Prim.Native.Nat.{ℕ, zero, suc, ◌+◌, ◌-◌, ◌/◌, ◌≤◌, ◌<◌}
 use native.Mathlib.Nat.{div-eq_of_lt, div-eq-sub-div, zero-add, le_refl}
-use borrow.Author.Rules.{zero≤}
 use native.Mathlib.Omega.{arith}
 use lib.ListN.{length, length-append}
 use lib.Dec.{leb}
@@ -84,7 +83,7 @@ split-cat max (r ∷ rs) ss = ap (λ (x : List Row). cut_row max r ++ x) (split-
 -- no row is lost
 pub split-long : (max : ℕ) (rs : List Row) → 0 < max → length rs ≤ length (split_rows max rs)
 unfolding split_rows
-split-long max [] m = zero≤
+split-long max [] m = omega arith
 split-long max (r ∷ rs) m =
     omega (arith, split-long max rs m, length-append (cut_row max r) (split_rows max rs), length_cut r.len max r.off r.len m (le_refl _))
 

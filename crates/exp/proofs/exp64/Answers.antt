@@ -40,7 +40,7 @@ returns c =
     let s = at in
     let x = s.args.x in
     let k = at.whole_shift-k.result in
-    let back : to_z W64 (of_z W64 k) ≡ to_signed 63 (shifted x) = to_z-of_z W64 k (record { sfits = at.whole_shift-k.type-inv }) ∙ at.whole_shift-k.ensures.0 in
+    let back : to_z W64 (of_z W64 k) ≡ to_signed 63 (shifted x) = to_z-of_z W64 k (record { sfits = at.whole_shift-k.type_inv }) ∙ at.whole_shift-k.ensures.0 in
     let kf = c.nearest_i64_to_f64.ensures ∙ ap (of_int binary64) back in
     let r = c.reduce.ensures ∙ ap (reduced x) kf in
     let p = c.taylor.ensures ∙ ap horner r in

@@ -13,12 +13,14 @@ pub truncating_f64_to_i64-requires : goal.truncating_f64_to_i64-requires
 truncating_f64_to_i64-requires c =
     let u = c.shift.result in
     let i = subst (In lo hi) (sym c.shift.ensures) (shifted_in c.args.x c.requires) in
-    (le_trans (fin true 1 (pos 63)) lo u (unfold le in tt) i.low, le-lt u hi (fin false 1 (pos 63)) i.high (unfold lt in tt))
+    record {
+      lower_bound = le_trans (fin true 1 (pos 63)) lo u (unfold le in tt) i.low;
+      upper_bound = le-lt u hi (fin false 1 (pos 63)) i.high (unfold lt in tt);
+    }
 
 pub returns : goal.returns
 returns c =
-    let s = c in
     let k = c.truncating_f64_to_i64.result in
-    let e = to_z-of_z w64 k (record { sfits = c.truncating_f64_to_i64.type-inv }) ∙ c.truncating_f64_to_i64.ensures ∙ ap (to_signed 63) c.shift.ensures in
-    let i = cut_in (shifted s.args.x) (shifted_in s.args.x s.requires) in
+    let e = to_z-of_z w64 k (record { sfits = c.truncating_f64_to_i64.type_inv }) ∙ c.truncating_f64_to_i64.ensures ∙ ap (to_signed 63) c.shift.ensures in
+    let i = cut_in (shifted c.args.x) (shifted_in c.args.x c.requires) in
     (e, subst (λ (z : ℤ). T (le_z (negsuc 1021) z)) (sym e) i.0, subst (λ (z : ℤ). T (le_z z (pos 1023))) (sym e) i.1)

@@ -7,7 +7,7 @@ use Rattle.level.proofs.top_level_in.Given as goal
 
 abbrev pub invariant-loop-k : goal.invariant-loop-k
 invariant-loop-k l =
-    (top_level_in l.w ≡ highest (λ l. leb (wave_rank l) l.w) l.k 0) × (l.k ≤ 17)
+    (top_level_in l.w ≡ highest (λ j. leb (wave_rank j) l.w) l.k 0) × (l.k ≤ 17)
 
 abbrev pub decreases-loop-k : goal.decreases-loop-k
 decreases-loop-k l =

@@ -8,17 +8,15 @@ use borrow.Author.Rules.{rules}
 use Rattle.messages.proofs.insert.Goals as goal
 
 pub loop-i-init : goal.loop-i-init
-loop-i-init c = (omega arith, search rules, moved_none c.args.t1 (c.args.row + 1) c.args.row)
+loop-i-init c = (omega arith, search rules, moved_none c.args.m (c.args.row + 1) c.args.row)
 
 pub loop-i-preserved : goal.loop-i-preserved
 loop-i-preserved c =
-    let p = c in
-    let a = p.args in
-    (omega arith, search rules, moved-turn a.t1 p.loop-i.out (a.row + 1) a.row p.loop-i.i (p.loop-i.i + 1) p.loop-i.invariant.0 (omega arith) p.loop-i.invariant.2)
+    let a = c.args in
+    (omega arith, search rules, moved-turn a.m c.loop-i.out (a.row + 1) a.row c.loop-i.i (c.loop-i.i + 1) c.loop-i.invariant.0 (omega arith) c.loop-i.invariant.2)
 
 pub returns : goal.returns
 returns c =
-    let p = c in
-    let a = p.args in
-    let e : p.loop-i.i ≡ a.t1.n = omega arith in
-    insert-done a.t1 p.loop-i.out a.row (entry_of a.left a.class a.label) (search rules) (p.loop-i.invariant.2 ∙ ap (moved a.t1 (a.row + 1) a.row) e)
+    let a = c.args in
+    let e : c.loop-i.i ≡ a.m.n = omega arith in
+    insert-done a.m c.loop-i.out a.row (entry_of a.left a.class a.label) (search rules) (c.loop-i.invariant.2 ∙ ap (moved a.m (a.row + 1) a.row) e)

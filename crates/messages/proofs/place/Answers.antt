@@ -14,9 +14,8 @@ loop-row-init c = (omega arith, omega arith, simp sub-zero)
 
 pub returns-then-begun-class : goal.returns-then-begun-class
 returns-then-begun-class c =
-    let d = c in
-    let a = d.args in
-    sym (d.loop-row.invariant.2 ∙ place-stop a.t1 a.t1.n d.loop-row.row d.loop-row-test.true _ _ _ c.if-begun-class.true)
+    let a = c.args in
+    sym (c.loop-row.invariant.2 ∙ place-stop a.m a.m.n c.loop-row.row c.loop-row-test.true _ _ _ c.if-begun-class.true)
 
 pub overflow_cast-bytes : goal.overflow_cast-bytes
 overflow_cast-bytes c = omega (arith, c.wide.ensures)
@@ -26,19 +25,15 @@ overflow_add-bytes c = omega (arith, c.wide.ensures)
 
 pub loop-row-preserved : goal.loop-row-preserved
 loop-row-preserved c =
-    let e = c in
-    let d = e in
-    let p = d in
-    let a = p.args in
-    let j = p.loop-row.row in (
+    let a = c.args in
+    let j = c.loop-row.row in (
       search rules,
       omega (arith, c.wide.ensures),
-      p.loop-row.invariant.2 ∙ place-pass a.t1 a.t1.n j d.loop-row-test.true _ _ _ e.if-begun-class.false
-          ∙ ap (λ (l : ℕ). place_in a.class (j + 1) (p.loop-row.bytes + l) false (rest a.t1 a.t1.n (j + 1))) (sym c.wide.ensures.0),
+      c.loop-row.invariant.2 ∙ place-pass a.m a.m.n j c.loop-row-test.true _ _ _ c.if-begun-class.false
+          ∙ ap (λ (l : ℕ). place_in a.class (j + 1) (c.loop-row.bytes + l) false (rest a.m a.m.n (j + 1))) (sym c.wide.ensures.0),
     )
 
 pub returns : goal.returns
 returns c =
-    let p = c in
-    let a = p.args in
-    sym (p.loop-row.invariant.2 ∙ place_end a.t1 a.t1.n p.loop-row.row c.loop-row-test.false _ _ _)
+    let a = c.args in
+    sym (c.loop-row.invariant.2 ∙ place_end a.m a.m.n c.loop-row.row c.loop-row-test.false _ _ _)

@@ -14,9 +14,8 @@ loop-rows-init c = (omega arith, simp sub-zero)
 
 pub returns-then-k-eq0 : goal.returns-then-k-eq0
 returns-then-k-eq0 c =
-    let d = c in
-    let a = d.args in
-    sym (d.loop-rows.invariant.1 ∙ gone-none a.t1 a.t1.n d.loop-rows.rows d.loop-rows-test.true _ _ c.if-k-eq0.true)
+    let a = c.args in
+    sym (c.loop-rows.invariant.1 ∙ gone-none a.m a.m.n c.loop-rows.rows c.loop-rows-test.true _ _ c.if-k-eq0.true)
 
 pub overflow_cast-result : goal.overflow_cast-result
 overflow_cast-result c = omega (arith, c.wide.ensures)
@@ -26,26 +25,20 @@ overflow_sub-result c = omega (arith, c.wide.ensures)
 
 pub returns-then-k-wide : goal.returns-then-k-wide
 returns-then-k-wide c =
-    let e = c in
-    let d = e in
-    let a = d.args in
-    sym (d.loop-rows.invariant.1 ∙ gone-cut a.t1 a.t1.n d.loop-rows.rows d.loop-rows-test.true _ _ e.if-k-eq0.false (omega (arith, c.wide.ensures)))
+    let a = c.args in
+    sym (c.loop-rows.invariant.1 ∙ gone-cut a.m a.m.n c.loop-rows.rows c.loop-rows-test.true _ _ c.if-k-eq0.false (omega (arith, c.wide.ensures)))
 
 pub loop-rows-preserved : goal.loop-rows-preserved
 loop-rows-preserved c =
-    let w = c in
-    let e = w in
-    let d = e in
-    let a = d.args in
-    let k = d.loop-rows.k in
-    let j = d.loop-rows.rows in (
+    let a = c.args in
+    let k = c.loop-rows.k in
+    let j = c.loop-rows.rows in (
       search rules,
-      d.loop-rows.invariant.1 ∙ gone_whole a.t1 a.t1.n j d.loop-rows-test.true k _ e.if-k-eq0.false (omega (arith, w.wide.ensures, c.if-k-wide.false))
-          ∙ ap (λ (l : ℕ). gone_in (k - l) (j + 1) false (rest a.t1 a.t1.n (j + 1))) (sym c.wide-k.ensures.0),
+      c.loop-rows.invariant.1 ∙ gone_whole a.m a.m.n j c.loop-rows-test.true k _ c.if-k-eq0.false (omega (arith, c.wide.ensures, c.if-k-wide.false))
+          ∙ ap (λ (l : ℕ). gone_in (k - l) (j + 1) false (rest a.m a.m.n (j + 1))) (sym c.wide-k.ensures.0),
     )
 
 pub returns : goal.returns
 returns c =
-    let p = c in
-    let a = p.args in
-    sym (p.loop-rows.invariant.1 ∙ gone-end a.t1 a.t1.n p.loop-rows.rows c.loop-rows-test.false _ _)
+    let a = c.args in
+    sym (c.loop-rows.invariant.1 ∙ gone-end a.m a.m.n c.loop-rows.rows c.loop-rows-test.false _ _)

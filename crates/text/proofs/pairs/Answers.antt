@@ -1,5 +1,5 @@
 -- `text::pairs` meets its contract.
-use Prim.Native.Nat.{◌+◌, ◌-◌}
+use Prim.Native.Nat.{◌+◌}
 use mathlib.Core.Path.{◌≡◌, refl, ◌∙◌}
 use mathlib.Core.List.{◌∷◌}
 use native.Mathlib.Omega.{arith}
@@ -7,7 +7,6 @@ use lib.ListN.{get_or, drop, drop_of_length-le}
 use native.Mathlib.Numerals.{add-one}
 use lib.Seq.{drop-cons}
 use Rattle.text.specs.Digits.{pair}
-use Rattle.text.specs.Buffer.{each}
 use Rattle.text.proofs.Laws.{whole, appends, each_turn, each-end}
 use Rattle.text.proofs.pairs.Goals as goal
 

@@ -1,5 +1,4 @@
 -- `text::puts` meets its contract.
-use Prim.Native.Nat.{◌-◌}
 use mathlib.Core.Path.{refl, ◌∙◌}
 use native.Mathlib.Omega.{arith}
 use Rattle.text.proofs.Laws.{slice-turn, slice-end, by_one, whole}

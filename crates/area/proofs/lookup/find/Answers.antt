@@ -19,9 +19,9 @@ turned : (d : lts.After-load_row tie.the-claims reads.Pre reads.Post goal.the-in
     let s = d.before.before.before.before in
     let p = d.loop-i in
     find_from s.args.off 0 (rows_from s.args.a.now 0 s.args.n)
-    ≡ cond (eqb s.args.off d.Load-row.result.off) (record { here = true; start = p.start; len = d.Load-row.result.len })
-    (find_from s.args.off (p.start + d.Load-row.result.len) (rows_from s.args.a.now (p.i + 1) (s.args.n - (p.i + 1))))
-turned d = d.loop-i.invariant.2 ∙ find-turn _ _ _ _ d.loop-i-test.true d.Load-row.ensures _ _
+    ≡ cond (eqb s.args.off d.load_row-r.result.off) (record { here = true; start = p.start; len = d.load_row-r.result.len })
+    (find_from s.args.off (p.start + d.load_row-r.result.len) (rows_from s.args.a.now (p.i + 1) (s.args.n - (p.i + 1))))
+turned d = d.loop-i.invariant.2 ∙ find-turn _ _ _ _ d.loop-i-test.true d.load_row-r.ensures _ _
 
 pub loop-i-init : goal.loop-i-init
 loop-i-init c = (omega arith, omega arith, simp sub-zero)

@@ -24,9 +24,9 @@ loop-i-init c =
     let s = c in
     let e : s.args.n ≡ suc (s.args.n - 1) = omega arith in
     let m : merge_rows s.args.held.now s.args.max (rows_from s.args.a.now 0 s.args.n)
-    ≡ merge_rows_from s.args.held.now s.args.max c.Load-row.result (rows_from s.args.a.now 1 (s.args.n - 1)) =
+    ≡ merge_rows_from s.args.held.now s.args.max c.load_row-first.result (rows_from s.args.a.now 1 (s.args.n - 1)) =
     ap (λ (k : ℕ). merge_rows s.args.held.now s.args.max (rows_from s.args.a.now 0 k)) e
-    ∙ ap (λ (x : Row). merge_rows_from s.args.held.now s.args.max x (rows_from s.args.a.now 1 (s.args.n - 1))) (sym c.Load-row.ensures) in
+    ∙ ap (λ (x : Row). merge_rows_from s.args.held.now s.args.max x (rows_from s.args.a.now 1 (s.args.n - 1))) (sym c.load_row-first.ensures) in
     (omega arith, omega arith, refl, ap length m ∙ sym (zero-add _), ap (λ (x : List Row). overwrite s.args.a.now (place 0) (table_bytes x)) m)
 
 pub overflow_add-len : goal.overflow_add-len
@@ -60,7 +60,7 @@ loop-i-preserved c =
     let j = sym d.joins.ensures ∙ f.if-joins.false in (
       omega arith,
       omega arith,
-      b.store_row.auto.0 ∙ p.loop-i.invariant.2,
+      b.store_row.auto.a ∙ p.loop-i.invariant.2,
       rw v (p.loop-i.invariant.3 ∙ ap (λ (k : ℕ). p.loop-i.w + k) (merge_less _ _ _ _ _ _ _ _ h d.load_row-q.ensures j p.loop-i.invariant.0) ∙ sym (add_assoc p.loop-i.w 1 _)),
       rw v (p.loop-i.invariant.4 ∙ merge-store _ _ _ _ _ _ _ _ h d.load_row-q.ensures j p.loop-i.invariant.0),
     )

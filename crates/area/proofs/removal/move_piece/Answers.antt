@@ -10,13 +10,13 @@ use native.Mathlib.Omega.{arith}
 use Rattle.area.proofs.removal.move_piece.Goals as goal
 
 pub returns-then-w-i : goal.returns-then-w-i
-returns-then-w-i c = let s = c in move-none _ (λ k. (c.slice-known.given k).fits) _ _ _ _ _ s.requires.0 s.requires.1 s.requires.5 (s.requires.6 c.if-w-i.true) c.if-w-i.true
+returns-then-w-i c = let s = c in move-none _ (λ k. (c.type_inv.a k).fits) _ _ _ _ _ s.requires.0 s.requires.1 s.requires.5 (s.requires.6 c.if-w-i.true) c.if-w-i.true
 
 pub store_row-requires : goal.store_row-requires
-store_row-requires c = omega (arith, c.shift_left.auto.0)
+store_row-requires c = omega (arith, c.shift_left.auto.s)
 
 pub shape_of-a : goal.shape_of-a
-shape_of-a c = let st = c in st.store_row.auto.0 ∙ st.shift_left.auto.0
+shape_of-a c = let st = c in st.store_row.auto.a ∙ st.shift_left.auto.s
 
 pub returns : goal.returns
 returns c =

@@ -19,7 +19,7 @@ pub loop-i-preserved : goal.loop-i-preserved
 loop-i-preserved c =
     let p = c in
     let a = p.args in
-    omega (arith, split-count-turn a.max a.a.now p.loop-i.i a.n c.Load-row.result p.requires.2 c.loop-i-test.true c.Load-row.ensures)
+    omega (arith, split-count-turn a.max a.a.now p.loop-i.i a.n c.load_row-r.result p.requires.2 c.loop-i-test.true c.load_row-r.ensures)
 
 pub returns : goal.returns
 unfolding split_rows

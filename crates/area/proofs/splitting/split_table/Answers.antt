@@ -5,30 +5,20 @@ use Rattle.area.specs.Layout.{place}
 use Rattle.area.specs.Table.{row_at, rows_from, table_bytes}
 use Rattle.area.specs.declared.table.Row.{Row}
 use Rattle.area.specs.Recut.{split_rows, split_table}
-use Rattle.area.proofs.splitting.Laws.{Back, back}
+use Rattle.area.proofs.splitting.Laws.{back}
 use Rattle.area.proofs.table.Laws.{row_before}
 use Prim.Native.Nat.{ℕ, ◌-◌, ◌<◌}
 use mathlib.Core.Path.{◌≡◌, refl, sym, ap, ap₂, ◌∙◌}
 use mathlib.Core.List.{List}
 use native.Mathlib.Omega.{arith}
 use lib.ListN.{length}
-use Rattle.area.proofs.splitting.split_table.Lts as lts
-use Rattle.area.proofs.splitting.split_table.Tie as tie
-use Rattle.area.proofs.splitting.split_table.Reads as reads
 use Rattle.area.proofs.splitting.split_table.Goals as goal
-
--- in a turn, once row i - 1 is loaded and its parts are counted
-turn : (d : lts.After-cut_count tie.the-claims reads.Pre reads.Post goal.the-invariant-loop-i goal.the-decreases-loop-i)
-    → Back d.args.max d.loop-i.a d.loop-i.i d.loop-i.w d.Load-row.result d.cut_count-w.result
-turn d =
-    let p = d.before.before.before.before in
-    back _ _ _ _ _ _ p.requires.2 d.loop-i-test.true p.loop-i.invariant.1 d.Load-row.ensures d.cut_count-w.ensures.0
 
 pub loop-i-init : goal.loop-i-init
 loop-i-init c = (omega arith, c.split_count-m.ensures, omega (arith, c.split_count-m.ensures), refl, refl, λ k h. refl)
 
 pub overflow_sub-w : goal.overflow_sub-w
-overflow_sub-w c = (turn c.before).ranges
+overflow_sub-w c = (back _ _ _ _ _ _ c.requires.2 c.loop-i-test.true c.loop-i.invariant.1 c.load_row-r.ensures c.cut_count-w.ensures.0).fits
 
 pub store_cut-requires : goal.store_cut-requires
 store_cut-requires c =
@@ -37,8 +27,8 @@ store_cut-requires c =
     let s = p in
     let q : p.loop-i.i - 1 < p.loop-i.i = omega arith in
     let n : p.loop-i.i - 1 < s.args.n = omega arith in
-    let e : d.Load-row.result ≡ row_at s.args.a.now (p.loop-i.i - 1) = d.Load-row.ensures ∙ p.loop-i.invariant.5 (p.loop-i.i - 1) q in
-    (omega (arith, turn c.before.before), omega arith, s.requires.2, rw e (s.requires.4 (p.loop-i.i - 1) n))
+    let e : d.load_row-r.result ≡ row_at s.args.a.now (p.loop-i.i - 1) = d.load_row-r.ensures ∙ p.loop-i.invariant.5 (p.loop-i.i - 1) q in
+    (omega (arith, back _ _ _ _ _ _ c.requires.2 c.loop-i-test.true c.loop-i.invariant.1 c.load_row-r.ensures c.cut_count-w.ensures.0), omega arith, s.requires.2, rw e (s.requires.4 (p.loop-i.i - 1) n))
 
 pub loop-i-preserved : goal.loop-i-preserved
 loop-i-preserved c =
@@ -46,11 +36,11 @@ loop-i-preserved c =
     let d = b in
     let p = d in
     let v = b.store_cut.ensures in
-    let t = turn c.before.before.before.before.before in (
+    let t = back _ _ _ _ _ _ c.requires.2 c.loop-i-test.true c.loop-i.invariant.1 c.load_row-r.ensures c.cut_count-w.ensures.0 in (
       omega arith,
       rw v (t.rest ∙ ap (λ (x : List Row). length (split_rows p.args.max x)) (sym t.kept)),
       omega (arith, t.fits),
-      b.store_cut.auto.0 ∙ p.loop-i.invariant.3,
+      b.store_cut.auto.a ∙ p.loop-i.invariant.3,
       rw v (p.loop-i.invariant.4 ∙ t.turn),
       λ k h. rw v (row_before _ _ _ k (omega (arith, t.apart)) ∙ p.loop-i.invariant.5 k (omega arith)),
     )

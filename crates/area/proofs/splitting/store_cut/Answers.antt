@@ -29,7 +29,7 @@ loop-left-preserved c =
     let t = d.loop-left-test.true in (
       omega (arith, ap length (cut-turn a.max p.loop-left.o p.loop-left.left m t)),
       omega arith,
-      d.store_row.auto.0 ∙ p.loop-left.invariant.2,
+      d.store_row.auto.a ∙ p.loop-left.invariant.2,
       p.loop-left.invariant.3 ∙ store-turn p.loop-left.a p.loop-left.i a.max p.loop-left.o p.loop-left.left m t ∙ cc,
     )
 

@@ -37,50 +37,36 @@ overflow_sub-xs c = c.loop-i.invariant.0
 
 pub returns-then-not-flies_near : goal.returns-then-not-flies_near
 returns-then-not-flies_near c =
-    let e = c in
-    let d = e in
-    sym (flying-part _ _ (d.loop-i.i - 1) (turned c.before.before.before.before ∙ simp (sym e.flies_near.ensures ∙ not-true e.flies_near.result c.if-not-flies_near.true)))
+    sym (flying-part _ _ (c.loop-i.i - 1) (turned c.before.before.before.before ∙ simp (sym c.flies_near.ensures ∙ c.if-not-flies_near.true)))
 
 pub contains_hashed-requires : goal.contains_hashed-requires
 contains_hashed-requires c =
-    let p = c in
-    subst (Hashed p.loop-i.hashes) (sym (whole p.args.xs.now p.loop-i.i)) p.loop-i.invariant.1
+    subst (Hashed c.loop-i.hashes) (sym (whole c.args.xs.now c.loop-i.i)) c.loop-i.invariant.1
 
 pub returns-then-contains_hashed : goal.returns-then-contains_hashed
 returns-then-contains_hashed c =
-    let sr = c in
-    let e = sr in
-    let d = e in
-    let p = d in
-    let a = p.args in
-    let x = get_or a.xs.now (p.loop-i.i - 1) 0 in
-    let f : listed x (row_offs (rows_from a.a.now 0 a.n)) ≡ true = sym e.flies_near.ensures ∙ not-false e.flies_near.result e.if-not-flies_near.false in
-    let l : listed x (drop p.loop-i.i a.xs.now) ≡ true = ap (listed x) (sym (whole a.xs.now p.loop-i.i)) ∙ sym sr.contains_hashed.ensures ∙ c.if-contains_hashed.true in
-    sym (flying-part _ _ (p.loop-i.i - 1) (turned c.before.before.before.before.before.before.before.before ∙ simp (f, l)))
+    let a = c.args in
+    let x = get_or a.xs.now (c.loop-i.i - 1) 0 in
+    let f : listed x (row_offs (rows_from a.a.now 0 a.n)) ≡ true = sym c.flies_near.ensures ∙ c.if-not-flies_near.false in
+    let l : listed x (drop c.loop-i.i a.xs.now) ≡ true = ap (listed x) (sym (whole a.xs.now c.loop-i.i)) ∙ sym c.contains_hashed.ensures ∙ c.if-contains_hashed.true in
+    sym (flying-part _ _ (c.loop-i.i - 1) (turned c.before.before.before.before.before.before.before.before ∙ simp (f, l)))
 
 pub loop-i-preserved : goal.loop-i-preserved
 loop-i-preserved c =
-    let m = c in
-    let o = m in
-    let sr = o in
-    let e = sr in
-    let d = e in
-    let p = d in
-    let a = p.args in
-    let x = get_or a.xs.now (p.loop-i.i - 1) 0 in
-    let f : listed x (row_offs (rows_from a.a.now 0 a.n)) ≡ true = sym e.flies_near.ensures ∙ not-false e.flies_near.result e.if-not-flies_near.false in
-    let l : listed x (drop p.loop-i.i a.xs.now) ≡ false = ap (listed x) (sym (whole a.xs.now p.loop-i.i)) ∙ sym sr.contains_hashed.ensures ∙ o.if-contains_hashed.false in
-    let t = d.loop-i-test.true in
-    let b = p.loop-i.invariant.0 in (
+    let a = c.args in
+    let x = get_or a.xs.now (c.loop-i.i - 1) 0 in
+    let f : listed x (row_offs (rows_from a.a.now 0 a.n)) ≡ true = sym c.flies_near.ensures ∙ c.if-not-flies_near.false in
+    let l : listed x (drop c.loop-i.i a.xs.now) ≡ false = ap (listed x) (sym (whole a.xs.now c.loop-i.i)) ∙ sym c.contains_hashed.ensures ∙ c.if-contains_hashed.false in
+    let t = c.loop-i-test.true in
+    let b = c.loop-i.invariant.0 in (
       omega (arith, b),
-      subst (Hashed _) (sym (drop-back a.xs.now p.loop-i.i t b))
-          (hashed-more _ p.loop-i.hashes (drop p.loop-i.i a.xs.now) x (m.hash.ensures ∙ ap (hash_all p.loop-i.hashes) (take_back a.xs.now p.loop-i.i t b)) p.loop-i.invariant.1),
-      turned c.before.before.before.before.before.before.before.before.before.before.before.before ∙ simp (f, l, p.loop-i.invariant.2),
+      subst (Hashed _) (sym (drop-back a.xs.now c.loop-i.i t b))
+          (hashed-more _ c.loop-i.hashes (drop c.loop-i.i a.xs.now) x (c.hash.ensures ∙ ap (hash_all c.loop-i.hashes) (take_back a.xs.now c.loop-i.i t b)) c.loop-i.invariant.1),
+      turned c.before.before.before.before.before.before.before.before.before.before.before.before ∙ simp (f, l, c.loop-i.invariant.2),
     )
 
 pub returns : goal.returns
 returns c =
-    let p = c in
-    let a = p.args in
-    let z : p.loop-i.i ≡ 0 = omega (arith, c.loop-i-test.false) in
-    sym (ap (λ (i : ℕ). all_flying (drop i a.xs.now) (row_offs (rows_from a.a.now 0 a.n))) (sym z) ∙ p.loop-i.invariant.2)
+    let a = c.args in
+    let z : c.loop-i.i ≡ 0 = omega (arith, c.loop-i-test.false) in
+    sym (ap (λ (i : ℕ). all_flying (drop i a.xs.now) (row_offs (rows_from a.a.now 0 a.n))) (sym z) ∙ c.loop-i.invariant.2)

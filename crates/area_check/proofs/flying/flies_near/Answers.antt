@@ -6,7 +6,5 @@ use Rattle.area_check.proofs.flying.flies_near.Goals as goal
 
 pub returns-then-r-off : goal.returns-then-r-off
 returns-then-r-off c =
-    let d = c in
-    let s = d in
-    let i : s.args.n - 1 - s.args.behind < s.args.n = omega (arith, d.if-behind-n.true) in
-    found_here _ _ _ _ _ i d.Load-row.ensures c.if-r-off.true
+    let i : c.args.n - 1 - c.args.behind < c.args.n = omega (arith, c.if-behind-n.true) in
+    found_here _ _ _ _ _ i c.load_row-r.ensures c.if-r-off.true

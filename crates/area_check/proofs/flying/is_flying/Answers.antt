@@ -12,16 +12,16 @@ mid-in : (d : lts.After-load_row tie.the-claims reads.Pre reads.Post goal.the-in
 mid-in d = let p = d.before.before in omega (arith, d.loop-low-test.true, p.loop-low.invariant.1)
 
 pub loop-low-init : goal.loop-low-init
-loop-low-init c = let s = c in (omega arith, omega arith, refl, ap (many s.args.a.now s.args.n s.args.off s.args.n) (let z : s.args.n - s.args.n ≡ 0 = omega arith in z))
+loop-low-init c = (omega arith, omega arith, refl, ap (many c.args.a.now c.args.n c.args.off c.args.n) (let z : c.args.n - c.args.n ≡ 0 = omega arith in z))
 
 pub returns-then-r-off : goal.returns-then-r-off
-returns-then-r-off c = let d = c in found_here _ _ _ _ _ (mid-in c.before.before.before) d.Load-row.ensures c.if-r-off.true
+returns-then-r-off c = found_here _ _ _ _ _ (mid-in c.before.before.before) c.load_row-r.ensures c.if-r-off.true
 
 pub loop-low-preserved-then-r-off-2 : goal.loop-low-preserved-then-r-off-2
-loop-low-preserved-then-r-off-2 c = let d = c in let p = d in let s = p in (omega (arith, d.loop-low-test.true), omega (arith, mid-in c.before.before.before.before.before), none_below _ _ _ _ _ (mid-in c.before.before.before.before.before) d.Load-row.ensures _ _ s.requires.2 c.if-r-off-2.true, p.loop-low.invariant.3)
+loop-low-preserved-then-r-off-2 c = (omega (arith, c.loop-low-test.true), omega (arith, mid-in c.before.before.before.before.before), none_below _ _ _ _ _ (mid-in c.before.before.before.before.before) c.load_row-r.ensures _ _ c.requires.2 c.if-r-off-2.true, c.loop-low.invariant.3)
 
 pub loop-low-preserved : goal.loop-low-preserved
-loop-low-preserved c = let e = c in let d = e in let p = d in let s = p in (omega (arith, d.loop-low-test.true), omega (arith, mid-in c.before.before.before.before.before), p.loop-low.invariant.2, none_above _ _ _ _ _ (mid-in c.before.before.before.before.before) d.Load-row.ensures _ _ s.requires.2 c.if-r-off-2.false e.if-r-off.false)
+loop-low-preserved c = (omega (arith, c.loop-low-test.true), omega (arith, mid-in c.before.before.before.before.before), c.loop-low.invariant.2, none_above _ _ _ _ _ (mid-in c.before.before.before.before.before) c.load_row-r.ensures _ _ c.requires.2 c.if-r-off-2.false c.if-r-off.false)
 
 pub returns : goal.returns
-returns c = let p = c in let l : p.loop-low.low ≡ p.loop-low.high = omega (arith, c.loop-low-test.false, p.loop-low.invariant.0) in not_there p.args.a.now p.args.n p.args.off p.loop-low.low (omega (arith, p.loop-low.invariant.1)) p.loop-low.invariant.2 (rw l p.loop-low.invariant.3)
+returns c = let l : c.loop-low.low ≡ c.loop-low.high = omega (arith, c.loop-low-test.false, c.loop-low.invariant.0) in not_there c.args.a.now c.args.n c.args.off c.loop-low.low (omega (arith, c.loop-low.invariant.1)) c.loop-low.invariant.2 (rw l c.loop-low.invariant.3)

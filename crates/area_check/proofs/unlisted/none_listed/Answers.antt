@@ -19,10 +19,10 @@ pub contains_hashed-requires : goal.contains_hashed-requires
 contains_hashed-requires c = hashed-by _ _ _ c.hash.ensures refl
 
 pub returns-then-contains_hashed : goal.returns-then-contains_hashed
-returns-then-contains_hashed c = let sr = c in let d = sr in sym (d.loop-i.invariant ∙ unlisted-hit _ _ _ d.loop-i-test.true (sym sr.contains_hashed.ensures ∙ c.if-contains_hashed.true))
+returns-then-contains_hashed c = sym (c.loop-i.invariant ∙ unlisted-hit _ _ _ c.loop-i-test.true (sym c.contains_hashed.ensures ∙ c.if-contains_hashed.true))
 
 pub loop-i-preserved : goal.loop-i-preserved
-loop-i-preserved c = let sr = c in let d = sr in d.loop-i.invariant ∙ unlisted-pass _ _ _ d.loop-i-test.true (sym sr.contains_hashed.ensures ∙ c.if-contains_hashed.false)
+loop-i-preserved c = c.loop-i.invariant ∙ unlisted-pass _ _ _ c.loop-i-test.true (sym c.contains_hashed.ensures ∙ c.if-contains_hashed.false)
 
 pub returns : goal.returns
 returns c = sym (c.loop-i.invariant ∙ unlisted-end _ _ _ c.loop-i-test.false)

@@ -3,7 +3,6 @@ use borrow.Author.Rules.{rules}
 use Rattle.config.proofs.Air.data_s.Goals as goal
 
 pub data_s-requires : goal.data_s-requires
-
 data_s-requires c = search rules
 
 pub returns : goal.returns

@@ -11,9 +11,9 @@ use Rattle.exp.proofs.narrow.narrow_above.Goals as goal
 pub rounded-y-requires : goal.rounded-y-requires
 unfolding of_bits
 rounded-y-requires c = record {
-      fact_1 = c.requires;
-      fact_2 = yes c.if-a.true;
-    }
+  fact_1 = c.requires;
+  fact_2 = yes c.if-a.true;
+}
 
 -- the result of `rounded`, below 2 ^ 128, is `narrow a`
 same : (a y : Float) → narrow a ≡ cond (lt y (fin false 1 (pos 128))) y (inf false) → lt y (fin false 1 (pos 128)) ≡ true → y ≡ narrow a

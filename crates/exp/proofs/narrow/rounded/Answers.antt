@@ -7,9 +7,6 @@ use Rattle.ieee.proofs.Tests.{yes, nope}
 use Rattle.ieee.proofs.Value.{le-no-nan, lt→le}
 use Rattle.exp.specs.Narrow.{narrow}
 use Rattle.exp.proofs.NarrowPlace.{spot, field-low, field-high, field_in, rounds-to}
-use Rattle.exp.proofs.narrow.rounded.Lts as lts
-use Rattle.exp.proofs.narrow.rounded.Tie as tie
-use Rattle.exp.proofs.narrow.rounded.Reads as reads
 use Rattle.exp.proofs.narrow.rounded.Goals as goal
 
 -- by the power of two whose exponent's field is `spot a`
@@ -29,19 +26,29 @@ returns-then-a c =
 pub float_to_bits-a : goal.float_to_bits-a
 float_to_bits-a c = (le-no-nan (W 0) c.args.a (lt→le (W 0) c.args.a c.requires.fact_1)).1
 
--- the field that the pattern gives is `spot a`
-field : (c : lts.Else1 tie.the-claims reads.Pre reads.Post) → to_bits binary64 c.args.a / 4503599627370496 + 29 ≡ spot c.args.a
-unfolding of_bits
-field c = let s = c.before in field-high s.args.a (yes s.well_formed.0.1) s.requires.fact_1 s.requires.fact_2 (nope c.if-a.false)
-
-field_fits : (c : lts.Else1 tie.the-claims reads.Pre reads.Post) → (0 < spot c.args.a) × (spot c.args.a < 2000)
-field_fits c = let s = c.before in field_in s.args.a (yes s.well_formed.0.1) s.requires.fact_1 s.requires.fact_2
+-- the field that the pattern gives, and 29 more, is in bounds
+field_in_bounds : (a : Float) (j : ℕ) → T (fits binary64 a) → T (lt (W 0) a) → T (lt a (fin false 1 (pos 128))) → j ≡ spot a → (0 < j) × (j < 2000)
+field_in_bounds a j F p q h = subst (λ (j : ℕ). (0 < j) × (j < 2000)) (sym h) (field_in a F p q)
 
 pub overflow_add-a : goal.overflow_add-a
-overflow_add-a c = subst (Fits w64) (sym (field c.before)) (record { fits = lt_trans (field_fits c.before).1 (lit< tt) })
+unfolding of_bits
+overflow_add-a c =
+    let F = yes c.well_formed.0.1 in
+    let e = field-high c.args.a F c.requires.fact_1 c.requires.fact_2 (nope c.if-a.false) in
+    let h = field_in_bounds c.args.a _ F c.requires.fact_1 c.requires.fact_2 e in
+    record { fits = lt_trans h.1 (lit< tt) }
 
 pub power_at-m-requires-2 : goal.power_at-m-requires-2
-power_at-m-requires-2 c = subst (λ (j : ℕ). (0 < j) × (j < 2047)) (sym (field c.before)) ((field_fits c.before).0, lt_trans (field_fits c.before).1 (lit< tt))
+unfolding of_bits
+power_at-m-requires-2 c =
+    let F = yes c.well_formed.0.1 in
+    let e = field-high c.args.a F c.requires.fact_1 c.requires.fact_2 (nope c.if-a.false) in
+    let h = field_in_bounds c.args.a _ F c.requires.fact_1 c.requires.fact_2 e in
+    record { fact_1 = h.0; fact_2 = lt_trans h.1 (lit< tt) }
 
 pub returns : goal.returns
-returns c = let s = c in by-power s.args.a c.power_at-m-2.result _ (yes s.well_formed.0.1) s.requires.fact_1 s.requires.fact_2 c.power_at-m-2.ensures (field c.before.before)
+unfolding of_bits
+returns c =
+    let F = yes c.well_formed.0.1 in
+    let e = field-high c.args.a F c.requires.fact_1 c.requires.fact_2 (nope c.if-a.false) in
+    by-power c.args.a c.power_at-m-2.result _ F c.requires.fact_1 c.requires.fact_2 c.power_at-m-2.ensures e

@@ -9,9 +9,9 @@ use Rattle.float.proofs.whole.cut64.Goals as goal
 pub truncating_f64_to_u64-requires : goal.truncating_f64_to_u64-requires
 unfolding of_bits
 truncating_f64_to_u64-requires c = record {
-      lower_bound = le-lt (fin true 1 (pos 0)) (of_bits binary64 0) c.args.x (unfold le in tt) (yes c.if-x.true);
-      upper_bound = yes c.if-x-2.true;
-    }
+  lower_bound = le-lt (fin true 1 (pos 0)) (of_bits binary64 0) c.args.x (unfold le in tt) (yes c.if-x.true);
+  upper_bound = yes c.if-x-2.true;
+}
 
 pub returns-then-x-2 : goal.returns-then-x-2
 returns-then-x-2 c = c.truncating_f64_to_u64.ensures

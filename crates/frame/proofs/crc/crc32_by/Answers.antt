@@ -25,7 +25,7 @@ loop-i-preserved c =
     let h : p.loop-i.i + 8 ≤ length l = omega arith in (
       omega arith,
       omega arith,
-      p.loop-i.invariant.2 ∙ feed-eight p.loop-i.c l p.loop-i.i (λ i. (k.shared-slice-known.given i).fits) h
+      p.loop-i.invariant.2 ∙ feed-eight p.loop-i.c l p.loop-i.i (λ i. (k.type_inv.bytes i).fits) h
           ∙ ap (λ (x : ℕ). feed_bytes x (drop (p.loop-i.i + 8) l))
           (ap (λ (x : ℕ). shifts 64 (bit_xor p.loop-i.c x)) (sym g.load64.ensures) ∙ sym c.eight-c.ensures),
     )
@@ -38,4 +38,4 @@ unfolding crc32
 returns c =
     let k = c in
     ap (λ (x : ℕ). 4294967295 - x) (c.rest.ensures ∙ sym c.loop-i.invariant.2)
-    ∙ v42 k.args.bytes.now (λ i. (k.shared-slice-known.given i).fits)
+    ∙ v42 k.args.bytes.now (λ i. (k.type_inv.bytes i).fits)

@@ -5,9 +5,9 @@ use Rattle.gear.proofs.Gear.adapt_burst.Goals as goal
 
 pub far-far-requires : goal.far-far-requires
 far-far-requires c = record {
-      fact_1 = c.requires.fact_1;
-      fact_2 = omega (arith, c.requires.fact_2.top);
-    }
+  fact_1 = c.requires.fact_1;
+  fact_2 = omega (arith, c.requires.fact_2.top);
+}
 
 pub returns-then-loss-self : goal.returns-then-loss-self
 unfolding adapted of_int of_bits

@@ -3,9 +3,9 @@ use Rattle.gear.proofs.Gear.by_goodput.Goals as goal
 
 pub pick_by_goodput-l-requires : goal.pick_by_goodput-l-requires
 pick_by_goodput-l-requires c = let s = c in record {
-      fact_1 = rw c.count-self.ensures s.requires.fact_2;
-      fact_2 = s.requires.fact_3;
-    }
+  fact_1 = rw c.count-self.ensures s.requires.fact_2;
+  fact_2 = s.requires.fact_3;
+}
 
 pub returns : goal.returns
 unfolding by_goodput

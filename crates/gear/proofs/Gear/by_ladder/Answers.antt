@@ -7,7 +7,10 @@ unfolding by_ladder
 returns-then-loss-worth_keeping c = simp (rw c.worth_keeping.ensures at c.if-loss-worth_keeping.true, c.capped-l.ensures)
 
 pub next_allowed-requires : goal.next_allowed-requires
-next_allowed-requires c = let s = c in (s.requires.0, rw (c.hold-self.ensures, held-target) s.requires.1.0)
+next_allowed-requires c = record {
+  fact_1 = c.requires.fact_1;
+  fact_2 = rw (c.hold-self.ensures, held-target) c.requires.fact_2;
+}
 
 pub returns : goal.returns
 unfolding by_ladder

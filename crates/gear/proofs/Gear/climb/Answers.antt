@@ -3,7 +3,7 @@ use Rattle.gear.specs.Judging.{climbed}
 use Rattle.gear.proofs.Gear.climb.Goals as goal
 
 pub spotless-requires : goal.spotless-requires
-spotless-requires c = rw c.climb_above-far.ensures (climb-lt _ _ _ _ _ _ c.requires.0)
+spotless-requires c = rw c.climb_above-far.ensures (climb-lt _ _ _ _ _ _ c.requires.fact_1)
 
 pub returns-then-gap-spotless : goal.returns-then-gap-spotless
 unfolding climbed

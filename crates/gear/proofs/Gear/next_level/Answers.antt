@@ -13,7 +13,11 @@ unfolding next_level
 returns-then-loss-2 c = simp (c.if-loss.false, c.if-loss-2.true, c.step_down-then-loss-2.ensures, c.heeded-class.ensures)
 
 pub climb-requires : goal.climb-requires
-climb-requires c = let s = c in (s.requires.0, (s.requires.1, ltb-true _ _ (and_second (eq s.args.loss (of_bits binary32 0)) _ c.if-loss-at.true)))
+climb-requires c = record {
+  fact_1 = c.requires.fact_1;
+  fact_2 = c.requires.fact_2;
+  fact_3 = ltb-true _ _ (and_second (eq c.args.loss (of_bits binary32 0)) _ c.if-loss-at.true);
+}
 
 pub returns-then-loss-at : goal.returns-then-loss-at
 unfolding next_level of_int of_bits

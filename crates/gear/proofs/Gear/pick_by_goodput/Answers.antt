@@ -15,9 +15,9 @@ picked p g aim now v b e f = f ∙ ap (λ (x : View). view_best p x g.tries aim)
 
 pub best-best-requires : goal.best-best-requires
 best-best-requires c = let s = c in record {
-      fact_1 = rw c.view.ensures s.requires.fact_1;
-      fact_2 = s.requires.fact_2;
-    }
+  fact_1 = rw c.view.ensures s.requires.fact_1;
+  fact_2 = s.requires.fact_2;
+}
 
 pub usable_below-requires : goal.usable_below-requires
 usable_below-requires c =

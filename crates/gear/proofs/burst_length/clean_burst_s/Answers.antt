@@ -5,7 +5,6 @@ use Rattle.std.proofs.Common.{rules}
 use Rattle.gear.proofs.burst_length.clean_burst_s.Goals as goal
 
 pub data_s-pre-requires : goal.data_s-pre-requires
-
 data_s-pre-requires c = search rules
 
 pub ack-ack-requires : goal.ack-ack-requires

@@ -45,5 +45,5 @@ returns c =
     let b = c in
     let m = b in
     let s = m.args in
-    let e = turns s.cfg s.self s.t3 s.aim _ _ m.marks-marks.ensures b.no_best-best.ensures in
+    let e = turns s.cfg s.self s.tries s.aim _ _ m.marks-marks.ensures b.no_best-best.ensures in
     sym (fold_done _ _ _ _ _ c.loop-l.invariant.0 (omega arith)) ∙ e

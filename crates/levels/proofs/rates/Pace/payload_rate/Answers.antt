@@ -5,14 +5,12 @@ use Rattle.levels.proofs.rates.RateLaws.{frames-le, bits_fit}
 use Rattle.levels.proofs.rates.Pace.payload_rate.Goals as goal
 
 pub data_s-one-requires : goal.data_s-one-requires
-
 data_s-one-requires c = search rules
 
 pub overflow_mul-slot : goal.overflow_mul-slot
 overflow_mul-slot c = let s = c in omega (arith, s.requires.fact_2.slot)
 
 pub data_s-two-requires : goal.data_s-two-requires
-
 data_s-two-requires c = search rules
 
 pub overflow_mul-most : goal.overflow_mul-most
@@ -25,7 +23,6 @@ overflow_mul-most c =
     }
 
 pub data_s-burst-requires : goal.data_s-burst-requires
-
 data_s-burst-requires c = search rules
 
 pub returns : goal.returns

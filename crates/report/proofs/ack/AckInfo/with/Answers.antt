@@ -1,6 +1,7 @@
 -- `AckInfo::with` meets its contract: field by field.
 use mathlib.Core.Path.{ap, ◌∙◌}
 use Prim.Native.Nat.{◌/◌, ◌%◌, ℕ}
+use native.Mathlib.Omega.{arith}
 use lib.ListN.{get_or}
 use Rattle.report.proofs.ack.Laws.{upper}
 use Rattle.report.proofs.ack.AckInfo.with.Goals as goal
@@ -14,7 +15,7 @@ returns c =
       burst = get_or s.args.b.now 0 0 % 4;
       bitmap = m.load64.ensures i;
       snr_db = q.snr_from_q.ensures i;
-      delivered = (ap (λ (x : ℕ). x / 256) c.load32.ensures ∙ upper s.args.b.now 9 (λ k. (c.shared-slice-known3.given k).fits) s.requires) i;
+      delivered = (ap (λ (x : ℕ). x / 256) c.load32.ensures ∙ upper s.args.b.now 9 (λ k. omega (arith, c.type_inv.b k)) s.requires) i;
       reported = s.args.reported;
       report = s.args.report;
     }
