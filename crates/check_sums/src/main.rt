@@ -10,8 +10,7 @@ ghost use Rattle.frame.specs.Frame.{max_payload};
 
 use byte_copy::load32;
 use frame::encode;
-use io::{print_hex, write_all};
-use libc::STDOUT_FILENO;
+use std::io;
 
 // x^32 + x^26 + x^23 + x^22 + x^16 + x^12 + x^11 + x^10 + x^8 + x^7 + x^5 + x^4 + x^2 + x + 1, from x^31 down.
 const GENERATOR: [u8; 32] = [
@@ -104,9 +103,8 @@ fn by_rule(bytes: &[u8]) -> u32
     number(&ones, &content, k)
 }
 
-fn print(name: &[u8], value: u32) {
-    write_all(STDOUT_FILENO, name);
-    print_hex(STDOUT_FILENO, value as u64, 8);
+fn print(rt: &impl Print, name: &str, value: u32) -> io::Result<()> {
+    print!(rt; "{name}{value:08x}")
 }
 
 // The payloads: byte i is 7 i + 3 modulo 256.
@@ -125,78 +123,92 @@ fn pattern() -> [u8; 254]
 }
 
 // A frame's check sum by the rule, by crc, and as it stands in the frame.
-fn print_sums(name: &[u8], frame: &[u8])
+fn print_sums(rt: &impl Print, name: &str, frame: &[u8]) -> io::Result<()>
     requires { (10 ≤ length frame.now) × (length frame.now ≤ 512) }
 {
     let end = frame.len() - 4;
     let body = &frame[..end];
-    print(name, by_rule(body));
-    print(b", crc32 ", frame::crc::crc32(body));
-    print(b", in the frame ", load32(frame, end));
-    write_all(STDOUT_FILENO, b"\n");
+    print(rt, name, by_rule(body))?;
+    print(rt, ", crc32 ", frame::crc::crc32(body))?;
+    print(rt, ", in the frame ", load32(frame, end))?;
+    println!(rt; "")
 }
 
 // The frame of a payload of n bytes.
-fn frame_case(t: &[u32; 256], name: &[u8], n: usize, size: usize, off: u32)
+fn frame_case(
+    rt: &impl Print,
+    t: &[u32; 256],
+    name: &str,
+    n: usize,
+    size: usize,
+    off: u32,
+) -> io::Result<()>
     requires { (t.now ≡ table_of) × (10 ≤ size) × (size ≤ 512) × (n ≤ max_payload size) }
 {
     let p = pattern();
     let mut out = [0u8; 512];
     encode(t, &mut out, 0, size, off, &p[..n]);
-    print_sums(name, &out[..size]);
+    print_sums(rt, name, &out[..size])
 }
 
-fn frame_cases(t: &[u32; 256])
+fn frame_cases(rt: &impl Print, t: &[u32; 256]) -> io::Result<()>
     requires { t.now ≡ table_of }
 {
     frame_case(
+        rt,
         t,
-        b"no payload in 32 bytes, offset 0: by the rule ",
+        "no payload in 32 bytes, offset 0: by the rule ",
         0,
         32,
         0,
-    );
+    )?;
     frame_case(
+        rt,
         t,
-        b"22 bytes in 32, offset 1000: by the rule ",
+        "22 bytes in 32, offset 1000: by the rule ",
         22,
         32,
         1000,
-    );
+    )?;
     frame_case(
+        rt,
         t,
-        b"170 bytes in 180, offset 65536: by the rule ",
+        "170 bytes in 180, offset 65536: by the rule ",
         170,
         180,
         65536,
-    );
+    )?;
     frame_case(
+        rt,
         t,
-        b"100 bytes in 180, offset 16777215: by the rule ",
+        "100 bytes in 180, offset 16777215: by the rule ",
         100,
         180,
         16777215,
-    );
+    )?;
     frame_case(
+        rt,
         t,
-        b"254 bytes in 512, offset 4294967295: by the rule ",
+        "254 bytes in 512, offset 4294967295: by the rule ",
         254,
         512,
         4294967295,
-    );
+    )?;
     frame_case(
+        rt,
         t,
-        b"8 bytes in 18, offset 16777217: by the rule ",
+        "8 bytes in 18, offset 16777217: by the rule ",
         8,
         18,
         16777217,
-    );
+    )?;
+    Ok(())
 }
 
-fn main() {
-    print(b"123456789: by the rule ", by_rule(b"123456789"));
-    print(b", crc32 ", frame::crc::crc32(b"123456789"));
-    write_all(STDOUT_FILENO, b"\n");
+fn main(rt: HostRuntime) -> io::Result<()> {
+    print(&rt, "123456789: by the rule ", by_rule(b"123456789"))?;
+    print(&rt, ", crc32 ", frame::crc::crc32(b"123456789"))?;
+    println!(rt; "")?;
     let t = frame::crc::table();
-    frame_cases(&t);
+    frame_cases(&rt, &t)
 }

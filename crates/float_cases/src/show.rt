@@ -1,6 +1,8 @@
 // One line for each case. A NaN has no bits that mean anything, so it is written as a word.
 ghost use Rattle.std.specs.Prelude.{◌<◌, ◌≤◌};
 
+use std::io;
+
 // The bits of a number.
 fn bits64(x: f64) -> u64 {
     if x != x {
@@ -16,142 +18,131 @@ fn bits32(x: f32) -> u32 {
     f32::to_bits(x)
 }
 
-fn wide(n: u32) -> u64 {
-    n as u64
-}
-
-fn put64(x: f64) {
+fn put64(rt: &impl Print, x: f64) -> io::Result<()> {
     if x != x {
-        io::write_all(1, b" nan");
-        return;
+        return print!(rt; " nan");
     }
-    io::write_all(1, b" ");
-    io::print_hex(1, bits64(x), 16);
+    let bits = bits64(x);
+    print!(rt; " {bits:016x}")
 }
 
-fn put32(x: f32) {
+fn put32(rt: &impl Print, x: f32) -> io::Result<()> {
     if x != x {
-        io::write_all(1, b" nan");
-        return;
+        return print!(rt; " nan");
     }
-    io::write_all(1, b" ");
-    io::print_hex(1, wide(bits32(x)), 8);
+    let bits = bits32(x);
+    print!(rt; " {bits:08x}")
 }
 
-fn put(n: u64) {
-    io::write_all(1, b" ");
-    io::print_decimal(1, n);
+fn put(rt: &impl Print, n: u64) -> io::Result<()> {
+    print!(rt; " {n}")
 }
 
-fn answer(b: bool) {
-    if b {
-        io::write_all(1, b" true");
-        return;
-    }
-    io::write_all(1, b" false");
+fn answer(rt: &impl Print, b: bool) -> io::Result<()> {
+    print!(rt; " {b}")
 }
 
-fn end() {
-    io::write_all(1, b"\n");
+fn end(rt: &impl Print) -> io::Result<()> {
+    println!(rt; "")
 }
 
 // narrow, floor, as u64, floor(x).max(1.0) as u64, milliseconds, E.
-pub(crate) fn one64(x: f64) {
-    io::write_all(1, b"one64");
-    put64(x);
-    put32(exp::narrow::narrowed(x));
-    put64(float::whole::floor64(x));
-    put(float::whole::cut64(x));
-    put(float::whole::count_of(x));
-    put(float::whole::to_millis(x));
-    put64(exp::exp64(x));
-    end();
+pub(crate) fn one64(rt: &impl Print, x: f64) -> io::Result<()> {
+    print!(rt; "one64")?;
+    put64(rt, x)?;
+    put32(rt, exp::narrow::narrowed(x))?;
+    put64(rt, float::whole::floor64(x))?;
+    put(rt, float::whole::cut64(x))?;
+    put(rt, float::whole::count_of(x))?;
+    put(rt, float::whole::to_millis(x))?;
+    put64(rt, exp::exp64(x))?;
+    end(rt)
 }
 
 // abs, E.
-pub(crate) fn one32(x: f32) {
-    io::write_all(1, b"one32");
-    put32(x);
-    put32(float::pick::abs32(x));
-    put32(exp::exp32(x));
-    end();
+pub(crate) fn one32(rt: &impl Print, x: f32) -> io::Result<()> {
+    print!(rt; "one32")?;
+    put32(rt, x)?;
+    put32(rt, float::pick::abs32(x))?;
+    put32(rt, exp::exp32(x))?;
+    end(rt)
 }
 
 // min, max, total_cmp not Greater.
-pub(crate) fn two64(x: f64, y: f64) {
-    io::write_all(1, b"two64");
-    put64(x);
-    put64(y);
-    put64(float::pick::min64(x, y));
-    put64(float::pick::max64(x, y));
-    answer(float::order::total_le64(x, y));
-    end();
+pub(crate) fn two64(rt: &impl Print, x: f64, y: f64) -> io::Result<()> {
+    print!(rt; "two64")?;
+    put64(rt, x)?;
+    put64(rt, y)?;
+    put64(rt, float::pick::min64(x, y))?;
+    put64(rt, float::pick::max64(x, y))?;
+    answer(rt, float::order::total_le64(x, y))?;
+    end(rt)
 }
 
 // min, max, total_cmp not Greater, the share x after a burst of which y came through.
-pub(crate) fn two32(x: f32, y: f32) {
-    io::write_all(1, b"two32");
-    put32(x);
-    put32(y);
-    put32(float::pick::min32(x, y));
-    put32(float::pick::max32(x, y));
-    answer(float::order::total_le32(x, y));
-    put32(float::gear::share(x, y));
-    end();
+pub(crate) fn two32(rt: &impl Print, x: f32, y: f32) -> io::Result<()> {
+    print!(rt; "two32")?;
+    put32(rt, x)?;
+    put32(rt, y)?;
+    put32(rt, float::pick::min32(x, y))?;
+    put32(rt, float::pick::max32(x, y))?;
+    answer(rt, float::order::total_le32(x, y))?;
+    put32(rt, float::gear::share(x, y))?;
+    end(rt)
 }
 
-pub(crate) fn median(a: f32, b: f32, c: f32) {
-    io::write_all(1, b"median");
-    put32(a);
-    put32(b);
-    put32(c);
-    put32(float::order::median32(a, b, c));
-    end();
+pub(crate) fn median(rt: &impl Print, a: f32, b: f32, c: f32) -> io::Result<()> {
+    print!(rt; "median")?;
+    put32(rt, a)?;
+    put32(rt, b)?;
+    put32(rt, c)?;
+    put32(rt, float::order::median32(a, b, c))?;
+    end(rt)
 }
 
-pub(crate) fn clamp(x: f64, lo: f64, hi: f64) {
-    io::write_all(1, b"clamp");
-    put64(x);
-    put64(lo);
-    put64(hi);
-    put64(float::pick::clamp64(x, lo, hi));
-    end();
+pub(crate) fn clamp(rt: &impl Print, x: f64, lo: f64, hi: f64) -> io::Result<()> {
+    print!(rt; "clamp")?;
+    put64(rt, x)?;
+    put64(rt, lo)?;
+    put64(rt, hi)?;
+    put64(rt, float::pick::clamp64(x, lo, hi))?;
+    end(rt)
 }
 
-pub(crate) fn held(first: f64, n: u64, cap: f64)
+pub(crate) fn held(rt: &impl Print, first: f64, n: u64, cap: f64) -> io::Result<()>
     requires { n < 1024 }
 {
-    io::write_all(1, b"held");
-    put64(first);
-    put(n);
-    put64(cap);
-    put64(exp::hold::hold(first, n, cap));
-    end();
+    print!(rt; "held")?;
+    put64(rt, first)?;
+    put(rt, n)?;
+    put64(rt, cap)?;
+    put64(rt, exp::hold::hold(first, n, cap))?;
+    end(rt)
 }
 
-pub(crate) fn seconds(pre: f64, rate: f64, bits: u64) {
-    io::write_all(1, b"seconds");
-    put64(pre);
-    put64(rate);
-    put(bits);
-    put64(float::gear::duration(pre, rate, bits));
-    end();
+pub(crate) fn seconds(rt: &impl Print, pre: f64, rate: f64, bits: u64) -> io::Result<()> {
+    print!(rt; "seconds")?;
+    put64(rt, pre)?;
+    put64(rt, rate)?;
+    put(rt, bits)?;
+    put64(rt, float::gear::duration(pre, rate, bits))?;
+    end(rt)
 }
 
-pub(crate) fn lost(got: u64, sent: u64)
+pub(crate) fn lost(rt: &impl Print, got: u64, sent: u64) -> io::Result<()>
     requires { (got ≤ sent) × (sent ≤ 64) }
 {
-    io::write_all(1, b"lost");
-    put(got);
-    put(sent);
-    put32(float::gear::loss(got, sent));
-    end();
+    print!(rt; "lost")?;
+    put(rt, got)?;
+    put(rt, sent)?;
+    put32(rt, float::gear::loss(got, sent))?;
+    end(rt)
 }
 
-pub(crate) fn sum(a: u64, b: u64) {
-    io::write_all(1, b"sum");
-    put(a);
-    put(b);
-    put(float::whole::capped_add(a, b));
-    end();
+pub(crate) fn sum(rt: &impl Print, a: u64, b: u64) -> io::Result<()> {
+    print!(rt; "sum")?;
+    put(rt, a)?;
+    put(rt, b)?;
+    put(rt, float::whole::capped_add(a, b))?;
+    end(rt)
 }

@@ -12,14 +12,14 @@ ghost use Rattle.config.specs.Ranged.{Ranged};
 use byte_copy::load32;
 use config::{MaybeDb, Profile};
 use gear::{Gear, Outcome};
-use io::{print_decimal, write_all};
 use levels::memory::{Reports, Tries};
 use levels::usable::Holds;
-use libc::{STDIN_FILENO, STDOUT_FILENO};
 use profile_table::profile_of;
-use read::{f32_at, f64_at, table_of};
+use read::{f32_at, f64_at, read_full, table_of};
 use report::ChanClass;
 use same::differing;
+use std::io;
+use std::io::Read;
 
 // Counts: of profiles, of replies in goodput and in ladder, of each kind of reply from 3 on, and of differences.
 #[derive(Clone, Copy)]
@@ -60,16 +60,16 @@ impl Counts {
 }
 
 // A reply, or zeros where the input ends.
-fn next_reply() -> [u8; 60] {
+fn next_reply(input: &mut impl Read) -> io::Result<[u8; 60]> {
     let mut a = [0u8; 60];
-    io::read_full(STDIN_FILENO, &mut a);
-    a
+    read_full(input, &mut a)?;
+    Ok(a)
 }
 
-fn next_level() -> [u8; 24] {
+fn next_level(input: &mut impl Read) -> io::Result<[u8; 24]> {
     let mut a = [0u8; 24];
-    io::read_full(STDIN_FILENO, &mut a);
-    a
+    read_full(input, &mut a)?;
+    Ok(a)
 }
 
 fn no_db() -> MaybeDb {
@@ -220,15 +220,15 @@ fn with_level(mut want: Gear, a: &[u8; 24]) -> Gear {
     want
 }
 
-fn with_levels(want: Gear, n: u8) -> Gear {
+fn with_levels(input: &mut impl Read, want: Gear, n: u8) -> io::Result<Gear> {
     let mut out = want;
     let mut i: u8 = 0;
     while i < n {
-        let a = next_level();
+        let a = next_level(input)?;
         out = with_level(out, &a);
         i += 1;
     }
-    out
+    Ok(out)
 }
 
 // The kind of a reply.
@@ -266,21 +266,18 @@ fn counted(c: Counts, goodput: bool, a: &[u8; 60]) -> Counts {
     c.more(mode(goodput)).more(at)
 }
 
-fn say(text: &[u8], n: u64) {
-    write_all(STDOUT_FILENO, text);
-    print_decimal(STDOUT_FILENO, n);
+fn say(rt: &impl Print, text: &str, n: u64) -> io::Result<()> {
+    print!(rt; "{text}{n}")
 }
 
 // A difference is written: where it is, and the field.
-fn noted(c: Counts, reply: u32, field: usize) -> Counts {
+fn noted(rt: &impl Print, c: Counts, reply: u32, field: usize) -> io::Result<Counts> {
     if field == 0 {
-        return c;
+        return Ok(c);
     }
-    say(b"profile ", c.of[0]);
-    say(b", reply ", reply as u64);
-    say(b": field ", field as u64);
-    write_all(STDOUT_FILENO, b" differs\n");
-    c.more(10)
+    let profile = c.of[0];
+    println!(rt; "profile {profile}, reply {reply}: field {field} differs")?;
+    Ok(c.more(10))
 }
 
 // The original's record, and the counts.
@@ -291,21 +288,25 @@ pub struct Run {
 }
 
 // One reply, from the original's record.
-fn reply(cfg: Profile, run: Run, i: u32) -> Run
+fn reply(rt: &impl Print, input: &mut impl Read, cfg: Profile, run: Run, i: u32) -> io::Result<Run>
     requires { Ranged cfg }
 {
-    let a = next_reply();
+    let a = next_reply(input)?;
     let g = step(cfg, run.want, &a);
-    let want = with_levels(wanted(run.want, &a), a[10]);
+    let want = with_levels(input, wanted(run.want, &a), a[10])?;
     let counts = counted(run.counts, cfg.goodput, &a);
-    Run {
-        want: want,
-        counts: noted(counts, i, differing(g, want)),
-    }
+    let counts = noted(rt, counts, i, differing(g, want))?;
+    Ok(Run { want, counts })
 }
 
 // The replies of a profile.
-fn replies(cfg: Profile, c: Counts, n: u32) -> Counts
+fn replies(
+    rt: &impl Print,
+    input: &mut impl Read,
+    cfg: Profile,
+    c: Counts,
+    n: u32,
+) -> io::Result<Counts>
     requires { Ranged cfg }
 {
     let mut run = Run {
@@ -314,48 +315,54 @@ fn replies(cfg: Profile, c: Counts, n: u32) -> Counts
     };
     let mut i: u32 = 0;
     while i < n {
-        run = reply(cfg, run, i);
+        run = reply(rt, input, cfg, run, i)?;
         i += 1;
     }
-    run.counts
+    Ok(run.counts)
 }
 
-fn print_counts(c: Counts) {
-    say(b"profiles: ", c.of[0]);
-    say(b"\nreplies in goodput: ", c.of[1]);
-    say(b"\nreplies in ladder: ", c.of[2]);
-    say(b"\nconnect answers: ", c.of[CONNECT]);
-    say(b"\nacks with the burst's number: ", c.of[MATCHED]);
-    say(b"\nacks with another number: ", c.of[UNMATCHED]);
-    say(b"\nacks of increments only: ", c.of[INCREMENTS]);
-    say(b"\nacks of an empty burst: ", c.of[EMPTY]);
-    say(b"\nturns with a burst outstanding: ", c.of[TURN]);
-    say(b"\nturns without: ", c.of[QUIET_TURN]);
-    say(b"\ndifferences: ", c.of[10]);
-    write_all(STDOUT_FILENO, b"\n");
+fn print_counts(rt: &impl Print, c: Counts) -> io::Result<()> {
+    say(rt, "profiles: ", c.of[0])?;
+    say(rt, "\nreplies in goodput: ", c.of[1])?;
+    say(rt, "\nreplies in ladder: ", c.of[2])?;
+    say(rt, "\nconnect answers: ", c.of[CONNECT])?;
+    say(rt, "\nacks with the burst's number: ", c.of[MATCHED])?;
+    say(rt, "\nacks with another number: ", c.of[UNMATCHED])?;
+    say(rt, "\nacks of increments only: ", c.of[INCREMENTS])?;
+    say(rt, "\nacks of an empty burst: ", c.of[EMPTY])?;
+    say(rt, "\nturns with a burst outstanding: ", c.of[TURN])?;
+    say(rt, "\nturns without: ", c.of[QUIET_TURN])?;
+    say(rt, "\ndifferences: ", c.of[10])?;
+    println!(rt; "")
 }
 
 // A profile and its replies.
-fn profile(c: Counts, a: &[u8; 1172]) -> Counts {
+fn profile(
+    rt: &impl Print,
+    input: &mut impl Read,
+    c: Counts,
+    a: &[u8; 1172],
+) -> io::Result<Counts> {
     let v = table_of(a);
     let cfg = profile_of(&v);
     if config::ranges::in_range(cfg) {
-        return replies(cfg, c, load32(a, 1168));
+        return replies(rt, input, cfg, c, load32(a, 1168));
     }
-    write_all(STDOUT_FILENO, b"a profile is out of range\n");
-    c
+    println!(rt; "a profile is out of range")?;
+    Ok(c)
 }
 
-fn main() {
+fn main(rt: HostRuntime) -> io::Result<()> {
+    let mut input = rt.stdin();
     let mut c = Counts { of: [0; 11] };
     let mut i: u32 = 0;
     while i < 1000000 {
         let mut a = [0u8; 1172];
-        if io::read_full(STDIN_FILENO, &mut a) < 1172 {
+        if read_full(&mut input, &mut a)? < 1172 {
             break;
         }
-        c = profile(c.more(0), &a);
+        c = profile(&rt, &mut input, c.more(0), &a)?;
         i += 1;
     }
-    print_counts(c);
+    print_counts(&rt, c)
 }

@@ -1,8 +1,25 @@
-// The stored numbers: low byte first, floats by their bits.
-ghost use Rattle.std.specs.Prelude.{◌+◌, ◌≤◌, length};
+// The input, and the stored numbers: low byte first, floats by their bits.
+ghost use Rattle.std.specs.Prelude.{◌+◌, ◌≤◌, length, IfOk};
 
 use byte_copy::{load32, load64};
 use float_bits::{of_bits32, of_bits64};
+use std::io;
+use std::io::Read;
+
+// Reads until `out` is full or the input ends, and says how many bytes it put at the start of `out`. After an Err some of `out` may be written.
+pub(crate) fn read_full(input: &mut impl Read, out: &mut [u8]) -> io::Result<usize>
+    ensures { IfOk result (λ n. n ≤ length out.new) }
+{
+    let mut done = 0;
+    while done < out.len() {
+        let n = input.read(&mut out[done..])?;
+        if n == 0 {
+            break;
+        }
+        done += n;
+    }
+    Ok(done)
+}
 
 pub(crate) fn f64_at(a: &[u8], at: usize) -> f64
     requires { at + 8 ≤ length a.now }

@@ -6,12 +6,11 @@
 
 use config::Profile;
 use defaults::new_profile;
-use io::write_all;
-use libc::STDOUT_FILENO;
 use queuing::{Station, fresh};
 use replies::{Ack, ConnAck, Heard};
 use report::ChanClass;
 use sender::{Left, Message, answered, connect, data_burst, queue, queued, short_ack};
+use std::io;
 
 // Bytes of a long frame, as the default profile has it.
 const FRAME_BYTES: usize = 180;
@@ -114,13 +113,14 @@ fn ack_step(p: Profile, last: Step, a: &mut [u8], t: &mut [u8]) -> Step {
     stepped(answered(last.s, q), t, last.n, b"short")
 }
 
-fn write_first(t: &[u8], n: usize) {
+fn write_first(rt: &impl Print, t: &[u8], n: usize) -> io::Result<()> {
     if n <= t.len() {
-        write_all(STDOUT_FILENO, &t[..n]);
+        rt.write_all(&t[..n])?;
     }
+    Ok(())
 }
 
-fn main() {
+fn main(rt: HostRuntime) -> io::Result<()> {
     let mut area = [0u8; 49152];
     let mut out = [0u8; 32768];
     let mut text = [0u8; 1024];
@@ -136,5 +136,5 @@ fn main() {
         last.sender.counts,
         last.messages.withdrawn,
     );
-    write_first(&text, n);
+    write_first(&rt, &text, n)
 }

@@ -6,11 +6,10 @@ use config::{MaybeDb, Profile};
 use defaults::new_profile;
 use float::whole::cut64;
 use gear::{Gear, Outcome};
-use io::write_all;
 use levels::memory::{Reports, Tries};
 use levels::usable::Holds;
-use libc::STDOUT_FILENO;
 use report::ChanClass;
+use std::io;
 
 const LEVEL: usize = 9;
 
@@ -72,7 +71,7 @@ fn ladder_profile(most: f64) -> Profile {
 }
 
 // A burst lost whole at time 0 with SNR to spare: until when the level is held off.
-fn hold_case(text: &[u8], most: f64) {
+fn hold_case(rt: &impl Print, text: &str, most: f64) -> io::Result<()> {
     let p = ladder_profile(most);
     let lost = Outcome {
         empty: false,
@@ -85,13 +84,13 @@ fn hold_case(text: &[u8], most: f64) {
         let g = failed_twice().on_ack(p, lost, 20.0, 0.0);
         let h = g.holds;
         let end = h.blocked_until[LEVEL];
-        crate::say(text, cut64(end));
+        crate::say(rt, text, cut64(end))
     } else {
-        write_all(STDOUT_FILENO, b"the profile is out of range\n");
+        println!(rt; "the profile is out of range")
     }
 }
 
-pub(crate) fn hold_cases() {
-    hold_case(b"hold 30 s, third failure, no others, s ", 1000000.0);
-    hold_case(b"capped at 100, s ", 100.0);
+pub(crate) fn hold_cases(rt: &impl Print) -> io::Result<()> {
+    hold_case(rt, "hold 30 s, third failure, no others, s ", 1000000.0)?;
+    hold_case(rt, "capped at 100, s ", 100.0)
 }

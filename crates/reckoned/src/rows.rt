@@ -6,8 +6,7 @@ use area::merging::merge_table;
 use area::removal::{HASHES, hash};
 use area::splitting::split_table;
 use area::table::{Row, load_row, store_row};
-use io::{print_decimal, write_all};
-use libc::STDOUT_FILENO;
+use std::io;
 
 fn four_at_most(n: usize) -> usize
     ensures { result ≤ 4 }
@@ -16,32 +15,31 @@ fn four_at_most(n: usize) -> usize
 }
 
 // The first n rows, and at most four, as the paper writes pieces: offset/length.
-fn say_rows(a: &[u8], n: usize)
+fn say_rows(rt: &impl Print, a: &[u8], n: usize) -> io::Result<()>
     requires { area_bytes ≤ length a.now }
 {
     let most = four_at_most(n);
     let mut i: usize = 0;
     while i < most {
         let r = load_row(a, i);
-        write_all(STDOUT_FILENO, b" ");
-        print_decimal(STDOUT_FILENO, r.off as u64);
-        write_all(STDOUT_FILENO, b"/");
-        print_decimal(STDOUT_FILENO, r.len as u64);
+        let off = r.off;
+        let len = r.len;
+        print!(rt; " {off}/{len}")?;
         i += 1;
     }
-    write_all(STDOUT_FILENO, b"\n");
+    println!(rt; "")
 }
 
-fn split_case(a: &mut [u8])
+fn split_case(rt: &impl Print, a: &mut [u8]) -> io::Result<()>
     requires { area_bytes ≤ length a.old }
 {
-    write_all(STDOUT_FILENO, b"P7 50 bytes at 100, payload 22:");
+    print!(rt; "P7 50 bytes at 100, payload 22:")?;
     store_row(a, 0, Row { off: 100, len: 50 });
     let n = split_table(a, 1, 22);
-    say_rows(a, n);
+    say_rows(rt, a, n)
 }
 
-fn merge_case(a: &mut [u8], held: &[u32])
+fn merge_case(rt: &impl Print, a: &mut [u8], held: &[u32]) -> io::Result<()>
     requires { area_bytes ≤ length a.old }
 {
     let mut hashes = [0u8; HASHES];
@@ -50,15 +48,15 @@ fn merge_case(a: &mut [u8], held: &[u32])
     store_row(a, 1, Row { off: 40, len: 40 });
     store_row(a, 2, Row { off: 80, len: 40 });
     let n = merge_table(a, 3, 100, &hashes, held);
-    say_rows(a, n);
+    say_rows(rt, a, n)
 }
 
-pub(crate) fn area_cases() {
+pub(crate) fn area_cases(rt: &impl Print) -> io::Result<()> {
     let mut area = [0u8; 49152];
-    split_case(&mut area);
+    split_case(rt, &mut area)?;
     let held = [40u32; 1];
-    write_all(STDOUT_FILENO, b"P8 0/40, 40/40, 80/40, at most 100:");
-    merge_case(&mut area, &held[..0]);
-    write_all(STDOUT_FILENO, b"P9 with 40 held:");
-    merge_case(&mut area, &held);
+    print!(rt; "P8 0/40, 40/40, 80/40, at most 100:")?;
+    merge_case(rt, &mut area, &held[..0])?;
+    print!(rt; "P9 with 40 held:")?;
+    merge_case(rt, &mut area, &held)
 }

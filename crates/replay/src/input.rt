@@ -1,33 +1,39 @@
 // The next line of standard input.
-use libc::STDIN_FILENO;
+use std::io;
+use std::io::Read;
 use words::Input;
 use words::taken::{MORE, stand, take};
 
 // More of the input, where all that was read is used.
-fn refill(chunk: &mut [u8], i: Input) -> Input {
+fn refill(input: &mut impl Read, chunk: &mut [u8], i: Input) -> io::Result<Input> {
     if i.at < i.end {
-        return i;
+        return Ok(i);
     }
-    let got = libc::read(STDIN_FILENO, chunk);
-    Input {
+    let end = input.read(chunk)?;
+    Ok(Input {
         at: 0,
-        end: io::count(got, chunk),
+        end,
         len: i.len,
         kind: i.kind,
-    }
+    })
 }
 
-// The next line: one of more than 65,536 characters breaks the rules, since `line` has room for no more.
-pub(crate) fn next_line(chunk: &mut [u8], line: &mut [u8], i: Input) -> Input {
+// The next line: one of more than 65,536 characters breaks the rules, since `line` has room for no more. After an Err the line is incomplete.
+pub(crate) fn next_line(
+    input: &mut impl Read,
+    chunk: &mut [u8],
+    line: &mut [u8],
+    i: Input,
+) -> io::Result<Input> {
     let mut q = stand(i, i.at, 0, MORE);
     let mut n: usize = 0;
     while n < 65537 {
-        q = refill(chunk, q);
+        q = refill(input, chunk, q)?;
         q = take(chunk, line, q);
         if q.kind != MORE {
             break;
         }
         n += 1;
     }
-    q
+    Ok(q)
 }

@@ -17,6 +17,8 @@ use profile_table::LINES;
 use queuing::Station;
 use run_lines::{Run, Told, left, none_yet};
 use sender::fresh;
+use std::io;
+use std::io::Read;
 use words::Input;
 use words::taken::{END, WHOLE};
 
@@ -42,9 +44,9 @@ fn last_line(run: Run, s: Told, n: u64, t: &mut [u8]) -> usize {
     state_lines::end(t, run.text, s.counts, s.withdrawn)
 }
 
-fn finish(x: State, n: u64, t: &mut [u8]) {
+fn finish(rt: &impl Print, x: State, n: u64, t: &mut [u8]) -> io::Result<()> {
     let k = last_line(run_after(x), told_of(x), n, t);
-    flush(t, k);
+    flush(rt, t, k)
 }
 
 // Before the first line.
@@ -69,14 +71,14 @@ fn line_length(i: Input, line: &[u8]) -> usize
 }
 
 // Room for the answer to the next line, if there is one; else the list has ended, or its line breaks the rules.
-fn ready(x: State, i: Input, t: &[u8]) -> Run {
+fn ready(rt: &impl Print, x: State, i: Input, t: &[u8]) -> io::Result<Run> {
     let mut after = run_after(x);
     if i.kind == WHOLE {
-        after.text = room(t, after.text);
-        return after;
+        after.text = room(rt, t, after.text)?;
+        return Ok(after);
     }
     after.ok = i.kind == END;
-    after
+    Ok(after)
 }
 
 fn no_calls() -> Said {
@@ -162,6 +164,8 @@ fn before() -> State {
 }
 
 fn replay(
+    rt: &impl Print,
+    input: &mut impl Read,
     chunk: &mut [u8],
     line: &mut [u8],
     area: &mut [u8],
@@ -172,15 +176,15 @@ fn replay(
     w: &mut [u16],
     h: &mut [u8],
     sent: &mut [u8],
-) {
+) -> io::Result<()> {
     let mut v = [0u64; 146];
     let mut i = no_input();
     let mut x = before();
     let mut more = true;
     let mut n: u64 = 0;
     while more & (n < 18446744073709551615) {
-        i = next_line(chunk, line, i);
-        let run = ready(x, i, t);
+        i = next_line(input, chunk, line, i)?;
+        let run = ready(rt, x, i, t)?;
         let len = line_length(i, line);
         x = step(
             &line[..len],
@@ -199,14 +203,15 @@ fn replay(
         more = goes_on(i, x);
         n += 1;
     }
-    finish(x, n, t);
+    finish(rt, x, n, t)
 }
 
-fn main() {
-    let mut chunk = io::large_buffer();
-    let mut line = io::large_buffer();
-    let mut area = io::large_buffer();
-    let mut file = io::large_buffer();
+fn main(rt: HostRuntime) -> io::Result<()> {
+    let mut input = rt.stdin();
+    let mut chunk = [0u8; 65536];
+    let mut line = [0u8; 65536];
+    let mut area = [0u8; 65536];
+    let mut file = [0u8; 65536];
     let mut out = [0u8; 32768];
     let mut text = [0u8; 131072];
     let mut l = [0u8; 65600];
@@ -214,7 +219,7 @@ fn main() {
     let mut h = [0u8; 65664];
     let mut sent = [0u8; 32768];
     replay(
-        &mut chunk, &mut line, &mut area, &mut out, &mut text, &mut file, &mut l, &mut w, &mut h,
-        &mut sent,
-    );
+        &rt, &mut input, &mut chunk, &mut line, &mut area, &mut out, &mut text, &mut file, &mut l,
+        &mut w, &mut h, &mut sent,
+    )
 }
