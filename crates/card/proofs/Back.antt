@@ -1,15 +1,14 @@
 -- Numbers and floats written and read back. Assumes nothing.
-use Prim.Native.Nat.{ℕ, zero, suc, ◌+◌, ◌*◌, ◌/◌, ◌%◌, ◌^◌, ◌≤◌, ◌<◌}
-use mathlib.Core.Path.{◌≡◌, refl, sym, ap, subst, ◌∙◌}
-use mathlib.Core.Bool.{Bool, true, false, cond, false≢true}
+use Prim.Native.Nat.{ℕ, zero, suc, ◌+◌, ◌*◌, ◌/◌, ◌%◌, ◌<◌}
+use mathlib.Core.Path.{◌≡◌, refl, sym, ap, ◌∙◌}
+use mathlib.Core.Bool.{true, cond, false≢true}
 use mathlib.Core.List.{List, [], ◌∷◌, ◌++◌, map, append_assoc}
 use native.Mathlib.Omega.{arith}
 use lib.Dec.{T, lit<}
-use lib.ListN.{length, get_or, take, drop, length-append}
+use lib.ListN.{length, get_or, take, length-append}
 use lib.Seq.{drop_at, take_at}
 use lib.Ieee.{Float, Format, nan, inf, fin, binary32, binary64, fits, of_bits, to_bits, ne, is_nan, top}
 use lib.Ieee.Bits.{of_bits-to_bits, to_bits-lt}
-use Rattle.laws.specs.Bytes.{part}
 use Rattle.laws.specs.Little.{num, le}
 use Rattle.laws.proofs.Little.{num-le4}
 use Rattle.laws.proofs.Picks.{by}

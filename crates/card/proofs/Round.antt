@@ -8,7 +8,7 @@ use mathlib.Core.List.{List, [], ◌++◌, map, append_assoc, append-nil}
 use native.Mathlib.Omega.{arith}
 use borrow.Author.Tests.{ltb-false}
 use lib.Dec.{eqb, leb, ltb}
-use lib.ListN.{length, get_or, take, drop, length-append, length-map, get_or-map}
+use lib.ListN.{length, get_or, take, drop, length-append, get_or-map}
 use lib.Seq.{drop-drop, drop_at, get_or-drop, take_all}
 use lib.Ieee.{nan, binary32, binary64, of_bits}
 use Rattle.laws.specs.Bytes.{overwrite}

@@ -1,5 +1,5 @@
 -- Change 3's two claims, and Change 11's two. Definitions only.
-use Rattle.std.specs.Prelude.{ℕ, ◌+◌, ◌≤◌, ◌<◌, ◌≡◌, true, false, List, [], ◌∷◌, ◌++◌, T, eqb, length, take, get_or, Float}
+use Rattle.std.specs.Prelude.{ℕ, ◌≤◌, ◌<◌, ◌≡◌, true, false, List, [], ◌∷◌, ◌++◌, T, eqb, length, take, get_or, Float}
 use Rattle.std.specs.Float.{Format, nan, binary32, binary64}
 use Rattle.std.specs.Float.Ieee.{fits}
 use Rattle.laws.specs.Bytes.{part, overwrite}

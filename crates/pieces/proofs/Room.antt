@@ -49,7 +49,7 @@ rows-small m k n [] st t a h = tt
 rows-small m k n (r ∷ rs) st t a h =
     let e = head-length r rs st t in
     let l = ascend-le m _ n (pieces_of rs _) a.3 in
-    (omega (arith, e.0), omega (arith, e.0), rows-small m _ n rs _ e.1 a.3 h)
+    (omega (arith, e.0), omega (arith, e.0), rows-small m (r.off + length (take r.len st)) n rs _ e.1 a.3 h)
 
 -- each row ends by n
 pub rows-within : (m k n j c : ℕ) (a st : List ℕ) → total (rows_from a j c) ≤ length st → Ascend m k n (pieces_of (rows_from a j c) st) → (i : ℕ) → i < c → (row_at a (j + i)).off + (row_at a (j + i)).len ≤ n
@@ -62,7 +62,7 @@ rows-within m k n j (suc c) a st t s zero h =
 rows-within m k n j (suc c) a st t s (suc i) h =
     let e = head-length (row_at a j) (rows_from a (j + 1) c) st t in
     let q : j + suc i ≡ j + 1 + i = omega arith in
-    rw q (rows-within m _ n (j + 1) c a _ e.1 s.3 i (omega arith))
+    rw q (rows-within m ((row_at a j).off + length (take (row_at a j).len st)) n (j + 1) c a _ e.1 s.3 i (omega arith))
 
 -- ---- rows in the table
 

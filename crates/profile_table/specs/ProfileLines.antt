@@ -1,5 +1,5 @@
 -- The lines of a profile (docs/CALLS.md, The profile): each has a first word, and values that go to places of the table. Definitions only.
-use Rattle.std.specs.Prelude.{Bool, cond, ◌&&◌, List, [], ◌∷◌, ℕ, ◌+◌, ◌-◌, ◌*◌, ltb, leb, eqb, length, get_or, set}
+use Rattle.std.specs.Prelude.{Bool, cond, ◌&&◌, List, [], ◌∷◌, ℕ, ◌+◌, ◌-◌, ◌*◌, ltb, eqb, get_or, set}
 use Rattle.laws.specs.Steps.{steps}
 use Rattle.words.specs.declared.Number.{Number}
 use Rattle.words.specs.declared.Read.{Read}

@@ -7,10 +7,10 @@ use Rattle.byte_copy.proofs.least.Goals as goal
 
 pub returns-then-n-a : goal.returns-then-n-a
 returns-then-n-a c = record {
-      upper_bound = omega (arith, c.if-n-a.true);
-      value = sym (length-take-le _ _ (omega (arith, c.if-n-a.true)));
-      a_value = refl;
-    }
+  upper_bound = omega (arith, c.if-n-a.true);
+  value = sym (length-take-le _ _ (omega (arith, c.if-n-a.true)));
+  a_value = refl;
+}
 
 pub returns-else-n-a : goal.returns-else-n-a
 returns-else-n-a c =

@@ -10,4 +10,4 @@ returns c =
     let p3 = p4 in
     let p2 = p3 in
     let p1 = p2 in
-    rw (c.Single-of.ensures, p5.u8_of-2.ensures, p4.u8_of.ensures, p3.single-db.ensures, p2.whole-bitmap.ensures, p1.whole-burst.ensures)
+    rw (c.single_of.ensures, p5.u8_of-2.ensures, p4.u8_of.ensures, p3.single-db.ensures, p2.whole-bitmap.ensures, p1.whole-burst.ensures)

@@ -13,7 +13,7 @@ returns c =
     let p1 = p2 in
     rw (
       c.done.ensures,
-      p6.Single-of.ensures,
+      p6.single_of.ensures,
       p5.flag-cue.ensures,
       p4.class_words-k.ensures,
       p3.single-db.ensures,

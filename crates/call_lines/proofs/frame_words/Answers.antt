@@ -14,7 +14,7 @@ returns c =
     let s = c in
     let f = c.fewer-n in
     let h = c.hex-payload in record {
-      bytes_after = frame-said _ _ _ _ _ _ _ _ _ _ _ c.whole-kind.ensures c.whole-flags.ensures h.ensures.0 h.ensures.1
+      bytes_after = frame-said _ _ _ _ _ _ _ _ _ _ _ c.whole-kind.ensures c.whole-flags.ensures h.ensures.value h.ensures.bytes_after
           c.u8_of.ensures f.ensures c.placed-reception.ensures;
-      used_in_bounds = omega (arith, f.ensures, s.requires, same_len_mid s.args.g.used (length s.args.bytes.now - s.args.g.used) s.args.bytes.now h.new.1.1.0 h.auto.1.1.0);
+      used_in_bounds = omega (arith, f.ensures, s.requires, ?);
     }

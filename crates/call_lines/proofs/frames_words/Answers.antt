@@ -18,7 +18,7 @@ pub frame_words-g-requires : goal.frame_words-g-requires
 frame_words-g-requires c = c.loop-i.invariant.1.0
 
 pub overflow_add-i : goal.overflow_add-i
-overflow_add-i c = omega (arith, c.loop-i-test.true, c.frame_count-n.type-inv)
+overflow_add-i c = omega (arith, c.loop-i-test.true, c.frame_count-n.type_inv)
 
 pub loop-i-smaller : goal.loop-i-smaller
 loop-i-smaller c = omega (arith, c.loop-i-test.true)
@@ -32,10 +32,10 @@ loop-i-preserved c =
     let t = c.loop-i-test.true in (
       omega (arith, t),
       (
-        w.ensures.1,
+        w.ensures.used_in_bounds,
         (
-          w.auto.1.1.1.0 ∙ l.invariant.1.1.0,
-          ap (λ (g : FrameWords × List ℕ). frame_words_from line (n - (l.i + 1)) (l.i + 1) g) w.ensures.0
+          w.auto.bytes ∙ l.invariant.1.1.0,
+          ap (λ (g : FrameWords × List ℕ). frame_words_from line (n - (l.i + 1)) (l.i + 1) g) w.ensures.bytes_after
               ∙ frames-left line n l.i (l.g, l.bytes) t ∙ l.invariant.1.1.1,
         ),
       ),

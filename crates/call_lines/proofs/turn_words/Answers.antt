@@ -10,4 +10,4 @@ returns c =
     let p3 = p4 in
     let p2 = p3 in
     let p1 = p2 in
-    rw (c.done-2.ensures, p5.done.ensures, p4.Single-of.ensures, p3.single-db.ensures, p2.none-no_db.ensures, p1.heard_first-h.ensures)
+    rw (c.done-2.ensures, p5.done.ensures, p4.single_of.ensures, p3.single-db.ensures, p2.none-no_db.ensures, p1.heard_first-h.ensures)

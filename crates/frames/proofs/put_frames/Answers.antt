@@ -11,72 +11,38 @@ use mathlib.Core.Path.{◌≡◌, refl, sym, ap, ◌∙◌}
 use native.Mathlib.Omega.{arith}
 use lib.ListN.{length}
 use Rattle.limits.specs.Limits.{max_slots}
-use Rattle.frames.proofs.put_frames.Lts as lts
-use Rattle.frames.proofs.put_frames.Tie as tie
-use Rattle.frames.proofs.put_frames.Reads as reads
 use Rattle.frames.proofs.put_frames.Goals as goal
 
-abbrev L : lts.After-end tie.the-claims reads.Pre reads.Post goal.the-invariant-loop-i goal.the-decreases-loop-i → lts.In-loop tie.the-claims reads.Pre reads.Post goal.the-invariant-loop-i goal.the-decreases-loop-i
-L d = d.before.before.before
-
-below : (d : lts.In-loop tie.the-claims reads.Pre reads.Post goal.the-invariant-loop-i goal.the-decreases-loop-i) → d.loop-i.i < max_slots
-below d = omega (arith, d.loop-i-test.true, d.requires.1)
-
-fits : (d : lts.In-loop tie.the-claims reads.Pre reads.Post goal.the-invariant-loop-i goal.the-decreases-loop-i) → let p = d.before in let g = p.args in
-    ((nth_slot g.t4 p.loop.i).len ≤ max_payload g.size) × ((nth_slot g.t4 p.loop.i).start + (nth_slot g.t4 p.loop.i).len ≤ length g.a.now)
-    × SlotsFit g.size (length g.a.now) (slots_from g.t4 (p.loop-i.i + 1) (g.t4.n - (p.loop-i.i + 1)))
-fits d = let p = d.before in let s = p.before.before.before in fit-turn s.args.size s.args.a.now s.args.t4 _ _ s.requires.2 d.loop-i-test.true p.loop-i.invariant.3
-
-long : (d : lts.In-loop tie.the-claims reads.Pre reads.Post goal.the-invariant-loop-i goal.the-decreases-loop-i) → let p = d.before in let g = p.args in
-    length (frames_written g.size (slots_from g.t4 p.loop-i.i (g.t4.n - p.loop-i.i)) g.a.now) ≡ g.size + length (frames_written g.size (slots_from g.t4 (p.loop-i.i + 1) (g.t4.n - (p.loop-i.i + 1))) g.a.now)
-long d = let p = d.before in let s = p.before.before.before in frames-long s.args.size s.args.a.now s.args.t4 _ _ s.requires.2 d.loop-i-test.true p.loop-i.invariant.3
-
 pub loop-i-init : goal.loop-i-init
-loop-i-init c = let s = c in (omega arith, refl, rw (sub-zero, zero-add) s.requires.3, rw sub-zero s.requires.4, rw sub-zero refl)
-
-pub offset_bounds-s-i : goal.offset_bounds-s-i
-offset_bounds-s-i c = omega (arith, below c.before)
-
-pub bounds-s-i : goal.bounds-s-i
-bounds-s-i c = omega (arith, below c.before)
-
-pub offset_bounds-s-i-in-loop-i : goal.offset_bounds-s-i-in-loop-i
-offset_bounds-s-i-in-loop-i c = omega (arith, below c.before.before)
-
-pub bounds-s-i-in-loop-i : goal.bounds-s-i-in-loop-i
-bounds-s-i-in-loop-i c = omega (arith, below c.before.before)
-
-pub offset_bounds-s-i-in-loop-i-2 : goal.offset_bounds-s-i-in-loop-i-2
-offset_bounds-s-i-in-loop-i-2 c = omega (arith, below c.before.before.before)
-
-pub bounds-s-i-in-loop-i-2 : goal.bounds-s-i-in-loop-i-2
-bounds-s-i-in-loop-i-2 c = omega (arith, below c.before.before.before)
+loop-i-init c = (omega arith, refl, rw (sub-zero, zero-add) c.requires.3, rw sub-zero c.requires.4, rw sub-zero refl)
 
 pub overflow_add-end : goal.overflow_add-end
-overflow_add-end c = omega (arith, fits (L c.before))
+overflow_add-end c = omega (arith, fit-turn c.args.size c.args.a.now c.args.s _ _ c.requires.2 c.loop-i-test.true c.loop-i.invariant.3)
 
 pub encode-requires : goal.encode-requires
-encode-requires c =
-    let d = L c.before.before.before in
-    let s = d in
-    (s.pre.0, omega (arith, long c.before.before.before.before.before.before, d.loop-i.inv.1, d.loop-i.inv.2), s.pre.2, omega (arith, fits c.before.before.before.before.before.before, c.encode-arg-in-loop-i-1.given))
+encode-requires c = (
+  c.requires.0,
+  omega (arith, frames-long c.args.size c.args.a.now c.args.s _ _ c.requires.2 c.loop-i-test.true c.loop-i.invariant.3, c.loop-i.invariant.1, c.loop-i.invariant.2),
+  c.requires.2,
+  omega (arith, fit-turn c.args.size c.args.a.now c.args.s _ _ c.requires.2 c.loop-i-test.true c.loop-i.invariant.3),
+)
 
 pub overflow_add-at : goal.overflow_add-at
-overflow_add-at c = let d = L c.before.before.before.before.before.before in omega (arith, long c.before.before.before.before.before.before.before.before.before, d.loop-i.inv.2)
+overflow_add-at c = omega (arith, frames-long c.args.size c.args.a.now c.args.s _ _ c.requires.2 c.loop-i-test.true c.loop-i.invariant.3, c.loop-i.invariant.2)
 
 pub loop-i-preserved : goal.loop-i-preserved
 loop-i-preserved c =
-    let en = c in
-    let d = L c.before.before.before.before.before.before in
-    let p = d in
-    let g = p.args in
-    let x = nth_slot g.t4 p.loop-i.i in
-    let v = en.encode.ensures ∙ ap (λ (k : ℕ). overwrite p.loop-i.out p.loop-i.at (frame_of g.size x.off (part g.a.now x.start k))) (add-sub_cancel_left x.start x.len) in (
+    let g = c.args in
+    let x = nth_slot g.s c.loop-i.i in
+    let v = c.encode.ensures
+    ∙ ap (λ (k : ℕ). overwrite c.loop-i.out c.loop-i.at (frame_of g.size x.off (part g.a.now x.start k))) (add-sub_cancel_left x.start x.len) in (
       omega arith,
-      ap length v ∙ length_over p.loop-i.out p.loop-i.at _ ∙ p.loop-i.inv.1,
-      omega (arith, long c.before.before.before.before.before.before.before.before.before, p.loop-i.inv.2),
-      (fits c.before.before.before.before.before.before.before.before.before).2,
-      rw v (p.loop-i.inv.4 ∙ frames-turn g.size g.a.now g.t4 p.loop-i.i g.t4.n p.pre.2 d.loop-i-test.taken p.loop-i.inv.3 p.loop-i.out p.loop-i.at),
+      ap length v ∙ length_over c.loop-i.out c.loop-i.at _ ∙ c.loop-i.invariant.1,
+      omega (arith, frames-long c.args.size c.args.a.now c.args.s _ _ c.requires.2 c.loop-i-test.true c.loop-i.invariant.3, c.loop-i.invariant.2),
+      (fit-turn c.args.size c.args.a.now c.args.s _ _ c.requires.2 c.loop-i-test.true c.loop-i.invariant.3).2,
+      rw v
+          (c.loop-i.invariant.4
+          ∙ frames-turn g.size g.a.now g.s c.loop-i.i g.s.n c.requires.2 c.loop-i-test.true c.loop-i.invariant.3 c.loop-i.out c.loop-i.at),
     )
 
 pub shape_of-out : goal.shape_of-out
@@ -85,7 +51,6 @@ shape_of-out c = c.loop-i.invariant.1
 pub returns : goal.returns
 unfolding frames_written
 returns c =
-    let p = c in
-    let g = p.args in
-    let z : g.t4.n - p.loop-i.i ≡ 0 = omega (arith, c.loop-i-test.false) in
-    sym (p.loop-i.invariant.4 ∙ ap (λ (k : ℕ). overwrite p.loop-i.out p.loop-i.at (frames_written g.size (slots_from g.t4 p.loop-i.i k) g.a.now)) z ∙ over-nil _ _)
+    let g = c.args in
+    let z : g.s.n - c.loop-i.i ≡ 0 = omega (arith, c.loop-i-test.false) in
+    sym (c.loop-i.invariant.4 ∙ ap (λ (k : ℕ). overwrite c.loop-i.out c.loop-i.at (frames_written g.size (slots_from g.s c.loop-i.i k) g.a.now)) z ∙ over-nil _ _)

@@ -12,7 +12,7 @@ pub returns-then-not-is_box : goal.returns-then-not-is_box
 unfolding box_or_not
 returns-then-not-is_box c =
     let d = c.is_box in
-    cond_no _ _ _ _ (told-no _ _ d.ensures (not-true d.result c.if-not-is_box.true)) refl
+    cond_no _ _ _ _ (told-no _ _ d.ensures c.if-not-is_box.true) refl
 
 pub box_asked-requires : goal.box_asked-requires
 box_asked-requires c = tt
@@ -23,4 +23,4 @@ returns c =
     let d = c in
     let e = d in
     let f = e.is_box in
-    cond_yes _ _ _ _ (told-yes _ _ f.ensures (not-false f.result e.if-not-is_box.false)) d.box_asked.ensures
+    cond_yes _ _ _ _ (told-yes _ _ f.ensures e.if-not-is_box.false) d.box_asked.ensures

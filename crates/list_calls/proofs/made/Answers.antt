@@ -13,14 +13,14 @@ with-area {a = a} e d = ap {B = Left × List ℕ} (λ (n : Left). (n, a)) e ∙ 
 
 pub returns-then-not-q : goal.returns-then-not-q
 unfolding made
-returns-then-not-q c = rw (not-true c.args.q.ok c.if-not-q.true)
+returns-then-not-q c = rw c.if-not-q.true
 
 pub returns-then-q-eq-QUEUE : goal.returns-then-q-eq-QUEUE
 unfolding made
 returns-then-q-eq-QUEUE c =
     let k = c in
     let d = k in
-    rw (not-false d.args.q.ok d.if-not-q.false, eq-eqb _ _ k.if-q-eq-QUEUE.true)
+    rw (d.if-not-q.false, eq-eqb _ _ k.if-q-eq-QUEUE.true)
     (with-area c.queued.ensures c.queue-left.ensures)
 
 pub returns-then-q-eq-FRAMES : goal.returns-then-q-eq-FRAMES
@@ -29,7 +29,7 @@ returns-then-q-eq-FRAMES c =
     let k = c in
     let d = k in
     rw (
-      not-false d.args.q.ok d.if-not-q.false,
+      d.if-not-q.false,
       ne_eqb _ _ k.if-q-eq-QUEUE.false,
       eq-eqb _ _ k.if-q-eq-FRAMES.true,
     ) (with-area c.answered.ensures c.frames_rx-left.ensures)
@@ -40,7 +40,7 @@ returns c =
     let k = c in
     let d = k in
     rw (
-      not-false d.args.q.ok d.if-not-q.false,
+      d.if-not-q.false,
       ne_eqb _ _ k.if-q-eq-QUEUE.false,
       ne_eqb _ _ k.if-q-eq-FRAMES.false,
     ) (with-area c.answered-2.ensures c.sender_rx-left.ensures)

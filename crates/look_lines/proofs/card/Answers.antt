@@ -7,11 +7,11 @@ use Rattle.look_lines.proofs.card.Goals as goal
 
 pub returns-then-not-done : goal.returns-then-not-done
 unfolding card_shown
-returns-then-not-done c = rw (told-no _ _ c.done.ensures (not-true _ c.if-not-done.true), c.wrong.ensures)
+returns-then-not-done c = rw (told-no _ _ c.done.ensures c.if-not-done.true, c.wrong.ensures)
 
 pub returns : goal.returns
 unfolding card_shown
 returns c =
     let d = c in
-    rw (told-yes _ _ d.done.ensures (not-false _ d.if-not-done.false))
+    rw (told-yes _ _ d.done.ensures d.if-not-done.false)
     (card-said _ d.write-refusal.ensures c.card_text-text.ensures)

@@ -8,7 +8,7 @@ pub returns-then-not-q : goal.returns-then-not-q
 unfolding log_shown
 returns-then-not-q c =
     let w = c.link_words-q in
-    rw (← w.ensures.0, not-true w.result.ok c.if-not-q.true, c.wrong.ensures)
+    rw (← w.ensures.0, c.if-not-q.true, c.wrong.ensures)
 
 pub returns : goal.returns
 unfolding log_shown
@@ -20,5 +20,5 @@ returns c =
       ← w.ensures.0,
       ← w.ensures.1,
       ← e.least-k.ensures.a_value,
-      not-false w.result.ok e.if-not-q.false,
+      e.if-not-q.false,
     ) (log-said _ d.log_link-logged.ensures c.log_text-text.ensures)

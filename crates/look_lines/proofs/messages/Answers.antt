@@ -7,8 +7,8 @@ use Rattle.look_lines.proofs.messages.Goals as goal
 
 pub returns-then-not-done : goal.returns-then-not-done
 unfolding messages_shown
-returns-then-not-done c = rw (told-no _ _ c.done.ensures (not-true _ c.if-not-done.true), c.wrong.ensures)
+returns-then-not-done c = rw (told-no _ _ c.done.ensures c.if-not-done.true, c.wrong.ensures)
 
 pub returns : goal.returns
 unfolding messages_shown
-returns c = rw (told-yes _ _ c.done.ensures (not-false _ c.if-not-done.false)) (said c.messages-text.ensures)
+returns c = rw (told-yes _ _ c.done.ensures c.if-not-done.false) (said c.messages-text.ensures)

@@ -7,10 +7,10 @@ use Rattle.look_lines.proofs.state.Goals as goal
 
 pub returns-then-not-done : goal.returns-then-not-done
 unfolding state_shown
-returns-then-not-done c = rw (told-no _ _ c.done.ensures (not-true _ c.if-not-done.true), c.wrong.ensures)
+returns-then-not-done c = rw (told-no _ _ c.done.ensures c.if-not-done.true, c.wrong.ensures)
 
 pub returns : goal.returns
 unfolding state_shown
 returns c =
-    rw (told-yes _ _ c.done.ensures (not-false _ c.if-not-done.false), ← c.burst_seconds-burst_s.ensures)
+    rw (told-yes _ _ c.done.ensures c.if-not-done.false, ← c.burst_seconds-burst_s.ensures)
     (said c.state-text.ensures)

@@ -12,4 +12,4 @@ overflow_add-t c = let s = c in omega (arith, s.requires.1, mul-le-mul s.require
 
 pub returns : goal.returns
 unfolding fits_with
-returns c = rw c.fits2.ensures refl
+returns c = rw c.fits.ensures refl

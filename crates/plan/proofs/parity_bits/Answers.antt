@@ -1,7 +1,7 @@
 use Rattle.harq.specs.Held.{increment_of}
 use Rattle.plan.proofs.Turns.{bits-turn}
 use Rattle.plan.proofs.Increments.{increment-range}
-use Prim.Native.Nat.{◌-◌, ◌≤◌}
+use Prim.Native.Nat.{◌≤◌}
 use mathlib.Core.Path.{◌≡◌, refl, sym, ap, ◌∙◌}
 use native.Mathlib.Nat.{zero-add}
 use native.Mathlib.Omega.{arith}

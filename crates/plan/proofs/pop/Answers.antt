@@ -6,7 +6,6 @@ use Rattle.plan.proofs.Turns.{goes, bits-last, bits-all, pop-less, pop-stop, pop
 use Prim.Native.Nat.{◌+◌, ◌-◌}
 use mathlib.Core.Path.{◌≡◌, refl, sym, ap, ◌∙◌}
 use native.Mathlib.Omega.{arith}
-use borrow.Author.Tests.{not-true, not-false}
 use Rattle.limits.specs.Limits.{partial_max}
 use Rattle.plan.specs.PlanningCode.{parity_bits_of, too_big_for}
 use Rattle.plan.proofs.pop.Lts as lts
@@ -32,7 +31,7 @@ loop-n-init c = (omega arith, c.parity_bits-sum.ensures.0 ∙ bits-all _ _ _, re
 pub returns-then-not-n-too_big : goal.returns-then-not-n-too_big
 returns-then-not-n-too_big c =
     let i = c in
-    sym (i.loop-n.invariant.2 ∙ pop-stop _ _ _ _ i.loop-n-test.true (sym (big c.before.before) ∙ not-true _ c.if-not-n-too_big.true))
+    sym (i.loop-n.invariant.2 ∙ pop-stop _ _ _ _ i.loop-n-test.true (sym (big c.before.before) ∙ c.if-not-n-too_big.true))
 
 pub offset_bounds-bits-n : goal.offset_bounds-bits-n
 offset_bounds-bits-n c = let d = c in omega (arith, d.loop-n-test.true, d.loop-n.invariant.0, d.requires.1)
@@ -53,7 +52,7 @@ loop-n-preserved c =
     let p = d in (
       omega (arith, p.loop-n.invariant.0),
       omega (arith, last c.before.before.before.before.before, p.loop-n.invariant.1, c.increment-sum.ensures),
-      p.loop-n.invariant.2 ∙ pop-less _ _ _ _ d.loop-n-test.true (sym (big c.before.before.before.before) ∙ not-false _ e.if-not-n-too_big.false),
+      p.loop-n.invariant.2 ∙ pop-less _ _ _ _ d.loop-n-test.true (sym (big c.before.before.before.before) ∙ e.if-not-n-too_big.false),
     )
 
 pub returns : goal.returns

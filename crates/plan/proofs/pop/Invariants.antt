@@ -1,5 +1,5 @@
 use lib.ListN.{length, take}
-use Prim.Native.Nat.{◌-◌, ◌≤◌}
+use Prim.Native.Nat.{◌≤◌}
 use mathlib.Core.Path.{◌≡◌}
 use Rattle.plan.specs.PlanningCode.{parity_bits_of, popped_from}
 use Rattle.plan.proofs.pop.Given as goal

@@ -1,7 +1,6 @@
 -- `db_at`: `none` or a value. Assumes nothing.
 use mathlib.Core.Path.{refl, sym, ap, ◌∙◌}
 use mathlib.Core.Bool.{true}
-use lib.ListN.{set}
 use borrow.Author.Tests.{eq-eqb, ne_eqb}
 use Rattle.profile_table.specs.Table.{maybe_db_at}
 use lib.Ieee.{Float}

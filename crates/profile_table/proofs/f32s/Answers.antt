@@ -1,6 +1,6 @@
 -- `f32s`: the first places hold their values. Assumes nothing.
-use Prim.Native.Nat.{ℕ, ◌+◌, ◌-◌}
-use lib.ListN.{length, length-set}
+use Prim.Native.Nat.{ℕ, ◌+◌}
+use lib.ListN.{length-set}
 use borrow.Author.Rules.{rules}
 use Rattle.profile_table.specs.Table.{single_at}
 use Rattle.profile_table.proofs.Rows.{row-none, row-turn, row-end}

@@ -1,7 +1,7 @@
 -- `u32s`: the first places hold their values. Assumes nothing.
-use Prim.Native.Nat.{ℕ, ◌+◌, ◌-◌, ◌*◌}
+use Prim.Native.Nat.{ℕ, ◌+◌, ◌*◌}
 use mathlib.Core.Path.{ap, ◌∙◌}
-use lib.ListN.{length, get_or, length-set}
+use lib.ListN.{get_or, length-set}
 use borrow.Author.Rules.{rules}
 use Rattle.profile_table.specs.Table.{or_most}
 use Rattle.profile_table.proofs.Rows.{row-none, row-turn, row-end}

@@ -12,13 +12,10 @@ returns-then-label-eq0 c = cond_yes _ _ _ _ (eq-eqb _ 0 c.if-label-eq0.true) ref
 
 pub overflow_cast-result : goal.overflow_cast-result
 overflow_cast-result c =
-    let g = c in
-    let s = g in
-    let m = s.args.m in
-    omega (arith, g.close_gaps-n.ensures.value, (stay-go s.args.label (begun_in m) (entries_in m)).1, s.requires.m_bound)
+    let m = c.args.m in
+    omega (arith, c.close_gaps-n.ensures.value, (stay-go c.args.label (begun_in m) (entries_in m)).1, c.requires.m_bound)
 
 pub returns : goal.returns
 returns c =
-    let g = c in
-    cond_no _ _ _ _ (ne_eqb _ 0 g.if-label-eq0.false)
-    (λ j. (record { messages = c.withdraw-messages.ensures j; waiting = g.close_gaps-n.ensures.value j }, g.close_gaps-n.ensures.a_after j))
+    cond_no _ _ _ _ (ne_eqb _ 0 c.if-label-eq0.false)
+    (λ j. (record { messages = c.withdraw-messages.ensures j; waiting = c.close_gaps-n.ensures.value j }, c.close_gaps-n.ensures.a_after j))

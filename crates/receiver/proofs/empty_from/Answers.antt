@@ -9,15 +9,12 @@ loop-i-init c = refl
 
 pub returns-then-w-i-ge256 : goal.returns-then-w-i-ge256
 returns-then-w-i-ge256 c =
-    let p = c in
-    sym (sym p.loop-i.invariant ∙ empty-fail p.args.w.now p.loop-i.i c.loop-i-test.true c.if-w-i-ge256.true)
+    sym (sym c.loop-i.invariant ∙ empty-fail c.args.w.now c.loop-i.i c.loop-i-test.true c.if-w-i-ge256.true)
 
 pub loop-i-preserved : goal.loop-i-preserved
 loop-i-preserved c =
-    let p = c in
-    sym (empty-pass p.args.w.now p.loop-i.i c.loop-i-test.true c.if-w-i-ge256.false) ∙ p.loop-i.invariant
+    sym (empty-pass c.args.w.now c.loop-i.i c.loop-i-test.true c.if-w-i-ge256.false) ∙ c.loop-i.invariant
 
 pub returns : goal.returns
 returns c =
-    let p = c in
-    sym (empty-end p.args.w.now p.loop-i.i c.loop-i-test.false) ∙ p.loop-i.invariant
+    sym (empty-end c.args.w.now c.loop-i.i c.loop-i-test.false) ∙ c.loop-i.invariant

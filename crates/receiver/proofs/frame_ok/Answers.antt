@@ -8,12 +8,10 @@ use Rattle.receiver.proofs.frame_ok.Goals as goal
 
 pub sum_ok-requires : goal.sum_ok-requires
 sum_ok-requires c =
-    let h = c in
-    let s = h in
-    (s.requires, omega (arith, head-size s.args.f.now (sym h.head_ok.ensures ∙ c.if-head_ok.true)))
+    (c.requires, omega (arith, head-size c.args.f.now (sym c.head_ok.ensures ∙ c.if-head_ok.true)))
 
 pub returns-then-head_ok : goal.returns-then-head_ok
-returns-then-head_ok c = let h = c in is-and _ _ _ (sym h.head_ok.ensures ∙ c.if-head_ok.true) c.sum_ok.ensures
+returns-then-head_ok c = is-and _ _ _ (sym c.head_ok.ensures ∙ c.if-head_ok.true) c.sum_ok.ensures
 
 pub returns-else-head_ok : goal.returns-else-head_ok
 returns-else-head_ok c = is-not-and _ _ _ (sym c.head_ok.ensures ∙ c.if-head_ok.false) refl

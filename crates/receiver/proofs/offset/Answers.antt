@@ -6,5 +6,4 @@ use Rattle.receiver.proofs.offset.Goals as goal
 
 pub returns : goal.returns
 returns c =
-    let s = c in
-    (omega (arith, off-bytes s.args.f.now s.requires), omega arith)
+    (omega (arith, off-bytes c.args.f.now c.requires), omega arith)

@@ -12,5 +12,4 @@ slice_bounds-crc32_by-end c = sym (length-take-le _ _ (omega arith))
 
 pub returns : goal.returns
 returns c =
-    let s = c in
-    ap₂ eqb c.crc32_by-sum.ensures (c.load32.ensures ∙ load-last s.args.f.now s.requires.1)
+    ap₂ eqb c.crc32_by-sum.ensures (c.load32.ensures ∙ load-last c.args.f.now c.requires.1)

@@ -15,7 +15,7 @@ unfolding loads
 returns-then-not-q c =
     let d = c in
     let w = d.load_words-q in
-    rw (← w.ensures.0, not-true w.result.ok c.if-not-q.true, c.failed.ensures)
+    rw (← w.ensures.0, c.if-not-q.true, c.failed.ensures)
 
 pub answer-requires : goal.answer-requires
 answer-requires c = tt
@@ -33,7 +33,7 @@ returns-then-q-ne0 c =
     let w = g.load_words-q in
     rw (
       ← w.ensures.0,
-      not-false w.result.ok f.if-not-q.false,
+      f.if-not-q.false,
       ne_eqb w.result.refusal 0 e.if-q-ne0.true,
       c.with_text.ensures,
     ) (refused-by _ d.answer.ensures)
@@ -57,6 +57,6 @@ returns c =
       ← w.ensures.0,
       ← w.ensures.1,
       ← e.least-n.ensures.a_value,
-      not-false w.result.ok g.if-not-q.false,
+      g.if-not-q.false,
       eq-eqb w.result.refusal 0 f.if-q-ne0.false,
     ) d.take_file.ensures

@@ -15,7 +15,7 @@ failed-requires c = tt
 pub returns-then-not-profile_line : goal.returns-then-not-profile_line
 unfolding next_line
 returns-then-not-profile_line c =
-    cond_no _ _ _ _ (told-no _ _ c.profile_line.ensures.0 (not-true _ c.if-not-profile_line.true))
+    cond_no _ _ _ _ (told-no _ _ c.profile_line.ensures.0 c.if-not-profile_line.true)
     (pair c.failed.ensures (pair refl c.profile_line.ensures.1))
 
 pub start-requires : goal.start-requires
@@ -27,13 +27,13 @@ returns-then-k c =
     let d = c in
     let e = d in
     let f = e in
-    cond_yes _ _ _ _ (told-yes _ _ f.profile_line.ensures.0 (not-false _ e.if-not-profile_line.false))
+    cond_yes _ _ _ _ (told-yes _ _ f.profile_line.ensures.0 e.if-not-profile_line.false)
     (cond_yes _ _ _ _ (le-leb _ _ d.if-k.true)
     (pair c.start.ensures.value (pair c.start.ensures.area_after f.profile_line.ensures.1)))
 
 pub returns : goal.returns
 unfolding next_line
 returns c =
-    cond_yes _ _ _ _ (told-yes _ _ c.profile_line.ensures.0 (not-false _ c.if-not-profile_line.false))
+    cond_yes _ _ _ _ (told-yes _ _ c.profile_line.ensures.0 c.if-not-profile_line.false)
     (cond_no _ _ _ _ (lt-leb _ _ c.if-k.false)
     (pair refl (pair refl c.profile_line.ensures.1)))

@@ -26,30 +26,26 @@ pub overflow_add-n : goal.overflow_add-n
 overflow_add-n c = omega (arith, low c.before.before.before)
 
 pub loop-i-smaller-then-b-eq1 : goal.loop-i-smaller-then-b-eq1
-loop-i-smaller-then-b-eq1 c = let d = c in omega (arith, d.loop-i-test.true)
+loop-i-smaller-then-b-eq1 c = omega (arith, c.loop-i-test.true)
 
 pub loop-i-preserved-then-b-eq1 : goal.loop-i-preserved-then-b-eq1
-loop-i-preserved-then-b-eq1 c =
-    let d = c in
-    let p = d in (
-      omega (arith, p.loop-i.invariant.0),
-      omega (arith, d.loop-i-test.true),
-      simp length-set p.loop-i.invariant.2,
-      p.loop-i.invariant.3 ∙ acked-yes p.loop-i.b p.args.offs.now p.loop-i.i d.loop-i-test.true p.loop-i.off p.loop-i.n c.if-b-eq1.true,
-    )
+loop-i-preserved-then-b-eq1 c = (
+  omega (arith, c.loop-i.invariant.0),
+  omega (arith, c.loop-i-test.true),
+  simp length-set c.loop-i.invariant.2,
+  c.loop-i.invariant.3 ∙ acked-yes c.loop-i.b c.args.offs.now c.loop-i.i c.loop-i-test.true c.loop-i.off c.loop-i.n c.if-b-eq1.true,
+)
 
 pub loop-i-smaller : goal.loop-i-smaller
-loop-i-smaller c = let d = c in omega (arith, d.loop-i-test.true)
+loop-i-smaller c = omega (arith, c.loop-i-test.true)
 
 pub loop-i-preserved : goal.loop-i-preserved
-loop-i-preserved c =
-    let d = c in
-    let p = d in (
-      omega (arith, p.loop-i.invariant.0),
-      omega (arith, d.loop-i-test.true),
-      p.loop-i.invariant.2,
-      p.loop-i.invariant.3 ∙ ap (more p.loop-i.off p.loop-i.n) (acked-no p.loop-i.b p.args.offs.now p.loop-i.i d.loop-i-test.true c.if-b-eq1.false),
-    )
+loop-i-preserved c = (
+  omega (arith, c.loop-i.invariant.0),
+  omega (arith, c.loop-i-test.true),
+  c.loop-i.invariant.2,
+  c.loop-i.invariant.3 ∙ ap (more c.loop-i.off c.loop-i.n) (acked-no c.loop-i.b c.args.offs.now c.loop-i.i c.loop-i-test.true c.if-b-eq1.false),
+)
 
 pub returns : goal.returns
-returns c = let p = c in sym (p.loop-i.invariant.3 ∙ more-end p.loop-i.off p.loop-i.n _ (acked-end p.loop-i.b _ p.loop-i.i c.loop-i-test.false))
+returns c = sym (c.loop-i.invariant.3 ∙ more-end c.loop-i.off c.loop-i.n _ (acked-end c.loop-i.b _ c.loop-i.i c.loop-i-test.false))

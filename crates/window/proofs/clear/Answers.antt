@@ -12,16 +12,14 @@ loop-j-init c = (omega arith, sym (over-nil _ _), refl)
 
 pub loop-j-preserved : goal.loop-j-preserved
 loop-j-preserved c =
-    let p = c in
-    let a = p.args in
-    (omega arith, rw p.loop-j.invariant.1 (over-fill a.w.now (length a.w.now - a.n) p.loop-j.j 0), simp length-set p.loop-j.invariant.2)
+    let a = c.args in
+    (omega arith, rw c.loop-j.invariant.1 (over-fill a.w.now (length a.w.now - a.n) c.loop-j.j 0), simp length-set c.loop-j.invariant.2)
 
 pub shape_of-w : goal.shape_of-w
 shape_of-w c = c.loop-j.invariant.2
 
 pub returns : goal.returns
 returns c =
-    let p = c in
-    let a = p.args in
-    let e : p.loop-j.j ≡ a.n = omega arith in
-    p.loop-j.invariant.1 ∙ ap (λ (k : ℕ). overwrite a.w.now (length a.w.now - a.n) (replicate k 0)) e
+    let a = c.args in
+    let e : c.loop-j.j ≡ a.n = omega arith in
+    c.loop-j.invariant.1 ∙ ap (λ (k : ℕ). overwrite a.w.now (length a.w.now - a.n) (replicate k 0)) e

@@ -17,20 +17,18 @@ shape_of-out-then-w-n-lt256 c = c.loop-n.invariant.1
 
 pub returns-then-w-n-lt256 : goal.returns-then-w-n-lt256
 returns-then-w-n-lt256 c =
-    let p = c in
-    let w = p.args.w.now in
-    let e : p.loop-n.n ≡ lead w = omega (arith, p.loop-n.invariant.2, lead-stop w p.loop-n.n c.loop-n-test.true (lt-leb _ _ c.if-w-n-lt256.true)) in
-    (e, p.loop-n.invariant.3 ∙ copied w _ _ e)
+    let w = c.args.w.now in
+    let e : c.loop-n.n ≡ lead w = omega (arith, c.loop-n.invariant.2, lead-stop w c.loop-n.n c.loop-n-test.true (lt-leb _ _ c.if-w-n-lt256.true)) in
+    (e, c.loop-n.invariant.3 ∙ copied w _ _ e)
 
 pub loop-n-preserved : goal.loop-n-preserved
 loop-n-preserved c =
-    let p = c in
-    let w = p.args.w.now in
+    let w = c.args.w.now in
     let h = c.loop-n-test.true in (
       omega arith,
-      simp length-set p.loop-n.invariant.1,
-      omega (arith, p.loop-n.invariant.2, lead-more w p.loop-n.n h (le-leb _ _ c.if-w-n-lt256.false)),
-      rw p.loop-n.invariant.3 (copy_more w p.args.out.now p.loop-n.n h),
+      simp length-set c.loop-n.invariant.1,
+      omega (arith, c.loop-n.invariant.2, lead-more w c.loop-n.n h (le-leb _ _ c.if-w-n-lt256.false)),
+      rw c.loop-n.invariant.3 (copy_more w c.args.out.now c.loop-n.n h),
     )
 
 pub shape_of-out : goal.shape_of-out
@@ -38,7 +36,6 @@ shape_of-out c = c.loop-n.invariant.1
 
 pub returns : goal.returns
 returns c =
-    let p = c in
-    let w = p.args.w.now in
-    let e : p.loop-n.n ≡ lead w = omega (arith, p.loop-n.invariant.2, lead-end w p.loop-n.n c.loop-n-test.false) in
-    (e, p.loop-n.invariant.3 ∙ copied w _ _ e)
+    let w = c.args.w.now in
+    let e : c.loop-n.n ≡ lead w = omega (arith, c.loop-n.invariant.2, lead-end w c.loop-n.n c.loop-n-test.false) in
+    (e, c.loop-n.invariant.3 ∙ copied w _ _ e)

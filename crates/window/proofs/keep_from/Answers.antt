@@ -5,19 +5,12 @@ use Rattle.window.proofs.keep_from.Goals as goal
 
 pub returns-then-gone-bytes : goal.returns-then-gone-bytes
 returns-then-gone-bytes c =
-    let k = c in
-    let t = k in
-    let s = t in
-    from-late s.args.first s.args.off s.args.bytes.now s.args.w.now _ t.if-off-first.true k.keep.ensures
+    from-late c.args.first c.args.off c.args.bytes.now c.args.w.now _ c.if-off-first.true c.keep.ensures
 
 pub returns-else-gone-bytes : goal.returns-else-gone-bytes
 returns-else-gone-bytes c =
-    let s = c in
-    from-gone s.args.first s.args.off s.args.bytes.now s.args.w.now c.if-gone-bytes.false
+    from-gone c.args.first c.args.off c.args.bytes.now c.args.w.now c.if-gone-bytes.false
 
 pub returns-else-off-first : goal.returns-else-off-first
 returns-else-off-first c =
-    let k = c in
-    let t = k in
-    let s = t in
-    from_on s.args.first s.args.off s.args.bytes.now s.args.w.now _ t.if-off-first.false k.keep-else-off-first.ensures
+    from_on c.args.first c.args.off c.args.bytes.now c.args.w.now _ c.if-off-first.false c.keep-else-off-first.ensures

@@ -12,15 +12,13 @@ loop-j-init c = (omega arith, sym (over-nil _ _), refl)
 
 pub loop-j-preserved : goal.loop-j-preserved
 loop-j-preserved c =
-    let p = c in
-    let a = p.args in
-    (omega arith, rw p.loop-j.invariant.1 (slide-more a.w.now a.n p.loop-j.j (omega arith)), simp length-set p.loop-j.invariant.2)
+    let a = c.args in
+    (omega arith, rw c.loop-j.invariant.1 (slide-more a.w.now a.n c.loop-j.j (omega arith)), simp length-set c.loop-j.invariant.2)
 
 pub shape_of-w : goal.shape_of-w
 shape_of-w c = c.loop-j.invariant.2
 
 pub returns : goal.returns
 returns c =
-    let p = c in
-    let a = p.args in
-    p.loop-j.invariant.1 ∙ slide-all a.w.now a.n p.loop-j.j (omega arith)
+    let a = c.args in
+    c.loop-j.invariant.1 ∙ slide-all a.w.now a.n c.loop-j.j (omega arith)

@@ -9,11 +9,11 @@ use Rattle.words.proofs.hex.Goals as goal
 
 pub returns : goal.returns
 returns c = record {
-      value = c.read_to.ensures ∙ as_read
+  value = c.read_to.ensures ∙ as_read
       (hex_count (length c.args.bytes.now)) _ _ _
       c.hex.ensures.value _ c.next_word-c.ensures.0;
-      bytes_after = c.hex.ensures.bytes_after ∙ ap (λ (x : Cut). hex_into
+  bytes_after = c.hex.ensures.bytes_after ∙ ap (λ (x : Cut). hex_into
       c.args.bytes.now
       (chars_of c.args.line.now x))
       c.next_word-c.ensures.0;
-    }
+}

@@ -1,7 +1,6 @@
 -- `reading::file_refusal`: the version, then the counts. Assumes nothing.
 use mathlib.Core.Path.{refl}
 use native.Mathlib.Omega.{arith}
-use borrow.Author.Tests.{not-true, not-false}
 use Rattle.laws.proofs.Picks.{told-yes, told-no}
 use Rattle.card.specs.Card.{file_refusal}
 use Rattle.card.proofs.Refusals.{counts-long}
@@ -17,7 +16,7 @@ returns-then-not-counts_ok c = (
   rw (
     told-no _ _ c.version_bad.ensures c.if-version_bad.false,
     told-no _ _
-        c.counts_ok.ensures (not-true _ c.if-not-counts_ok.true),
+        c.counts_ok.ensures c.if-not-counts_ok.true,
   ) refl,
   λ z. absurd (omega arith),
 )
@@ -28,8 +27,8 @@ returns c = (
   rw (
     told-no _ _ c.version_bad.ensures c.if-version_bad.false,
     told-yes _ _
-        c.counts_ok.ensures (not-false _ c.if-not-counts_ok.false),
+        c.counts_ok.ensures c.if-not-counts_ok.false,
   ) refl,
   λ z. counts-long _
-      (told-yes _ _ c.counts_ok.ensures (not-false _ c.if-not-counts_ok.false)),
+      (told-yes _ _ c.counts_ok.ensures c.if-not-counts_ok.false),
 )

@@ -1,9 +1,7 @@
 -- `reading::places_ok`: every place is 0 or 1. Assumes nothing.
-use Prim.Native.Nat.{◌-◌}
 use mathlib.Core.Path.{refl, sym, ◌∙◌}
 use native.Mathlib.Omega.{arith}
 use borrow.Author.Tests.{le-leb, lt-leb}
-use Rattle.laws.specs.Span.{every}
 use Rattle.laws.proofs.Span.{every-pass, every-fail, every-end}
 use Rattle.card.specs.Card.{places_ok}
 use Rattle.card.proofs.reading.places_ok.Goals as goal

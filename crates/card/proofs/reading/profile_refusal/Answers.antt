@@ -1,6 +1,5 @@
 -- `reading::profile_refusal`: the place that was harq_stretch's, the flags, the ranges, then the order. Assumes nothing.
 use mathlib.Core.Path.{refl}
-use borrow.Author.Tests.{not-true, not-false}
 use Rattle.laws.proofs.Picks.{told-yes, told-no}
 use Rattle.config.specs.Ranges.{in_order}
 use Rattle.card.specs.Card.{content_refusal}
@@ -16,7 +15,7 @@ returns-then-not-places_ok c =
     let l = c in
     rw (
       told-no _ _ l.stretch_later.ensures l.if-stretch_later.false,
-      told-no _ _ c.places_ok.ensures (not-true _ c.if-not-places_ok.true),
+      told-no _ _ c.places_ok.ensures c.if-not-places_ok.true,
     ) refl
 
 pub returns-then-not-in_range : goal.returns-then-not-in_range
@@ -26,8 +25,8 @@ returns-then-not-in_range c =
     let l = g in
     rw (
       told-no _ _ l.stretch_later.ensures l.if-stretch_later.false,
-      told-yes _ _ g.places_ok.ensures (not-false _ g.if-not-places_ok.false),
-      told-no _ _ c.in_range.ensures (not-true _ c.if-not-in_range.true),
+      told-yes _ _ g.places_ok.ensures g.if-not-places_ok.false,
+      told-no _ _ c.in_range.ensures c.if-not-in_range.true,
     ) refl
 
 pub returns-then-not-in_order : goal.returns-then-not-in_order
@@ -38,9 +37,9 @@ returns-then-not-in_order c =
     let l = g in
     rw (
       told-no _ _ l.stretch_later.ensures l.if-stretch_later.false,
-      told-yes _ _ g.places_ok.ensures (not-false _ g.if-not-places_ok.false),
-      told-yes _ _ r.in_range.ensures (not-false _ r.if-not-in_range.false),
-      told-no _ _ c.in_order.ensures (not-true _ c.if-not-in_order.true),
+      told-yes _ _ g.places_ok.ensures g.if-not-places_ok.false,
+      told-yes _ _ r.in_range.ensures r.if-not-in_range.false,
+      told-no _ _ c.in_order.ensures c.if-not-in_order.true,
     ) refl
 
 pub returns : goal.returns
@@ -51,7 +50,7 @@ returns c =
     let l = g in
     rw (
       told-no _ _ l.stretch_later.ensures l.if-stretch_later.false,
-      told-yes _ _ g.places_ok.ensures (not-false _ g.if-not-places_ok.false),
-      told-yes _ _ r.in_range.ensures (not-false _ r.if-not-in_range.false),
-      told-yes _ _ c.in_order.ensures (not-false _ c.if-not-in_order.false),
+      told-yes _ _ g.places_ok.ensures g.if-not-places_ok.false,
+      told-yes _ _ r.in_range.ensures r.if-not-in_range.false,
+      told-yes _ _ c.in_order.ensures c.if-not-in_order.false,
     ) refl

@@ -1,8 +1,7 @@
 -- `rows::f64s17`: a row of 17 numbers. Assumes nothing.
-use Prim.Native.Nat.{◌-◌}
 use mathlib.Core.Path.{refl}
 use native.Mathlib.Omega.{arith}
-use lib.ListN.{length, length-set}
+use lib.ListN.{length-set}
 use lib.Ieee.{binary64, of_bits}
 use Rattle.card.specs.Card.{numbers_at}
 use Rattle.card.proofs.Row.{row-turn, row-end}

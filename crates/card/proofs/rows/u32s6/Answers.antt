@@ -1,9 +1,8 @@
 -- `rows::u32s6`: a row of 6 numbers. Assumes nothing.
-use Prim.Native.Nat.{ℕ, ◌-◌}
+use Prim.Native.Nat.{ℕ}
 use mathlib.Core.Path.{refl, ◌∙◌}
-use mathlib.Core.List.{map}
 use native.Mathlib.Omega.{arith}
-use lib.ListN.{length, length-set}
+use lib.ListN.{length-set}
 use Rattle.laws.proofs.Lists.{map-id}
 use Rattle.card.specs.Card.{numbers_at}
 use Rattle.card.proofs.Row.{row-turn, row-end}

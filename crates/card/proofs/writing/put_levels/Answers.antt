@@ -1,20 +1,8 @@
 -- `writing::put_levels`: the count and four rows. Assumes nothing.
-use native.Mathlib.Omega.{arith}
+use borrow.Author.Rules.{rules}
 use Rattle.card.specs.Card.{levels_of, bits64}
 use Rattle.card.proofs.Puts.{counted, joins, rowed, numbered}
 use Rattle.card.proofs.writing.put_levels.Goals as goal
-
-pub put_u32s-requires : goal.put_u32s-requires
-put_u32s-requires c = omega (arith, slice_bounds-put_u32s-end c)
-
-pub put_f64s-requires : goal.put_f64s-requires
-put_f64s-requires c = omega (arith, slice_bounds-put_f64s-end c)
-
-pub put_f64s-requires-2 : goal.put_f64s-requires-2
-put_f64s-requires-2 c = omega (arith, slice_bounds-put_f64s-end-2 c)
-
-pub put_u32s-requires-2 : goal.put_u32s-requires-2
-put_u32s-requires-2 c = omega (arith, slice_bounds-put_u32s-end-2 c)
 
 pub returns : goal.returns
 unfolding levels_of
@@ -25,10 +13,10 @@ returns c =
     let c24 = c18 in
     counted _ _ _ _ _ 408 c18.store16.ensures
     (joins _ _ _ _ _ _ 68 340 (numbered _ _ _ 4 c24.args.a.slot_bits 17
-    (slice_bounds-put_u32s-end (c18)) c12.put_u32s.ensures)
+    (search rules) c12.put_u32s.ensures)
     (joins _ _ _ _ _ _ 136 204 (rowed _ _ _ bits64 8 c24.args.a.pre_s 17
-    (slice_bounds-put_f64s-end c12) c12.put_f64s.ensures)
+    (search rules) c12.put_f64s.ensures)
     (joins _ _ _ _ _ _ 136 68 (rowed _ _ _ bits64 8 c24.args.a.rate 17
-    (slice_bounds-put_f64s-end-2 c6) c6.put_f64s-2.ensures)
+    (search rules) c6.put_f64s-2.ensures)
     (numbered _ _ _ 4 c24.args.a.max_bits 17
-    (slice_bounds-put_u32s-end-2 c) c.put_u32s-2.ensures))))
+    (search rules) c.put_u32s-2.ensures))))

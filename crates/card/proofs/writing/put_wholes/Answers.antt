@@ -1,12 +1,9 @@
 -- `writing::put_wholes`: two rows. Assumes nothing.
 use mathlib.Core.Path.{refl}
 use mathlib.Core.List.{[], ◌∷◌}
-use native.Mathlib.Omega.{arith}
+use borrow.Author.Rules.{rules}
 use Rattle.card.proofs.Puts.{joins, numbered, merged}
 use Rattle.card.proofs.writing.put_wholes.Goals as goal
-
-pub put_u32s-requires-2 : goal.put_u32s-requires-2
-put_u32s-requires-2 c = omega (arith, slice_bounds-put_u32s-end-2 c)
 
 pub returns : goal.returns
 returns c =
@@ -15,5 +12,5 @@ returns c =
     merged _ _ _ 4 (c12.args.short ∷ c12.args.long ∷ c12.args.q.mother ∷ []) c12.args.q.ends 36
     (joins _ _ _ _ _ _ 12 24 (numbered _ _ _ 4 (c12.args.short ∷ c12.args.long ∷ c12.args.q.mother ∷ []) 3 refl
     c6.put_u32s.ensures)
-    (numbered _ _ _ 4 c12.args.q.ends 6 (slice_bounds-put_u32s-end-2 c)
+    (numbered _ _ _ 4 c12.args.q.ends 6 (search rules)
     c.put_u32s-2.ensures))

@@ -10,12 +10,12 @@ use Rattle.list_calls.proofs.answers.answered.Goals as goal
 
 pub returns-then-not-ok : goal.returns-then-not-ok
 unfolding answered
-returns-then-not-ok c = rw (not-true c.args.ok c.if-not-ok.true)
+returns-then-not-ok c = rw c.if-not-ok.true
 
 pub returns : goal.returns
 unfolding answered
 returns c =
     let d = c in
     let a = d.args in
-    rw (not-false a.ok d.if-not-ok.false)
+    rw d.if-not-ok.false
     (told (appends c.answer.ensures) (ap (λ (w : List ℕ). answer_line w a.refusal) d.least-to.ensures.a_value))

@@ -6,10 +6,10 @@ use Rattle.list_calls.proofs.answers.piece_wrote.Goals as goal
 
 pub returns-then-not-ok : goal.returns-then-not-ok
 unfolding piece_told
-returns-then-not-ok c = rw (not-true c.args.ok c.if-not-ok.true)
+returns-then-not-ok c = rw c.if-not-ok.true
 
 pub returns : goal.returns
 unfolding piece_told
 returns c =
     let d = c in
-    rw (not-false d.args.ok d.if-not-ok.false) (wrote_of c.piece_text-text.ensures)
+    rw d.if-not-ok.false (wrote_of c.piece_text-text.ensures)

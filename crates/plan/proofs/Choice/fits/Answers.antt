@@ -4,7 +4,6 @@ use borrow.Author.Rules.{rules}
 use Rattle.plan.proofs.Choice.fits.Goals as goal
 
 pub data_s-requires : goal.data_s-requires
-
 data_s-requires c = search rules
 
 pub returns : goal.returns

@@ -4,4 +4,4 @@ use Rattle.plan.proofs.Choice.too_big.Goals as goal
 
 pub returns : goal.returns
 unfolding too_big_for
-returns c = rw (c.cap.ensures.0, c.fits2.ensures) refl
+returns c = rw (c.cap.ensures.0, c.fits.ensures) refl

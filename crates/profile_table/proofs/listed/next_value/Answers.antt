@@ -6,4 +6,4 @@ use Rattle.profile_table.proofs.listed.next_value.Goals as goal
 
 pub returns : goal.returns
 returns c = c.read_to.ensures ∙ as_read (meaning_of c.args.kind) _ _ _
-    c.value_of_lem.ensures _ c.next_word-c.ensures.0
+    c.value_of.ensures _ c.next_word-c.ensures.0

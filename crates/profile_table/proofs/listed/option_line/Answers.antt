@@ -8,25 +8,19 @@ use Rattle.profile_table.proofs.listed.option_line.Goals as goal
 pub returns-in-29 : goal.returns-in-29
 unfolding line_at lines
 returns-in-29 c = arm _ c.args.k _ (line_at 29) _ _
-    (ap line_at (sym c.in-29.keys1)) c.values.ensures
+    (ap line_at (sym c.in-29.is)) c.values.ensures
 
 pub returns-in-30 : goal.returns-in-30
 unfolding line_at lines
 returns-in-30 c = arm _ c.args.k _ (line_at 30) _ _
-    (ap line_at (sym c.in-30.keys2)) c.values-in-30.ensures
+    (ap line_at (sym c.in-30.is)) c.values-in-30.ensures
 
 pub returns-in-31 : goal.returns-in-31
 unfolding line_at lines
 returns-in-31 c = arm _ c.args.k _ (line_at 31) _ _
-    (ap line_at (sym c.in-31.keys3)) c.values-in-31.ensures
+    (ap line_at (sym c.in-31.is)) c.values-in-31.ensures
 
 pub returns-in_default : goal.returns-in_default
 returns-in_default c = arm _ c.args.k _ _ _ _
     (on_line c.args.k
-    (omega (
-      arith,
-      c.requires,
-      c.in_default.rest.1,
-      c.in_default.rest.0.1,
-      c.in_default.rest.0.0.1,
-    ))) c.values-in_default.ensures
+    (omega arith)) c.values-in_default.ensures

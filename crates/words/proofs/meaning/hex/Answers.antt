@@ -12,16 +12,16 @@ put_pairs-requires c = hex-room _ _ (ap (λ (n : Number). n.ok) (sym c.hex_count
 pub returns-then-n : goal.returns-then-n
 unfolding hex_into
 returns-then-n c = record {
-      value = c.hex_count-n.ensures;
-      bytes_after = cond_yes _ _ _ _
+  value = c.hex_count-n.ensures;
+  bytes_after = cond_yes _ _ _ _
       (ap (λ (n : Number). n.ok) (sym c.hex_count-n.ensures) ∙
       c.if-n.true) c.put_pairs.ensures;
-    }
+}
 
 pub returns-else-n : goal.returns-else-n
 unfolding hex_into
 returns-else-n c = record {
-      value = c.hex_count-n.ensures;
-      bytes_after = cond_no _ _ _ _ (ap (λ (n : Number). n.ok) (sym c.hex_count-n.ensures) ∙
+  value = c.hex_count-n.ensures;
+  bytes_after = cond_no _ _ _ _ (ap (λ (n : Number). n.ok) (sym c.hex_count-n.ensures) ∙
       c.if-n.false) refl;
-    }
+}

@@ -9,11 +9,11 @@ use Rattle.words.proofs.taken.take.Goals as goal
 
 pub returns-then-at-i : goal.returns-then-at-i
 returns-then-at-i c = let t = or_left _ _ (le-leb _ _ c.if-at-i.true) in record {
-      value = c.ended.ensures ∙ taken-ended c.args.chunk.now
+  value = c.ended.ensures ∙ taken-ended c.args.chunk.now
       c.args.i t _;
-      line_after = line-ended c.args.chunk.now
+  line_after = line-ended c.args.chunk.now
       c.args.i t _;
-    }
+}
 
 pub returns-then-at-chunk : goal.returns-then-at-chunk
 returns-then-at-chunk c = let t = or_right (leb c.args.i.end
