@@ -8,7 +8,6 @@ use Rattle.config.specs.Durations.{slot_at, max_bits_at, ack_at}
 use Rattle.config.specs.Ranges.{hundredth}
 use Rattle.config.specs.declared.Air.{Air}
 use Rattle.config.specs.declared.Marks.{Marks}
-use Rattle.config.specs.declared.MaybeDb.{MaybeDb}
 use Rattle.config.specs.declared.Lengths.{Lengths}
 use Rattle.config.specs.declared.HoldTimes.{HoldTimes}
 use Rattle.config.specs.declared.Profile.{Profile}

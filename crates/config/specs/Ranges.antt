@@ -1,7 +1,7 @@
 -- Refusals 1 and 2: the profile's numbers, each in its range of document 01's Profile paragraph. Definitions only.
-use Rattle.std.specs.Prelude.{Bool, true, not, ◌&&◌, ◌||◌, ℕ, List, [], ◌∷◌, leb, get_or, Float}
-use Rattle.std.specs.Float.{nan, binary32, binary64}
-use Rattle.std.specs.Float.Ieee.{of_bits, le, neg}
+use Rattle.std.specs.Prelude.{Bool, not, ◌&&◌, ◌||◌, ℕ, [], ◌∷◌, leb, get_or, Float}
+use Rattle.std.specs.Float.{nan, binary64}
+use Rattle.std.specs.Float.Ieee.{of_bits, neg}
 use Rattle.laws.specs.Tests.{all}
 use Rattle.laws.specs.Span.{every, upto}
 use Rattle.ieee.specs.Range.{inside, w32, w64}

@@ -1,6 +1,6 @@
 -- The default profile: the values of `Config::new` (config.rs) and document 01's reckoned harq numbers. What the files lack, the. Follows the code or serves proofs: nothing here has to be believed.
 -- air, is chosen (docs/DECISIONS.md). Floats are given by their bits. Definitions only.
-use Rattle.std.specs.Prelude.{true, false, List, [], ◌∷◌, ℕ, Float, replicate}
+use Rattle.std.specs.Prelude.{true, false, List, [], ◌∷◌, ℕ, Float}
 use Rattle.std.specs.Float.{binary32, binary64}
 use Rattle.std.specs.Float.Ieee.{of_bits}
 use Rattle.level.specs.Ladder.{thresholds, eff_thresholds}

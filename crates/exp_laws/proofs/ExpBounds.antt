@@ -4,27 +4,25 @@ use mathlib.Core.List.{[], ◌∷◌}
 use Prim.Native.Nat.{ℕ, zero, suc, ◌+◌, ◌-◌, ◌*◌, ◌/◌, ◌^◌, ◌≤◌, ◌<◌, min}
 use native.Mathlib.Nat.{mul-pos, div-eq_of_lt}
 use native.Mathlib.Omega.{arith}
-use mathlib.Core.Bool.{Bool, true, false, not, cond}
+use mathlib.Core.Bool.{Bool, true, false, not}
 use lib.Dec.{T, leb→le}
 use lib.Pow.{pow_mono}
 use lib.IntN.{ℤ, pos, negsuc, neg_ℤ}
 use lib.Signed.{le_z}
-use lib.Ieee.{Float, nan, inf, fin, binary32, binary64, up, down, round, le, lt, neg, add, sub, mul, div, fits, of_int, of_bits, to_signed, is_nan}
-use lib.Ieee.Fits.{down_pos, fits_widens}
+use lib.Ieee.{Float, nan, inf, fin, binary64, up, down, round, le, lt, neg, add, sub, mul, div, fits, of_int, of_bits, to_signed, is_nan}
+use lib.Ieee.Fits.{down_pos}
 use lib.Ieee.Scale.{finite}
-use lib.Ieee.Positive.{den, den_pos, above_of_le}
+use lib.Ieee.Positive.{den, den_pos}
 use Rattle.ieee.specs.Range.{In, w64}
 use Rattle.ieee.specs.Power.{power}
 use Rattle.exp.specs.Exp.{horner, shifted, reduced, E}
-use Rattle.exp.specs.Narrow.{narrow}
-use Rattle.ieee.proofs.Value.{P, N, Under, le→Le, Le→le, le_trans, le-neg, lt_not_le, not-lt→le, le-no-nan}
-use Rattle.ieee.proofs.Rounds.{add_rounds, mul-rounds, div-rounds, round-neg, P_pos}
-use Rattle.ieee.proofs.Representable.{rounds-le, rounds-ge, zero_exp}
+use Rattle.ieee.proofs.Value.{P, N, Under, le→Le, Le→le, le_trans, le-neg, not-lt→le, le-no-nan}
+use Rattle.ieee.proofs.Rounds.{mul-rounds, round-neg}
+use Rattle.ieee.proofs.Representable.{rounds-ge, zero_exp}
 use Rattle.ieee.proofs.Mono.{null, not_negative, mul_mono, whole-mono}
 use Rattle.ieee.proofs.Bounds.{in-finite}
 use Rattle.float_laws.proofs.Intervals.{Ex, var, lit, plus, less, times, none, more, within}
-use Rattle.exp.proofs.ExpLaws.{lo, hi, log2e, half, shifted_in, cut_in, E-low, E-high, E-within}
-use Rattle.exp_laws.proofs.NarrowBounds.{narrow-in, narrow-ge}
+use Rattle.exp.proofs.ExpLaws.{shifted_in, cut_in, E-low, E-high, E-within}
 use Rattle.exp_laws.proofs.ExpRest.{least, greatest, y-in}
 
 abbrev one : Float

@@ -5,7 +5,7 @@ use Prim.Native.Nat.{ℕ, zero, suc, ◌%◌, ◌/◌, ◌+◌}
 use native.Mathlib.Omega.{arith}
 use lib.Dec.{T, eqb}
 use borrow.Author.Tests.{eq-eqb, ne_eqb}
-use lib.Ieee.{Format, Float, inf, nan, nan_bits, of_bits, of_fields, odd, hid, top, ones, prec, low}
+use lib.Ieee.{Format, inf, nan, nan_bits, of_bits, of_fields, odd, hid, top, ones, prec, low}
 
 and-false : (a : Bool) → T (not (a && false))
 and-false true = tt

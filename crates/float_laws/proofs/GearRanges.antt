@@ -1,8 +1,6 @@
 -- Where the gear's numbers lie, by `within` of `proofs/Intervals.antt`: each is its expression, and `tt`. Assumes nothing.
 use mathlib.Core.List.{[], ◌∷◌}
-use mathlib.Core.Bool.{false}
-use lib.IntN.{negsuc}
-use lib.Ieee.{Float, fin, binary32, binary64, le, lt, neg, add, sub, mul, div, of_int, of_bits}
+use lib.Ieee.{Float, binary32, binary64, le, lt, neg, add, sub, mul, div, of_int, of_bits}
 use Rattle.ieee.specs.Range.{In, w32, w64}
 use Rattle.float.specs.Gear.{success_weight}
 use Rattle.float.specs.Pick.{min_f, max_f}

@@ -1,7 +1,7 @@
 -- The ranges of what a long ack's bytes stand for: one computed test each over all bytes. `le` is false of what is not a number.
 -- Assumes nothing.
 use mathlib.Core.Path.{◌≡◌, refl, sym, subst}
-use mathlib.Core.Bool.{Bool, true, ◌&&◌, ◌||◌}
+use mathlib.Core.Bool.{true, ◌&&◌, ◌||◌}
 use Prim.Native.Nat.{ℕ, ◌≤◌, ◌<◌}
 use borrow.Author.Tests.{leb-true}
 use lib.Dec.{T, leb}

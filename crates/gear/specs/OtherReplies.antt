@@ -3,7 +3,6 @@ use Rattle.std.specs.Prelude.{ℕ, min, Bool, false, cond, Float}
 use Rattle.std.specs.Float.{binary32}
 use Rattle.std.specs.Float.Ieee.{sub}
 use Rattle.level.specs.Ladder.{top_level_in}
-use Rattle.config.specs.declared.MaybeDb.{MaybeDb}
 use Rattle.config.specs.declared.Profile.{Profile}
 use Rattle.report.specs.declared.ChanClass.{ChanClass}
 use Rattle.gear.specs.declared.Gear.{Gear}

@@ -1,7 +1,7 @@
 -- No reply sets a hold that ends later than the longest hold after it: a doubled hold is cut at fail_hold_max_s, and rounding keeps the
 -- order of sums.
 -- Assumes nothing.
-use mathlib.Core.Bool.{Bool, true, false, cond, not, ◌&&◌}
+use mathlib.Core.Bool.{Bool, cond, not, ◌&&◌}
 use Prim.Native.Nat.{ℕ, ◌+◌, ◌-◌, ◌<◌, min}
 use lib.Dec.{T, eqb}
 use lib.ListN.{get_or}

@@ -1,12 +1,12 @@
 -- What lies in a range, added, subtracted, multiplied and divided, lies in the range that the ends give. Assumes nothing.
 use lib.Dec.{T}
 use mathlib.Core.Bool.{not}
-use lib.Ieee.{Float, Format, le, add, sub, mul, div, is_nan}
+use lib.Ieee.{Float, Format, le, add, sub, div, is_nan}
 use lib.Ieee.Scale.{finite}
 use lib.Ieee.Positive.{positive, between}
 use Rattle.ieee.specs.Range.{In}
 use Rattle.ieee.proofs.Value.{finite-between, finite-no-nan, le_trans}
-use Rattle.ieee.proofs.Mono.{null, add-mono, sub-mono, mul_mono, mul-mono-left, div_mono, div-anti}
+use Rattle.ieee.proofs.Mono.{null, add-mono, sub-mono, div_mono, div-anti}
 
 pub in-finite : {lo hi x : Float} → T (finite lo) → T (finite hi) → In lo hi x → T (finite x)
 in-finite {lo} {hi} {x} p q i = finite-between lo x hi p q i.low i.high

@@ -1,5 +1,5 @@
 -- The operations grow and shrink with their arguments, over all finite values and in both formats. Assumes nothing.
-use mathlib.Core.Path.{◌≡◌, refl, sym, ap, ◌∙◌}
+use mathlib.Core.Path.{◌≡◌, refl, ap}
 use mathlib.Core.Logic.{◌⊎◌, inl, inr}
 use Prim.Native.Nat.{ℕ, ◌+◌, ◌*◌, ◌≤◌}
 use native.Mathlib.Nat
@@ -8,11 +8,11 @@ use native.Mathlib.Omega.{arith}
 use mathlib.Core.Bool.{Bool, true, false, not, cond}
 use lib.Dec.{T, eqb}
 use lib.IntN.{pos}
-use lib.Ieee.{Float, nan, inf, fin, Format, up, down, unlike, round, le, neg, add, sub, mul, div, of_int, is_nan}
+use lib.Ieee.{Float, nan, inf, fin, Format, up, down, unlike, le, neg, add, sub, mul, div, of_int, is_nan}
 use lib.Ieee.Scale.{finite}
 use lib.Ieee.Positive.{den, den_pos, positive}
 use Rattle.ieee.proofs.Value.{le_trans, le-neg, le_refl, le-no-nan, inf-least, inf-most, finite-no-nan, P, N, Under, le→Le}
-use Rattle.ieee.proofs.Rounds.{round-neg, neg-finite, rounds-mono, add_rounds, mul-rounds, div-rounds, whole-rounds, P_pos}
+use Rattle.ieee.proofs.Rounds.{neg-finite, rounds-mono, add_rounds, mul-rounds, div-rounds, whole-rounds, P_pos}
 
 -- ---- x + y in both, x - y up in x and down in y
 left-under : (p n d p' n' d' q m c : ℕ) → Under p n d p' n' d' → Under (p * c + q * d) (n * c + m * d) (d * c) (p' * c + q * d') (n' * c + m * d') (d' * c)

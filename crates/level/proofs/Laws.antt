@@ -6,7 +6,7 @@ use lib.Dec.{ltb, leb, ltb→lt}
 use Rattle.laws.specs.Span.{from, upto, every}
 use Rattle.laws.proofs.Span.{every-all}
 use Rattle.laws.proofs.Tables.{entry}
-use Rattle.level.specs.Ladder.{waves, wave_rank, rates, rate_of, long_frame, ofdm}
+use Rattle.level.specs.Ladder.{waves, wave_rank, long_frame, ofdm}
 
 -- a wave is one of six
 pub wave-lt : (l : ℕ) → wave_rank l < 6

@@ -1,5 +1,4 @@
 use Rattle.laws.proofs.Products.{product_lt}
-use Prim.Native.Nat.{◌-◌}
 use borrow.Author.Rules.{rules}
 use Rattle.config.proofs.product.Goals as goal
 

@@ -1,19 +1,19 @@
 -- Refusal 1 both ways: `in_range` is true exactly where each number of the profile is in document 01's range for it.
 -- Assumes nothing.
-use mathlib.Core.Path.{◌≡◌, refl, sym, subst}
+use mathlib.Core.Path.{◌≡◌, refl}
 use mathlib.Core.Bool.{Bool, true, false, not, ◌||◌}
 use Prim.Native.Nat.{ℕ, ◌≤◌}
 use borrow.Author.Tests.{leb-true, le-leb}
-use lib.Dec.{T, leb}
+use lib.Dec.{leb}
 use lib.ListN.{get_or}
-use lib.Ieee.{Float, nan, le}
+use lib.Ieee.{Float, nan}
 use Rattle.laws.proofs.Picks.{and_first, and_second, and_yes}
 use Rattle.laws.proofs.Tests.{all-at, all_none, all_more}
 use Rattle.laws.proofs.Span.{every-all, all-every}
 use Rattle.config.specs.Durations.{ack_at}
 use Rattle.config.specs.declared.MaybeLevel.{MaybeLevel}
 use Rattle.ieee.proofs.Range.{from-inside, to_inside}
-use Rattle.ieee.specs.Range.{In, w64, inside}
+use Rattle.ieee.specs.Range.{In, w64}
 use Rattle.harq.specs.declared.Harq.{Harq}
 use Rattle.config.specs.Ranges.{between, db_ok, maybe_db_ok, level_ok, ack_ok, air_ok, end_ok, harq_ok, lengths_ok, holds_ok, threshold_ok, marks_ok, pin_ok, levels_ok, sizes_ok, in_range}
 use Rattle.config.specs.Ranged.{Db, LevelRanged, AirRanged, HarqRanged, LengthsRanged, HoldsRanged, MarksRanged, Ranged}

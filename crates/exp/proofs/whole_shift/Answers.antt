@@ -21,6 +21,7 @@ truncating_f64_to_i64-requires c =
 pub returns : goal.returns
 returns c =
     let k = c.truncating_f64_to_i64.result in
-    let e = to_z-of_z w64 k (record { sfits = c.truncating_f64_to_i64.type_inv }) ∙ c.truncating_f64_to_i64.ensures ∙ ap (to_signed 63) c.shift.ensures in
+    let r = to_z-of_z w64 k (record { sfits = c.truncating_f64_to_i64.type_inv }) in
+    let e = r ∙ c.truncating_f64_to_i64.ensures ∙ ap (to_signed 63) c.shift.ensures in
     let i = cut_in (shifted c.args.x) (shifted_in c.args.x c.requires) in
     (e, subst (λ (z : ℤ). T (le_z (negsuc 1021) z)) (sym e) i.0, subst (λ (z : ℤ). T (le_z z (pos 1023))) (sym e) i.1)

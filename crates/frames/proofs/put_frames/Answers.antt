@@ -22,23 +22,24 @@ overflow_add-end c = omega (arith, fit-turn c.args.size c.args.a.now c.args.s _ 
 pub encode-requires : goal.encode-requires
 encode-requires c = (
   c.requires.0,
-  omega (arith, frames-long c.args.size c.args.a.now c.args.s _ _ c.requires.2 c.loop-i-test.true c.loop-i.invariant.3, c.loop-i.invariant.1, c.loop-i.invariant.2),
+  omega (arith, frames-long c.args.size c.args.a.now c.args.s _ _ c.requires.2 c.loop-i-test.true c.loop-i.invariant.3),
   c.requires.2,
   omega (arith, fit-turn c.args.size c.args.a.now c.args.s _ _ c.requires.2 c.loop-i-test.true c.loop-i.invariant.3),
 )
 
 pub overflow_add-at : goal.overflow_add-at
-overflow_add-at c = omega (arith, frames-long c.args.size c.args.a.now c.args.s _ _ c.requires.2 c.loop-i-test.true c.loop-i.invariant.3, c.loop-i.invariant.2)
+overflow_add-at c = omega (arith, frames-long c.args.size c.args.a.now c.args.s _ _ c.requires.2 c.loop-i-test.true c.loop-i.invariant.3)
 
 pub loop-i-preserved : goal.loop-i-preserved
 loop-i-preserved c =
     let g = c.args in
     let x = nth_slot g.s c.loop-i.i in
     let v = c.encode.ensures
-    ∙ ap (λ (k : ℕ). overwrite c.loop-i.out c.loop-i.at (frame_of g.size x.off (part g.a.now x.start k))) (add-sub_cancel_left x.start x.len) in (
+    ∙ ap (λ (k : ℕ). overwrite c.loop-i.out c.loop-i.at (frame_of g.size x.off (part g.a.now x.start k)))
+    (add-sub_cancel_left x.start x.len) in (
       omega arith,
       ap length v ∙ length_over c.loop-i.out c.loop-i.at _ ∙ c.loop-i.invariant.1,
-      omega (arith, frames-long c.args.size c.args.a.now c.args.s _ _ c.requires.2 c.loop-i-test.true c.loop-i.invariant.3, c.loop-i.invariant.2),
+      omega (arith, frames-long c.args.size c.args.a.now c.args.s _ _ c.requires.2 c.loop-i-test.true c.loop-i.invariant.3),
       (fit-turn c.args.size c.args.a.now c.args.s _ _ c.requires.2 c.loop-i-test.true c.loop-i.invariant.3).2,
       rw v
           (c.loop-i.invariant.4

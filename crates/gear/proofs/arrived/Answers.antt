@@ -1,5 +1,4 @@
 use Rattle.gear.specs.Judging.{arrived}
-use Rattle.std.proofs.Common.{◌-◌}
 use Rattle.gear.proofs.arrived.Goals as goal
 
 pub returns-then-burst : goal.returns-then-burst

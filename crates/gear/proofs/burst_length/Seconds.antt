@@ -1,9 +1,9 @@
 -- The burst seconds that stand in a record, and what they are read as. Assumes nothing.
-use Rattle.std.proofs.Common.{◌≡◌, Bool, true, false, cond, ◌||◌, T, sym, refl, subst}
+use Rattle.std.proofs.Common.{◌≡◌, Bool, true, false, ◌||◌, T, sym, refl}
 use mathlib.Core.Bool.{false≢true}
 use denote.Floats.{passes, is_true}
 use lib.Ieee.{Float, le, eq, of_int}
-use Rattle.ieee.specs.Range.{In, inside, w64}
+use Rattle.ieee.specs.Range.{In, w64}
 use Rattle.ieee.proofs.Value.{le_trans, eq→le}
 use Rattle.ieee.proofs.Range.{from-inside, to_inside}
 use Rattle.laws.proofs.Picks.{test, by, or_right}

@@ -3,7 +3,6 @@ use Rattle.std.proofs.Common.{◌≡◌, ℕ, ◌+◌, ◌<◌, ◌≤◌, true,
 use lib.Ieee.{Float, inf}
 use Rattle.float.specs.Total.{total_le}
 use Rattle.laws.proofs.Picks.{either}
-use Rattle.laws.specs.Span.{upto}
 use Rattle.laws.proofs.Span.{fold-keep}
 use Rattle.levels.specs.Usable.{heeded}
 use Rattle.levels.proofs.usable.Laws.{usable-below-lt, usable-below-le}

@@ -1,7 +1,6 @@
 use Rattle.laws.proofs.Picks.{cond_yes, cond_no}
 use borrow.Author.Tests.{eq-eqb, ne_eqb}
 use Rattle.harq.specs.Held.{check_bits, burst_check_bits}
-use Prim.Native.Nat.{◌-◌}
 use mathlib.Core.Path.{refl, ap, ◌∙◌}
 use Rattle.harq.proofs.burst_check_bits.Goals as goal
 

@@ -1,6 +1,5 @@
 use Rattle.laws.proofs.Picks.{picks}
 use Rattle.harq.specs.Held.{check_bits}
-use Prim.Native.Nat.{◌-◌}
 use Rattle.harq.proofs.check_bits.Goals as goal
 
 pub returns-then-n-eq0 : goal.returns-then-n-eq0

@@ -1,5 +1,4 @@
 use Rattle.laws.proofs.Picks.{picks}
-use Prim.Native.Nat.{◌-◌}
 use Rattle.harq.specs.HeldCode.{nearer}
 use Rattle.harq.proofs.nearer.Goals as goal
 

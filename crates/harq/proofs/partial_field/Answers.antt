@@ -1,7 +1,6 @@
 use borrow.Author.Tests.{ne_eqb}
 use Rattle.laws.proofs.Picks.{picks, cond_no}
 use Rattle.harq.specs.Held.{partial_field}
-use Prim.Native.Nat.{◌-◌}
 use native.Mathlib.Omega.{arith}
 use Rattle.harq.proofs.partial_field.Goals as goal
 

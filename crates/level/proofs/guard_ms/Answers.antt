@@ -1,6 +1,5 @@
 use Rattle.laws.proofs.Picks.{picks}
 use Rattle.level.specs.Ladder.{guard_ms}
-use Prim.Native.Nat.{◌-◌}
 use Rattle.level.proofs.guard_ms.Goals as goal
 
 pub returns-then-w-eq4 : goal.returns-then-w-eq4

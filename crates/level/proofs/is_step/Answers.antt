@@ -1,5 +1,4 @@
 use Rattle.level.specs.Ladder.{is_step}
-use Prim.Native.Nat.{◌-◌}
 use Rattle.level.proofs.is_step.Goals as goal
 
 pub returns : goal.returns

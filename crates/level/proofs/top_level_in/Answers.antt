@@ -1,9 +1,6 @@
 use borrow.Author.Tests.{le-leb, lt-leb}
-use lib.Dec.{leb}
-use Rattle.laws.specs.Steps.{highest}
 use Rattle.laws.proofs.Steps.{highest-none, highest-hit, highest-miss}
-use Rattle.level.specs.Ladder.{wave_rank, top_level_in}
-use Prim.Native.Nat.{◌-◌}
+use Rattle.level.specs.Ladder.{top_level_in}
 use mathlib.Core.Path.{◌≡◌, refl, sym, ◌∙◌}
 use native.Mathlib.Omega.{arith}
 use Rattle.level.proofs.top_level_in.Goals as goal

@@ -1,7 +1,7 @@
 use lib.Dec.{leb}
 use Rattle.laws.specs.Steps.{highest}
 use Rattle.level.specs.Ladder.{wave_rank, top_level_in}
-use Prim.Native.Nat.{◌-◌, ◌≤◌}
+use Prim.Native.Nat.{◌≤◌}
 use mathlib.Core.Path.{◌≡◌}
 use Rattle.level.proofs.top_level_in.Given as goal
 

@@ -6,7 +6,6 @@ use lib.Ieee.Fits.{div-fits}
 use Rattle.ieee.specs.Range.{In, w64}
 use Rattle.float.specs.Gear.{cue_seconds}
 use Rattle.float.specs.Floor.{count_of}
-use Rattle.ieee.proofs.Value
 use Rattle.ieee.proofs.Value.{le→Le}
 use Rattle.float.proofs.whole.FloorLaws.{count-large, count-one}
 use Rattle.float_laws.proofs.Durations.{whole_in}

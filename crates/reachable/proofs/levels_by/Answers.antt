@@ -1,4 +1,3 @@
-use Prim.Native.Nat.{◌-◌}
 use mathlib.Core.Path.{sym, ◌∙◌}
 use Rattle.reachable.specs.Reachable.{listing_by}
 use Rattle.reachable.proofs.Refusals.{range_none, answer-yes, answer-no}

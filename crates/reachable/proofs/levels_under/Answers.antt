@@ -1,4 +1,3 @@
-use Prim.Native.Nat.{◌-◌}
 use mathlib.Core.Path.{sym, ◌∙◌}
 use Rattle.reachable.specs.Reachable.{listing_under}
 use Rattle.reachable.proofs.Refusals.{profile-none, answer-yes, answer-no, under}

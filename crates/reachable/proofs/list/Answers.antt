@@ -1,4 +1,3 @@
-use Prim.Native.Nat.{◌-◌}
 use mathlib.Core.Path.{refl}
 use native.Mathlib.Omega.{arith}
 use Rattle.reachable.proofs.Steps.{filled_none, filled-hit, filled-miss, filled-as, filled-all}

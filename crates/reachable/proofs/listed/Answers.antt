@@ -1,4 +1,3 @@
-use Prim.Native.Nat.{◌-◌}
 use mathlib.Core.Path.{ap, ◌∙◌}
 use Rattle.reachable.specs.Reachable.{listing}
 use Rattle.reachable.proofs.Steps.{listed-noted}

@@ -1,4 +1,3 @@
-use Prim.Native.Nat.{◌-◌}
 use Rattle.laws.proofs.Picks.{picks}
 use Rattle.reachable.specs.Reachable.{order_refusal}
 use Rattle.reachable.proofs.order_refusal.Goals as goal

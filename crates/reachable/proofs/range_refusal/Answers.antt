@@ -1,4 +1,3 @@
-use Prim.Native.Nat.{◌-◌}
 use Rattle.reachable.proofs.Refusals.{range-good, range-bad}
 use Rattle.reachable.proofs.range_refusal.Goals as goal
 

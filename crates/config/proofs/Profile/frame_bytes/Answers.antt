@@ -1,6 +1,5 @@
 use Rattle.config.specs.Durations.{frame_bytes}
 use Rattle.laws.proofs.Picks.{calls}
-use Prim.Native.Nat.{◌-◌}
 use Rattle.config.proofs.Profile.frame_bytes.Goals as goal
 
 pub returns-then-long_frame : goal.returns-then-long_frame

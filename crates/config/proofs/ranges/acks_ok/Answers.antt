@@ -1,10 +1,8 @@
 -- The loop is a fold (`every-fold`): the invariant has the whole as the fold of what is left from what was found. Other needs are indexes.
-use Rattle.laws.specs.Span.{fold, every}
 use Rattle.laws.proofs.Span.{fold-turn, fold_done}
 use lib.Ieee.{of_int, of_bits}
 use Rattle.config.specs.Ranges.{ack_ok}
 use Rattle.config.specs.Durations.{ack_at}
-use Prim.Native.Nat.{◌-◌}
 use mathlib.Core.Bool.{Bool, ◌&&◌}
 use mathlib.Core.Path.{sym, ap}
 use native.Mathlib.Omega.{arith}

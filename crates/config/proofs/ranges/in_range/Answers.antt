@@ -1,6 +1,5 @@
 use Rattle.laws.specs.Tests.{all}
 use Rattle.config.specs.Ranges.{in_range}
-use Prim.Native.Nat.{◌-◌}
 use Rattle.config.proofs.ranges.in_range.Goals as goal
 
 pub returns : goal.returns

@@ -1,7 +1,6 @@
 use Rattle.laws.specs.Tests.{all}
 use Rattle.config.specs.Ranges.{lengths_ok}
 use lib.Ieee.{of_int, of_bits}
-use Prim.Native.Nat.{◌-◌}
 use Rattle.config.proofs.ranges.lengths_ok.Goals as goal
 
 pub returns : goal.returns

@@ -1,6 +1,5 @@
 use Rattle.laws.specs.Tests.{all}
 use Rattle.config.specs.Ranges.{sizes_ok}
-use Prim.Native.Nat.{◌-◌}
 use Rattle.config.proofs.ranges.sizes_ok.Goals as goal
 
 pub returns : goal.returns

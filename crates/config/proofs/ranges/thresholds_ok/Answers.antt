@@ -1,7 +1,5 @@
-use Rattle.laws.specs.Span.{fold, every}
 use Rattle.laws.proofs.Span.{fold-turn, fold_done}
 use Rattle.config.specs.Ranges.{threshold_ok}
-use Prim.Native.Nat.{◌-◌}
 use mathlib.Core.Bool.{Bool, ◌&&◌}
 use mathlib.Core.Path.{sym, ap}
 use native.Mathlib.Omega.{arith}

@@ -1,6 +1,6 @@
 -- `exp::narrow::rounded` meets its contract (`rounds-to` of `proofs/NarrowPlace.antt`). Assumes nothing.
-use Rattle.std.proofs.Common.{◌≡◌, ℕ, ◌+◌, ◌/◌, ◌<◌, false, cond, T, pos, sym, ap, ◌∙◌, subst, lt_trans, lit<, w64, Fits}
-use lib.Ieee.{Float, fin, inf, binary64, add, sub, lt, minus, fits, of_bits, to_bits}
+use Rattle.std.proofs.Common.{◌≡◌, ℕ, ◌<◌, false, cond, T, pos, sym, ap, ◌∙◌, subst, lt_trans, lit<}
+use lib.Ieee.{Float, fin, inf, binary64, add, sub, lt, minus, fits, of_bits}
 use Rattle.ieee.specs.Range.{w64 as W}
 use Rattle.ieee.specs.Power.{power}
 use Rattle.ieee.proofs.Tests.{yes, nope}
@@ -27,7 +27,8 @@ pub float_to_bits-a : goal.float_to_bits-a
 float_to_bits-a c = (le-no-nan (W 0) c.args.a (lt→le (W 0) c.args.a c.requires.fact_1)).1
 
 -- the field that the pattern gives, and 29 more, is in bounds
-field_in_bounds : (a : Float) (j : ℕ) → T (fits binary64 a) → T (lt (W 0) a) → T (lt a (fin false 1 (pos 128))) → j ≡ spot a → (0 < j) × (j < 2000)
+field_in_bounds : (a : Float) (j : ℕ) → T (fits binary64 a) → T (lt (W 0) a) → T (lt a (fin false 1 (pos 128))) → j ≡ spot a
+    → (0 < j) × (j < 2000)
 field_in_bounds a j F p q h = subst (λ (j : ℕ). (0 < j) × (j < 2000)) (sym h) (field_in a F p q)
 
 pub overflow_add-a : goal.overflow_add-a

@@ -1,5 +1,6 @@
 -- `exp::power::field_of` meets its contract: the sum is `biased k`, which is no negative number. Assumes nothing.
-use Rattle.std.proofs.Common.{◌≡◌, T, ℤ, pos, negsuc, ◌+ℤ◌, nat_abs, sym, ap, ◌∙◌, subst, lt_trans, lit<, w64, Fits, SFits, to_z, of_z}
+use Rattle.std.proofs.Common.{◌≡◌, T, ℤ, pos, negsuc, ◌+ℤ◌, nat_abs, sym, ap, ◌∙◌, subst, lt_trans, lit<}
+use Rattle.std.proofs.Common.{w64, Fits, SFits, to_z, of_z}
 use lib.Signed.{non_neg, le_z}
 use mir.ValLaws.{to_z-of_z}
 use Rattle.ieee.specs.Power.{biased}

@@ -1,5 +1,4 @@
 use Rattle.gear.specs.OtherReplies.{connected}
-use Rattle.std.proofs.Common.{◌-◌}
 use Rattle.gear.proofs.Gear.connect.Goals as goal
 
 pub returns : goal.returns

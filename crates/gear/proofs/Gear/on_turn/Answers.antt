@@ -1,5 +1,4 @@
 use Rattle.gear.specs.OtherReplies.{on_turn}
-use Rattle.std.proofs.Common.{◌-◌}
 use Rattle.gear.proofs.Gear.on_turn.Goals as goal
 
 pub returns-then-burst : goal.returns-then-burst

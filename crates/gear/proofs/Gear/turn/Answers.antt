@@ -1,5 +1,4 @@
 use Rattle.gear.specs.OtherReplies.{at_turn}
-use Rattle.std.proofs.Common.{◌-◌}
 use Rattle.gear.proofs.Gear.turn.Goals as goal
 
 pub returns : goal.returns

@@ -1,7 +1,6 @@
 use Rattle.gear.specs.BurstLength.{next_entry}
-use Rattle.laws.specs.Span.{fold}
 use Rattle.laws.proofs.Span.{fold-turn, fold_done}
-use Rattle.std.proofs.Common.{◌-◌, sym, refl, arith}
+use Rattle.std.proofs.Common.{sym, refl, arith}
 use Rattle.gear.proofs.burst_length.next_entry.Goals as goal
 
 pub loop-k-init : goal.loop-k-init

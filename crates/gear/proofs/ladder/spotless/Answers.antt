@@ -1,7 +1,6 @@
 use Rattle.gear.specs.Judging.{spotless}
-use Rattle.laws.specs.Span.{every}
 use Rattle.laws.proofs.Span.{every-pass, every-fail, every-end}
-use Rattle.std.proofs.Common.{◌-◌, eqb, sym, refl, ◌∙◌, arith, eq-eqb, ne_eqb}
+use Rattle.std.proofs.Common.{sym, refl, ◌∙◌, arith, eq-eqb, ne_eqb}
 use Rattle.gear.proofs.ladder.spotless.Goals as goal
 
 pub loop-k-init : goal.loop-k-init

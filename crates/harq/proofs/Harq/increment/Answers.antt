@@ -3,8 +3,8 @@ use borrow.Author.Tests.{eq-eqb, ne_eqb}
 use lib.ListN.{drop_of_length-le, length}
 use Rattle.harq.specs.Held.{increment_of}
 use Rattle.harq.proofs.Search.{ahead, ahead-start, ahead-turn, ahead-end, nearer-above}
-use Prim.Native.Nat.{ℕ, ◌-◌, ◌≤◌, ◌<◌}
-use mathlib.Core.Path.{◌≡◌, refl, sym, ap, ◌∙◌}
+use Prim.Native.Nat.{◌≤◌, ◌<◌}
+use mathlib.Core.Path.{refl, sym, ap, ◌∙◌}
 use native.Mathlib.Omega.{arith}
 use Rattle.harq.proofs.Harq.increment.Goals as goal
 

@@ -1,8 +1,7 @@
 use Rattle.std.proofs.Common.{◌≡◌, sym, refl, ◌∙◌, arith}
-use Rattle.laws.specs.Steps.{highest}
 use Rattle.laws.proofs.Steps.{highest-none, highest-hit, highest-miss}
 use Rattle.laws.proofs.Picks.{told-yes, told-no}
-use Rattle.levels.specs.Usable.{family_ok, allowed_below}
+use Rattle.levels.specs.Usable.{allowed_below}
 use Rattle.levels.proofs.down.allowed_below.Goals as goal
 
 pub loop-k-init : goal.loop-k-init

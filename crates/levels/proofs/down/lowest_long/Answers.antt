@@ -1,8 +1,6 @@
-use Rattle.std.proofs.Common.{◌-◌, sym, refl, ◌∙◌, arith}
-use Rattle.laws.specs.Span.{first}
+use Rattle.std.proofs.Common.{sym, refl, ◌∙◌, arith}
 use Rattle.laws.proofs.Span.{first-hit, first-miss, first-end}
-use Rattle.level.specs.Ladder.{long_frame}
-use Rattle.levels.specs.Usable.{family_ok, lowest_long}
+use Rattle.levels.specs.Usable.{lowest_long}
 use Rattle.levels.proofs.down.lowest_long.Goals as goal
 
 pub loop-k-init : goal.loop-k-init

@@ -1,6 +1,6 @@
 use Rattle.laws.proofs.Span.{counted-hit, counted-miss, counted-end}
-use Rattle.std.proofs.Common.{◌-◌, sym, arith}
-use Rattle.levels.specs.Memory.{others, holding}
+use Rattle.std.proofs.Common.{sym, arith}
+use Rattle.levels.specs.Memory.{others}
 use Rattle.laws.proofs.Picks.{told-yes, told-no}
 use Rattle.levels.proofs.losses.others.Goals as goal
 

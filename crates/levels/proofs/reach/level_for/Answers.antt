@@ -1,8 +1,7 @@
 use Rattle.std.proofs.Common.{◌≡◌, sym, refl, ◌∙◌, arith}
-use Rattle.laws.specs.Steps.{highest}
 use Rattle.laws.proofs.Steps.{highest-none, highest-hit, highest-miss}
 use Rattle.laws.proofs.Picks.{told-yes, told-no}
-use Rattle.levels.specs.Usable.{enough, level_for}
+use Rattle.levels.specs.Usable.{level_for}
 use Rattle.levels.proofs.reach.level_for.Goals as goal
 
 pub loop-l-init : goal.loop-l-init

@@ -1,5 +1,5 @@
 -- The loop folds `turn` over the levels, on what is taken out before it; `turns` then says that by the profile. A level's numbers are in
-use Rattle.std.proofs.Common.{◌≡◌, ◌+◌, ◌-◌, ◌<◌, sym, refl, ◌∙◌, arith}
+use Rattle.std.proofs.Common.{◌≡◌, ◌+◌, ◌<◌, sym, refl, ◌∙◌, arith}
 use lib.Ieee.{Float}
 use Rattle.laws.specs.Span.{upto, fold}
 use Rattle.laws.proofs.Span.{fold-turn, fold_done}

@@ -1,6 +1,5 @@
-use Rattle.laws.specs.Span.{fold}
 use Rattle.laws.proofs.Span.{fold-turn, fold_done}
-use Rattle.std.proofs.Common.{◌-◌, sym, refl, arith}
+use Rattle.std.proofs.Common.{sym, refl, arith}
 use Rattle.levels.specs.Memory.{channel_failed}
 use Rattle.levels.proofs.memory.Tries.channel_failed.Goals as goal
 

@@ -1,6 +1,6 @@
-use Rattle.levels.specs.Usable.{climbs, climb_above}
+use Rattle.levels.specs.Usable.{climb_above}
 use Rattle.laws.proofs.Span.{last-pass, last-miss, last_end, last_none}
-use Rattle.std.proofs.Common.{◌-◌, sym, refl, ◌∙◌, arith}
+use Rattle.std.proofs.Common.{sym, refl, ◌∙◌, arith}
 use Rattle.laws.proofs.Picks.{told-yes, told-no}
 use Rattle.levels.proofs.usable.Holds.climb_above.Goals as goal
 

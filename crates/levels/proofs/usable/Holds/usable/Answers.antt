@@ -1,5 +1,4 @@
-use Rattle.std.proofs.Common.{◌-◌, sym, refl, ◌∙◌, arith}
-use Rattle.laws.specs.Span.{every}
+use Rattle.std.proofs.Common.{sym, refl, ◌∙◌, arith}
 use Rattle.laws.proofs.Span.{every-pass, every-fail, every-end}
 use Rattle.laws.proofs.Picks.{told-yes, told-no, is-and, is-not-and}
 use Rattle.levels.specs.Usable.{usable}

@@ -1,5 +1,4 @@
-use Rattle.levels.specs.Usable.{usable, usable_below}
-use Rattle.laws.specs.Steps.{highest}
+use Rattle.levels.specs.Usable.{usable_below}
 use Rattle.laws.proofs.Steps.{highest-none, highest-hit, highest-miss}
 use Rattle.std.proofs.Common.{◌≡◌, sym, refl, ◌∙◌, arith}
 use Rattle.laws.proofs.Picks.{picks, told-yes, told-no, cond_no}
