@@ -7,10 +7,10 @@ pub shape_of-l : goal.shape_of-l
 shape_of-l c =
     let p2 = c in
     let p1 = p2 in
-    p2.hex.auto.0 ∙ p1.puts-n.auto.0
+    p2.hex.auto.t ∙ p1.puts-n.auto.t
 
 pub returns : goal.returns
 returns c =
     let p2 = c in
     let p1 = p2 in
-    (appends p1.puts.ensures ⨾ appends p2.hex.ensures).is
+    (appends p1.puts-n.ensures ⨾ appends p2.hex.ensures).is

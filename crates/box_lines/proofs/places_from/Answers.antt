@@ -24,7 +24,7 @@ pub returns-then-not-place : goal.returns-then-not-place
 returns-then-not-place c =
     let l = c in
     let v = l.loop-n.invariant in
-    let z = no_word _ _ _ _ _ _ _ c.whole-place.ensures v.0 (omega (arith, v.2, c.loop-n-test.true)) c.if-not-place.true in record {
+    let z = no_word _ _ _ _ _ _ _ c.whole-place.ensures v.0 (omega (arith, v.2, c.loop-n-test.true)) (not-true _ c.if-not-place.true) in record {
       value = (λ i. record { n = z.0 i; ok = (c.done.ensures ∙ z.1) i });
       places_after = v.1 ∙ ap (overwrite _ 0) z.2;
     }
@@ -36,7 +36,7 @@ pub returns-then-place-frames : goal.returns-then-place-frames
 returns-then-place-frames c =
     let l = c in
     let v = l.loop-n.invariant in
-    let z = past-frames _ _ _ _ _ _ _ c.whole-place.ensures v.0 (omega (arith, v.2, c.loop-n-test.true)) c.if-not-place.false c.if-place-frames.true in record {
+    let z = past-frames _ _ _ _ _ _ _ c.whole-place.ensures v.0 (omega (arith, v.2, c.loop-n-test.true)) (not-false _ c.if-not-place.false) c.if-place-frames.true in record {
       value = (λ i. record { n = z.0 i; ok = z.1 i });
       places_after = v.1 ∙ ap (overwrite _ 0) z.2;
     }
@@ -56,7 +56,7 @@ loop-n-preserved c =
     let v = l.loop-n.invariant in
     let e = c.whole-place.ensures in
     let h : l.loop-n.n < length l.args.places.now = omega (arith, v.2, c.loop-n-test.true) in
-    let ok = c.if-not-place.false in
+    let ok = not-false _ c.if-not-place.false in
     let few = c.if-place-frames.false in
     (reads_on _ _ _ _ _ _ _ e v.0 h ok few, rw v.1 (puts-on _ _ _ _ _ _ _ e v.0 h ok few _), simp length-set v.2)
 

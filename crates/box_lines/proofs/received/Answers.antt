@@ -5,7 +5,7 @@ use Rattle.box_lines.proofs.Answers.{line_refused, line-accepted}
 use Rattle.box_lines.proofs.received.Goals as goal
 
 pub shape_of-t-then-refusal-ne0 : goal.shape_of-t-then-refusal-ne0
-shape_of-t-then-refusal-ne0 c = c.answer.auto.0
+shape_of-t-then-refusal-ne0 c = c.answer.auto.t
 
 pub returns-then-refusal-ne0 : goal.returns-then-refusal-ne0
 returns-then-refusal-ne0 c = told (appends c.answer.ensures) (line_refused _ _ _ c.if-refusal-ne0.true)
@@ -19,7 +19,7 @@ shape_of-t c =
     let p3 = p4 in
     let p2 = p3 in
     let p1 = p2 in
-    p7.puts.auto.0 ∙ p6.hex-n-2.auto.0 ∙ p5.number-n-2.auto.0 ∙ p4.number-n.auto.0 ∙ p3.hex-n.auto.0 ∙ p2.puts-n-2.auto.0 ∙ p1.puts-n.auto.0
+    p7.puts.auto.t ∙ p6.hex-n-2.auto.t ∙ p5.number-n-2.auto.t ∙ p4.number-n.auto.t ∙ p3.hex-n.auto.t ∙ p2.puts-n-2.auto.t ∙ p1.puts-n.auto.t
 
 pub returns : goal.returns
 returns c =

@@ -9,7 +9,7 @@ shape_of-t c =
     let p3 = p4 in
     let p2 = p3 in
     let p1 = p2 in
-    p4.puts.auto.0 ∙ p3.number-n-2.auto.0 ∙ p2.number-n.auto.0 ∙ p1.puts-n.auto.0
+    p4.puts.auto.t ∙ p3.number-n-2.auto.t ∙ p2.number-n.auto.t ∙ p1.puts-n.auto.t
 
 pub returns : goal.returns
 returns c =
@@ -17,4 +17,4 @@ returns c =
     let p3 = p4 in
     let p2 = p3 in
     let p1 = p2 in
-    (appends p1.puts.ensures ⨾ appends p2.number.ensures ⨾ appends p3.number2.ensures ⨾ appends p4.puts2.ensures).is
+    (appends p1.puts-n.ensures ⨾ appends p2.number-n.ensures ⨾ appends p3.number-n-2.ensures ⨾ appends p4.puts.ensures).is

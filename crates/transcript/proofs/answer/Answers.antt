@@ -9,7 +9,7 @@ shape_of-t-then-refusal-eq0 c =
     let p3 = c in
     let p2 = p3 in
     let p1 = p2 in
-    p3.puts.auto.0 ∙ p2.puts-n-then-refusal-eq0.auto.0 ∙ p1.puts-n.auto.0
+    p3.puts.auto.t ∙ p2.puts-n-then-refusal-eq0.auto.t ∙ p1.puts-n.auto.t
 
 pub returns-then-refusal-eq0 : goal.returns-then-refusal-eq0
 returns-then-refusal-eq0 c =
@@ -25,7 +25,7 @@ shape_of-t c =
     let p3 = p4 in
     let p2 = p3 in
     let p1 = p2 in
-    p4.puts-2.auto.0 ∙ p3.number-n.auto.0 ∙ p2.puts-n-2.auto.0 ∙ p1.puts-n.auto.0
+    p4.puts-2.auto.t ∙ p3.number-n.auto.t ∙ p2.puts-n-2.auto.t ∙ p1.puts-n.auto.t
 
 pub returns : goal.returns
 returns c =

@@ -8,11 +8,8 @@ shape_of-t c =
     let p3 = c in
     let p2 = p3 in
     let p1 = p2 in
-    p3.puts.auto.0 ∙ p2.hex-n.auto.0 ∙ p1.puts-n.auto.0
+    p3.puts.auto.t ∙ p2.hex-n.auto.t ∙ p1.puts-n.auto.t
 
 pub returns : goal.returns
 returns c =
-    let p3 = c in
-    let p2 = p3 in
-    let p1 = p2 in
-    (appends p1.puts.ensures ⨾ appends p2.hex.ensures ⨾ appends p3.puts2.ensures).is
+    (appends c.puts-n.ensures ⨾ appends c.hex-n.ensures ⨾ appends c.puts.ensures).is

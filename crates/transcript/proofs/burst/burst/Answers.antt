@@ -12,7 +12,7 @@ pub shape_of-t-then-f-lt-MAX_SLOTS : goal.shape_of-t-then-f-lt-MAX_SLOTS
 shape_of-t-then-f-lt-MAX_SLOTS c =
     let p2 = c in
     let p1 = p2 in
-    p2.frames.auto.0 ∙ p1.line-n.auto.0
+    p2.frames.auto.t ∙ p1.line-n.auto.t
 
 pub returns-then-f-lt-MAX_SLOTS : goal.returns-then-f-lt-MAX_SLOTS
 unfolding burst_lines
@@ -30,7 +30,7 @@ pub shape_of-t : goal.shape_of-t
 shape_of-t c =
     let p2 = c in
     let p1 = p2 in
-    p2.frames-2.auto.0 ∙ p1.line-n.auto.0
+    p2.frames-2.auto.t ∙ p1.line-n.auto.t
 
 pub returns : goal.returns
 unfolding burst_lines

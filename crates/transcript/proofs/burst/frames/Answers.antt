@@ -26,17 +26,17 @@ loop-i-preserved c = let q = c in
     let out = a.out.now in
     let i = p.loop-i.i in
     let from = p.loop-i.from in
-    let to = z.end_of_lem.result in
+    let to = z.end_of-to.result in
     let v = p.loop-i.invariant in
-    let bytes = frame-bytes out from a.size (a.size * i) to v.1 v.2 z.end_of_lem.ensures in
-    let turn = each_turn (frame_entry a.t3 a.size out) (upto-more i a.count l.loop-i-test.true) v.3
+    let bytes = frame-bytes out from a.size (a.size * i) to v.1 v.2 z.end_of-to.ensures in
+    let turn = each_turn (frame_entry a.f a.size out) (upto-more i a.count l.loop-i-test.true) v.3
     (appends (told (appends q.frame-n.ensures) (ap (frame_line _ _ _ _) bytes))) in (
       omega arith,
-      omega (arith, z.end_of_lem.ensures),
-      frame-next out from a.size (a.size * i) to v.1 v.2 z.end_of_lem.ensures
+      omega (arith, z.end_of-to.ensures),
+      frame-next out from a.size (a.size * i) to v.1 v.2 z.end_of-to.ensures
           ∙ ap (λ (k : ℕ). drop k out) (let e : a.size * i + a.size ≡ a.size * (i + 1) = omega (arith, mul-add a.size i 1) in e),
       turn,
-      q.frame-n.auto.0 ∙ v.4,
+      q.frame-n.auto.t ∙ v.4,
     )
 
 pub shape_of-t : goal.shape_of-t
@@ -45,4 +45,4 @@ shape_of-t c = c.loop-i.invariant.4
 pub returns : goal.returns
 returns c = let p = c in
     let a = p.args in
-    each-end (frame_entry a.t3 a.size a.out.now) (upto-none p.loop-i.i a.count c.loop-i-test.false) p.loop-i.invariant.3
+    each-end (frame_entry a.f a.size a.out.now) (upto-none p.loop-i.i a.count c.loop-i-test.false) p.loop-i.invariant.3

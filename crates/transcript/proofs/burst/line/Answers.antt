@@ -14,19 +14,9 @@ shape_of-t c =
     let p3 = p4 in
     let p2 = p3 in
     let p1 = p2 in
-    p9.puts.auto.0 ∙ p8.number-n-5.auto.0 ∙ p7.flag-n-2.auto.0 ∙ p6.flag-n.auto.0 ∙ p5.number-n-4.auto.0 ∙ p4.number-n-3.auto.0
-    ∙ p3.number-n-2.auto.0 ∙ p2.number-n.auto.0 ∙ p1.puts-n.auto.0
+    p9.puts.auto.t ∙ p8.number-n-5.auto.t ∙ p7.flag-n-2.auto.t ∙ p6.flag-n.auto.t ∙ p5.number-n-4.auto.t ∙ p4.number-n-3.auto.t
+    ∙ p3.number-n-2.auto.t ∙ p2.number-n.auto.t ∙ p1.puts-n.auto.t
 
 pub returns : goal.returns
 returns c =
-    let p9 = c in
-    let p8 = p9 in
-    let p7 = p8 in
-    let p6 = p7 in
-    let p5 = p6 in
-    let p4 = p5 in
-    let p3 = p4 in
-    let p2 = p3 in
-    let p1 = p2 in
-    (appends p1.puts.ensures ⨾ appends p2.number.ensures ⨾ appends p3.number2.ensures ⨾ appends p4.number3.ensures ⨾ appends p5.number4.ensures
-    ⨾ appends p6.flag.ensures ⨾ appends p7.flag2.ensures ⨾ appends p8.number5.ensures ⨾ appends p9.puts2.ensures).is
+    (appends c.puts-n.ensures ⨾ appends c.number-n.ensures ⨾ appends c.number-n-2.ensures ⨾ appends c.number-n-3.ensures ⨾ appends c.number-n-4.ensures ⨾ appends c.flag-n.ensures ⨾ appends c.flag-n-2.ensures ⨾ appends c.number-n-5.ensures ⨾ appends c.puts.ensures).is

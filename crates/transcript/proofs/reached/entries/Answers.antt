@@ -18,8 +18,8 @@ loop-i-preserved c = let q = c in
     let p = l in
     let a = p.args in (
       omega arith,
-      each_turn (level_entry a.t3) (upto-more p.loop-i.i a.count l.loop-i-test.true) p.loop-i.invariant.1 (appends q.entry-n.ensures),
-      q.entry-n.auto.0
+      each_turn (level_entry a.found) (upto-more p.loop-i.i a.count l.loop-i-test.true) p.loop-i.invariant.1 (appends q.entry-n.ensures),
+      q.entry-n.auto.t
           ∙ p.loop-i.invariant.2,
     )
 
@@ -29,4 +29,4 @@ shape_of-t c = c.loop-i.invariant.2
 pub returns : goal.returns
 returns c = let p = c in
     let a = p.args in
-    each-end (level_entry a.t3) (upto-none p.loop-i.i a.count c.loop-i-test.false) p.loop-i.invariant.1
+    each-end (level_entry a.found) (upto-none p.loop-i.i a.count c.loop-i-test.false) p.loop-i.invariant.1

@@ -12,7 +12,7 @@ shape_of-t c =
     let p3 = c in
     let p2 = p3 in
     let p1 = p2 in
-    p3.puts.auto.0 ∙ p2.entries-n.auto.0 ∙ p1.puts-n.auto.0
+    p3.puts.auto.t ∙ p2.entries-n.auto.t ∙ p1.puts-n.auto.t
 
 pub returns : goal.returns
 unfolding levels_line
