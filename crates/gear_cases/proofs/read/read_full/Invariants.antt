@@ -1,0 +1,9 @@
+-- What was read stands at the start of the array.
+use Rattle.std.proofs.Common.{◌-◌, ◌≤◌, length}
+use Rattle.gear_cases.proofs.read.read_full.Given as goal
+
+abbrev pub invariant-loop-done : goal.invariant-loop-done
+invariant-loop-done g l = l.done ≤ length l.out
+
+abbrev pub decreases-loop-done : goal.decreases-loop-done
+decreases-loop-done g l = length l.out - l.done
