@@ -11,7 +11,7 @@ shape_of-t c =
     let p3 = p4 in
     let p2 = p3 in
     let p1 = p2 in
-    p5.puts.auto.0 ∙ p4.reports-n.auto.0 ∙ p3.maybe_single-n-2.auto.0 ∙ p2.maybe_single-n.auto.0 ∙ p1.puts-n.auto.0
+    p5.puts.auto.t ∙ p4.reports-n.auto.t ∙ p3.maybe_single-n-2.auto.t ∙ p2.maybe_single-n.auto.t ∙ p1.puts-n.auto.t
 
 pub returns : goal.returns
 unfolding aim_line
@@ -21,5 +21,5 @@ returns c =
     let p3 = p4 in
     let p2 = p3 in
     let p1 = p2 in
-    (appends p1.puts.ensures ⨾ appends p2.maybe-single.ensures ⨾ appends p3.maybe-single2.ensures ⨾ appends p4.reports.ensures
-    ⨾ appends p5.puts2.ensures).is
+    (appends p1.puts-n.ensures ⨾ appends p2.maybe_single-n.ensures ⨾ appends p3.maybe_single-n-2.ensures ⨾ appends p4.reports-n.ensures
+    ⨾ appends p5.puts.ensures).is

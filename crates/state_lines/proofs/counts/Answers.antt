@@ -10,7 +10,7 @@ shape_of-t c =
     let p3 = p4 in
     let p2 = p3 in
     let p1 = p2 in
-    p4.puts.auto.0 ∙ p3.number-n.auto.0 ∙ p2.tally-n.auto.0 ∙ p1.puts-n.auto.0
+    p4.puts.auto.t ∙ p3.number-n.auto.t ∙ p2.tally-n.auto.t ∙ p1.puts-n.auto.t
 
 pub returns : goal.returns
 unfolding counts_line
@@ -19,4 +19,4 @@ returns c =
     let p3 = p4 in
     let p2 = p3 in
     let p1 = p2 in
-    (appends p1.puts.ensures ⨾ appends p2.tally.ensures ⨾ appends p3.number.ensures ⨾ appends p4.puts2.ensures).is
+    (appends p1.puts-n.ensures ⨾ appends p2.tally-n.ensures ⨾ appends p3.number-n.ensures ⨾ appends p4.puts.ensures).is

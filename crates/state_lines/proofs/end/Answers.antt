@@ -8,11 +8,11 @@ shape_of-t c =
     let p3 = c in
     let p2 = p3 in
     let p1 = p2 in
-    p3.puts.auto.0 ∙ p2.tally-n.auto.0 ∙ p1.puts-n.auto.0
+    p3.puts.auto.t ∙ p2.tally-n.auto.t ∙ p1.puts-n.auto.t
 
 pub returns : goal.returns
 returns c =
     let p3 = c in
     let p2 = p3 in
     let p1 = p2 in
-    (appends p1.puts.ensures ⨾ appends p2.tally.ensures ⨾ appends p3.puts2.ensures).is
+    (appends p1.puts-n.ensures ⨾ appends p2.tally-n.ensures ⨾ appends p3.puts.ensures).is

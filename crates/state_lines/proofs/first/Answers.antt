@@ -17,8 +17,8 @@ shape_of-t c =
     let p3 = p4 in
     let p2 = p3 in
     let p1 = p2 in
-    p11.puts.auto.0 ∙ p10.maybe_double-n-2.auto.0 ∙ p9.maybe_number-n.auto.0 ∙ p8.number-n-4.auto.0 ∙ p7.number-n-3.auto.0
-    ∙ p6.flag-n-2.auto.0 ∙ p5.flag-n.auto.0 ∙ p4.maybe_double-n.auto.0 ∙ p3.number-n-2.auto.0 ∙ p2.number-n.auto.0 ∙ p1.puts-n.auto.0
+    p11.puts.auto.t ∙ p10.maybe_double-n-2.auto.t ∙ p9.maybe_number-n.auto.t ∙ p8.number-n-4.auto.t ∙ p7.number-n-3.auto.t
+    ∙ p6.flag-n-2.auto.t ∙ p5.flag-n.auto.t ∙ p4.maybe_double-n.auto.t ∙ p3.number-n-2.auto.t ∙ p2.number-n.auto.t ∙ p1.puts-n.auto.t
 
 pub returns : goal.returns
 unfolding state_line
@@ -34,6 +34,6 @@ returns c =
     let p3 = p4 in
     let p2 = p3 in
     let p1 = p2 in
-    (appends p1.puts.ensures ⨾ appends p2.number.ensures ⨾ appends p3.number2.ensures ⨾ appends p4.maybe-double.ensures
-    ⨾ appends p5.flag.ensures ⨾ appends p6.flag2.ensures ⨾ appends p7.number3.ensures ⨾ appends p8.number4.ensures
-    ⨾ appends p9.maybe-number.ensures ⨾ appends p10.maybe-double2.ensures ⨾ appends p11.puts2.ensures).is
+    (appends p1.puts-n.ensures ⨾ appends p2.number-n.ensures ⨾ appends p3.number-n-2.ensures ⨾ appends p4.maybe_double-n.ensures
+    ⨾ appends p5.flag-n.ensures ⨾ appends p6.flag-n-2.ensures ⨾ appends p7.number-n-3.ensures ⨾ appends p8.number-n-4.ensures
+    ⨾ appends p9.maybe_number-n.ensures ⨾ appends p10.maybe_double-n-2.ensures ⨾ appends p11.puts.ensures).is

@@ -13,8 +13,8 @@ shape_of-t c =
     let p3 = p4 in
     let p2 = p3 in
     let p1 = p2 in
-    p8.puts.auto.0 ∙ p7.flag-n.auto.0 ∙ p6.double-n-2.auto.0 ∙ p5.number-n-2.auto.0 ∙ p4.double-n.auto.0 ∙ p3.maybe_single-n.auto.0
-    ∙ p2.number-n.auto.0 ∙ p1.puts-n.auto.0
+    p8.puts.auto.t ∙ p7.flag-n.auto.t ∙ p6.double-n-2.auto.t ∙ p5.number-n-2.auto.t ∙ p4.double-n.auto.t ∙ p3.maybe_single-n.auto.t
+    ∙ p2.number-n.auto.t ∙ p1.puts-n.auto.t
 
 pub returns : goal.returns
 returns c =
@@ -26,5 +26,5 @@ returns c =
     let p3 = p4 in
     let p2 = p3 in
     let p1 = p2 in
-    (appends p1.puts.ensures ⨾ appends p2.number.ensures ⨾ appends p3.maybe-single.ensures ⨾ appends p4.double.ensures
-    ⨾ appends p5.number2.ensures ⨾ appends p6.double2.ensures ⨾ appends p7.flag.ensures ⨾ appends p8.puts2.ensures).is
+    (appends p1.puts-n.ensures ⨾ appends p2.number-n.ensures ⨾ appends p3.maybe_single-n.ensures ⨾ appends p4.double-n.ensures
+    ⨾ appends p5.number-n-2.ensures ⨾ appends p6.double-n-2.ensures ⨾ appends p7.flag-n.ensures ⨾ appends p8.puts.ensures).is

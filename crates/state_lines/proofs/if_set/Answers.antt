@@ -7,7 +7,7 @@ use Rattle.state_lines.proofs.if_set.Goals as goal
 pub shape_of-t-then-set : goal.shape_of-t-then-set
 shape_of-t-then-set c =
     let p1 = c in
-    p1.single.auto.0
+    p1.single.auto.t
 
 pub returns-then-set : goal.returns-then-set
 returns-then-set c =

@@ -6,10 +6,10 @@ use Rattle.state_lines.proofs.level.Goals as goal
 pub shape_of-t : goal.shape_of-t
 shape_of-t c =
     let p1 = c in
-    p1.gear_line.auto.0
+    p1.gear_line.auto.t
 
 pub returns : goal.returns
 unfolding gear_of
 returns c =
     let p1 = c in
-    (appends p1.gear-line.ensures).is
+    (appends p1.gear_line.ensures).is

@@ -22,7 +22,7 @@ loop-l-preserved c = let q = c in
     let a = p.args in (
       omega arith,
       each_turn (gear_of a.g) (upto-more p.loop-l.l 17 l.loop-l-test.true) p.loop-l.invariant.1 (appends q.level-n.ensures),
-      q.level-n.auto.0
+      q.level-n.auto.t
           ∙ p.loop-l.invariant.2,
     )
 

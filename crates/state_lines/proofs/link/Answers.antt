@@ -15,8 +15,8 @@ shape_of-t c =
     let p3 = p4 in
     let p2 = p3 in
     let p1 = p2 in
-    p9.puts.auto.0 ∙ p8.flag-n-5.auto.0 ∙ p7.single-n.auto.0 ∙ p6.number-n.auto.0 ∙ p5.flag-n-4.auto.0 ∙ p4.flag-n-3.auto.0
-    ∙ p3.flag-n-2.auto.0 ∙ p2.flag-n.auto.0 ∙ p1.puts-n.auto.0
+    p9.puts.auto.t ∙ p8.flag-n-5.auto.t ∙ p7.single-n.auto.t ∙ p6.number-n.auto.t ∙ p5.flag-n-4.auto.t ∙ p4.flag-n-3.auto.t
+    ∙ p3.flag-n-2.auto.t ∙ p2.flag-n.auto.t ∙ p1.puts-n.auto.t
 
 pub returns : goal.returns
 unfolding link_line
@@ -30,5 +30,5 @@ returns c =
     let p3 = p4 in
     let p2 = p3 in
     let p1 = p2 in
-    (appends p1.puts.ensures ⨾ appends p2.flag.ensures ⨾ appends p3.flag2.ensures ⨾ appends p4.flag3.ensures ⨾ appends p5.flag4.ensures
-    ⨾ appends p6.number.ensures ⨾ appends p7.single.ensures ⨾ appends p8.flag5.ensures ⨾ appends p9.puts2.ensures).is
+    (appends p1.puts-n.ensures ⨾ appends p2.flag-n.ensures ⨾ appends p3.flag-n-2.ensures ⨾ appends p4.flag-n-3.ensures ⨾ appends p5.flag-n-4.ensures
+    ⨾ appends p6.number-n.ensures ⨾ appends p7.single-n.ensures ⨾ appends p8.flag-n-5.ensures ⨾ appends p9.puts.ensures).is

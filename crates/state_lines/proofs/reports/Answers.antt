@@ -9,7 +9,7 @@ shape_of-t c =
     let p3 = c in
     let p2 = p3 in
     let p1 = p2 in
-    p3.if_set.auto.0 ∙ p2.if_set-n-2.auto.0 ∙ p1.if_set-n.auto.0
+    p3.if_set.auto.t ∙ p2.if_set-n-2.auto.t ∙ p1.if_set-n.auto.t
 
 pub returns : goal.returns
 unfolding reports
@@ -17,4 +17,4 @@ returns c =
     let p3 = c in
     let p2 = p3 in
     let p1 = p2 in
-    (appends p1.if-set.ensures ⨾ appends p2.if-set2.ensures ⨾ appends p3.if-set3.ensures).is
+    (appends p1.if_set-n.ensures ⨾ appends p2.if_set-n-2.ensures ⨾ appends p3.if_set.ensures).is

@@ -15,8 +15,8 @@ shape_of-t c =
     let p3 = p4 in
     let p2 = p3 in
     let p1 = p2 in
-    p9.sent.auto.0 ∙ p8.rest-n.auto.0 ∙ p7.held-n.auto.0 ∙ p6.pieces-n.auto.0 ∙ p5.counts-n.auto.0 ∙ p4.levels-n.auto.0
-    ∙ p3.aim-n.auto.0 ∙ p2.link-n.auto.0 ∙ p1.first-n.auto.0
+    p9.sent.auto.t ∙ p8.rest-n.auto.t ∙ p7.held-n.auto.t ∙ p6.pieces-n.auto.t ∙ p5.counts-n.auto.t ∙ p4.levels-n.auto.t
+    ∙ p3.aim-n.auto.t ∙ p2.link-n.auto.t ∙ p1.first-n.auto.t
 
 pub returns : goal.returns
 unfolding state_lines
@@ -30,5 +30,5 @@ returns c =
     let p3 = p4 in
     let p2 = p3 in
     let p1 = p2 in
-    (appends p1.first.ensures ⨾ appends p2.link.ensures ⨾ appends p3.aim.ensures ⨾ appends p4.levels.ensures ⨾ appends p5.counts.ensures
-    ⨾ appends p6.pieces.ensures ⨾ appends p7.held.ensures ⨾ appends p8.rest.ensures ⨾ appends p9.sent.ensures).is
+    (appends p1.first-n.ensures ⨾ appends p2.link-n.ensures ⨾ appends p3.aim-n.ensures ⨾ appends p4.levels-n.ensures ⨾ appends p5.counts-n.ensures
+    ⨾ appends p6.pieces-n.ensures ⨾ appends p7.held-n.ensures ⨾ appends p8.rest-n.ensures ⨾ appends p9.sent.ensures).is

@@ -9,7 +9,7 @@ shape_of-t c =
     let p3 = p4 in
     let p2 = p3 in
     let p1 = p2 in
-    p4.number.auto.0 ∙ p3.number-n-3.auto.0 ∙ p2.number-n-2.auto.0 ∙ p1.number-n.auto.0
+    p4.number.auto.t ∙ p3.number-n-3.auto.t ∙ p2.number-n-2.auto.t ∙ p1.number-n.auto.t
 
 pub returns : goal.returns
 returns c =
@@ -17,4 +17,4 @@ returns c =
     let p3 = p4 in
     let p2 = p3 in
     let p1 = p2 in
-    (appends p1.number.ensures ⨾ appends p2.number2.ensures ⨾ appends p3.number3.ensures ⨾ appends p4.number4.ensures).is
+    (appends p1.number-n.ensures ⨾ appends p2.number-n-2.ensures ⨾ appends p3.number-n-3.ensures ⨾ appends p4.number.ensures).is

@@ -11,7 +11,7 @@ shape_of-t c =
     let p3 = p4 in
     let p2 = p3 in
     let p1 = p2 in
-    p5.puts.auto.0 ∙ p4.held_from-n.auto.0 ∙ p3.number-n-2.auto.0 ∙ p2.number-n.auto.0 ∙ p1.puts-n.auto.0
+    p5.puts.auto.t ∙ p4.held_from-n.auto.t ∙ p3.number-n-2.auto.t ∙ p2.number-n.auto.t ∙ p1.puts-n.auto.t
 
 pub returns : goal.returns
 unfolding held_line
@@ -21,5 +21,5 @@ returns c =
     let p3 = p4 in
     let p2 = p3 in
     let p1 = p2 in
-    (appends p1.puts.ensures ⨾ appends p2.number.ensures ⨾ appends p3.number2.ensures ⨾ appends p4.held-from.ensures
-    ⨾ appends p5.puts2.ensures).is
+    (appends p1.puts-n.ensures ⨾ appends p2.number-n.ensures ⨾ appends p3.number-n-2.ensures ⨾ appends p4.held_from-n.ensures
+    ⨾ appends p5.puts.ensures).is

@@ -37,7 +37,7 @@ loop-i-preserved c = let q = c in
     let p = l in
     let a = p.args in
     let more = held_more a.off.now a.bits.now a.to p.loop-i.i l.loop-i-test.true e.if-i-off.false e.if-i-bits.false in
-    (each_turn held_word more p.loop-i.invariant.0 (appends q.entry-n.ensures), q.entry-n.auto.0 ∙ p.loop-i.invariant.1)
+    (each_turn held_word more p.loop-i.invariant.0 (appends q.entry-n.ensures), q.entry-n.auto.t ∙ p.loop-i.invariant.1)
 
 pub shape_of-t : goal.shape_of-t
 shape_of-t c = c.loop-i.invariant.1

@@ -7,10 +7,10 @@ pub shape_of-t : goal.shape_of-t
 shape_of-t c =
     let p2 = c in
     let p1 = p2 in
-    p2.after_colon.auto.0 ∙ p1.entry-n.auto.0
+    p2.after_colon.auto.t ∙ p1.entry-n.auto.t
 
 pub returns : goal.returns
 returns c =
     let p2 = c in
     let p1 = p2 in
-    (appends p1.entry.ensures ⨾ appends p2.after-colon.ensures).is
+    (appends p1.entry-n.ensures ⨾ appends p2.after_colon.ensures).is

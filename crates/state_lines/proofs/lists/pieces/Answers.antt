@@ -13,7 +13,7 @@ shape_of-t c =
     let p3 = p4 in
     let p2 = p3 in
     let p1 = p2 in
-    p4.puts.auto.0 ∙ p3.rows-n.auto.0 ∙ p2.number-n.auto.0 ∙ p1.puts-n.auto.0
+    p4.puts.auto.t ∙ p3.rows-n.auto.t ∙ p2.number-n.auto.t ∙ p1.puts-n.auto.t
 
 pub returns : goal.returns
 unfolding pieces_line

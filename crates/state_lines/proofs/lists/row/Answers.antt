@@ -5,7 +5,7 @@ use Rattle.text.proofs.Laws.{appends, told}
 use Rattle.state_lines.proofs.lists.row.Goals as goal
 
 pub shape_of-t : goal.shape_of-t
-shape_of-t c = c.entry.auto.0
+shape_of-t c = c.entry.auto.t
 
 pub returns : goal.returns
 returns c = let q = c in

@@ -28,7 +28,7 @@ loop-i-preserved c = let q = c in
       omega arith,
       each_turn piece_word (rows-turn a.area.now p.loop-i.i a.count _ l.loop-i-test.true refl) p.loop-i.invariant.1
           (appends q.row-n.ensures),
-      q.row-n.auto.0
+      q.row-n.auto.t
           ∙ p.loop-i.invariant.2,
     )
 

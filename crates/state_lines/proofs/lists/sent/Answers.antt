@@ -10,7 +10,7 @@ shape_of-t c =
     let p3 = p4 in
     let p2 = p3 in
     let p1 = p2 in
-    p4.puts.auto.0 ∙ p3.sent_frames-n.auto.0 ∙ p2.number-n.auto.0 ∙ p1.puts-n.auto.0
+    p4.puts.auto.t ∙ p3.sent_frames-n.auto.t ∙ p2.number-n.auto.t ∙ p1.puts-n.auto.t
 
 pub returns : goal.returns
 unfolding sent_line
@@ -19,4 +19,4 @@ returns c =
     let p3 = p4 in
     let p2 = p3 in
     let p1 = p2 in
-    (appends p1.puts.ensures ⨾ appends p2.number.ensures ⨾ appends p3.sent-frames.ensures ⨾ appends p4.puts2.ensures).is
+    (appends p1.puts-n.ensures ⨾ appends p2.number-n.ensures ⨾ appends p3.sent_frames-n.ensures ⨾ appends p4.puts.ensures).is

@@ -46,7 +46,7 @@ loop-i-preserved c = let q = c in
     let a = p.args in
     let more = sent-more a.off.now a.bits.now a.held.now a.to p.loop-i.i l.loop-i-test.true
     e.if-i-off.false e.if-i-bits.false e.if-i-held.false in
-    (each_turn sent_word more p.loop-i.invariant.0 (appends q.long_entry-n.ensures), q.long_entry-n.auto.0 ∙ p.loop-i.invariant.1)
+    (each_turn sent_word more p.loop-i.invariant.0 (appends q.long_entry-n.ensures), q.long_entry-n.auto.t ∙ p.loop-i.invariant.1)
 
 pub shape_of-t : goal.shape_of-t
 shape_of-t c = c.loop-i.invariant.1

@@ -15,7 +15,7 @@ shape_of-t c =
     let p3 = p4 in
     let p2 = p3 in
     let p1 = p2 in
-    p6.puts.auto.0 ∙ p5.rows-n.auto.0 ∙ p4.number-n-2.auto.0 ∙ p3.flag-n.auto.0 ∙ p2.number-n.auto.0 ∙ p1.puts-n.auto.0
+    p6.puts.auto.t ∙ p5.rows-n.auto.t ∙ p4.number-n-2.auto.t ∙ p3.flag-n.auto.t ∙ p2.number-n.auto.t ∙ p1.puts-n.auto.t
 
 pub returns : goal.returns
 unfolding messages_line

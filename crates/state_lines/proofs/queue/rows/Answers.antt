@@ -24,7 +24,7 @@ loop-i-preserved c = let q = c in
     let a = p.args in (
       omega arith,
       each_turn message_word (entries-step a.m p.loop-i.i a.count l.loop-i-test.true) p.loop-i.invariant.1 (appends q.row-n.ensures),
-      q.row-n.auto.0
+      q.row-n.auto.t
           ∙ p.loop-i.invariant.2,
     )
 
