@@ -2,7 +2,6 @@
 use Rattle.std.specs.Prelude.{List, map, ℕ, ◌+◌, ◌-◌, ◌*◌, length}
 use Rattle.harq.specs.Held.{start_of}
 use Rattle.harq.specs.declared.Harq.{Harq}
-use Rattle.ledger.specs.Plan.{parity}
 use Rattle.frames.specs.declared.slots.Slot.{Slot}
 use Rattle.plan.specs.declared.Planned.{Planned}
 use Rattle.outgoing.specs.declared.Frames.{Frames}

@@ -1,7 +1,7 @@
 -- THE NUMBER THAT COMES BACK is that of the first reason that holds in the call's table (specs/Reasons.antt), and 0 where none does: both ways, the papers' order.
 -- Assumes nothing.
 use mathlib.Core.Path.{◌≡◌, refl, sym, ap, subst, ◌∙◌}
-use mathlib.Core.Logic.{◌⊎◌, inl, inr}
+use mathlib.Core.Logic.{inl, inr}
 use mathlib.Core.List.{List, [], ◌∷◌, ◌++◌}
 use mathlib.Core.Bool.{Bool, true, false, cond, not, ◌&&◌, ◌||◌, false≢true}
 use Prim.Native.Nat.{ℕ, suc, ◌+◌, ◌-◌, ◌*◌, ◌≤◌}
@@ -21,7 +21,7 @@ use Rattle.refusals.specs.declared.Verdict.{Verdict}
 use Rattle.refusals.specs.declared.Verdict.TheVariants.{Accepted, ProfileOutOfRange, ShortOverLong, Unsound, OutOfTurn, BadTime, BadValue, ShortPayload, QueueFull, AllTaken, ShortOutput, BadClass, TooManyMessages, TooManyFrames}
 use Rattle.refusals.specs.declared.Reply.{Reply}
 use Rattle.refusals.specs.Refusals.{number_of, kind_of, max_received, time_ok, heard_ok, reply_ok}
-use Rattle.verdicts.specs.Verdicts.{taken_by, station_ok, first_of, passed, standing, reply_verdict, hearing_verdict, frames_standing, room_verdict, output_verdict, queue_verdict, receive_verdict, frames_verdict, burst_verdict}
+use Rattle.verdicts.specs.Verdicts.{taken_by, station_ok, first_of, standing, reply_verdict, hearing_verdict, frames_standing, room_verdict, output_verdict, queue_verdict, receive_verdict, frames_verdict, burst_verdict}
 use Rattle.verdicts.specs.Reasons.{Reason, First, standing_reasons, lookup_reasons, queue_reasons, reply_reasons, frames_reasons, burst_reasons}
 use Rattle.limits.specs.Limits.{max_slots, max_waiting, max_taken, max_class, max_messages}
 

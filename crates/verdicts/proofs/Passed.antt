@@ -25,7 +25,7 @@ use Rattle.messages.specs.Messages.{Entry, messages_ok, withdrawn_in}
 use Rattle.queuing.specs.declared.Station.{Station}
 use Rattle.replies.specs.declared.Heard.{Heard}
 use Rattle.refusals.specs.declared.Verdict.{Verdict}
-use Rattle.refusals.specs.declared.Verdict.TheVariants.{Accepted, AllTaken, BadClass, BadTime, BadValue, OutOfTurn, ProfileOutOfRange, QueueFull, ShortOutput, ShortOverLong, ShortPayload, TooManyFrames, TooManyMessages, Unsound}
+use Rattle.refusals.specs.declared.Verdict.TheVariants.{Accepted, AllTaken, BadClass, BadTime, BadValue, ProfileOutOfRange, QueueFull, ShortOutput, ShortOverLong, TooManyFrames, TooManyMessages, Unsound}
 use Rattle.refusals.specs.declared.Reply.{Reply}
 use Rattle.refusals.specs.Refusals.{number_of, kind_of, max_received, time_ok, heard_ok, reply_ok}
 use Rattle.verdicts.specs.Verdicts.{taken_by, station_ok, passed, first_of, standing, room_verdict, reply_verdict, hearing_verdict, frames_standing, output_verdict, queue_verdict, receive_verdict, frames_verdict, burst_verdict}

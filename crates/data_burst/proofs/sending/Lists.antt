@@ -1,18 +1,17 @@
 -- Lists of rows, held pieces and slots, as a burst has them.
 -- Assumes nothing.
 use mathlib.Core.Path.{◌≡◌, refl, sym, ap, ap₂}
-use mathlib.Core.List.{List, [], ◌∷◌, ◌++◌, map}
+use mathlib.Core.List.{List, [], ◌∷◌, ◌++◌}
 use mathlib.Core.Bool.{Bool, true, false, cond, ◌&&◌}
-use Prim.Native.Nat.{ℕ, zero, suc, ◌+◌, ◌-◌, ◌*◌, ◌≤◌, ◌<◌}
+use Prim.Native.Nat.{ℕ, zero, suc, ◌+◌, ◌-◌, ◌≤◌, ◌<◌}
 use native.Mathlib.Omega.{arith}
 use lib.Dec.{eqb}
-use lib.ListN.{length, take, drop, get_or, length-append}
+use lib.ListN.{length, take, drop, get_or}
 use borrow.Author.Tests.{eqb-true}
-use Rattle.laws.specs.Bytes.{overwrite, part}
-use Rattle.laws.proofs.Bytes.{part-before, length_part}
+use Rattle.laws.specs.Bytes.{overwrite}
+use Rattle.laws.proofs.Bytes.{part-before}
 use Rattle.laws.proofs.Picks.{by, by₂}
 use Rattle.frame.specs.Frame.{frame_of}
-use Rattle.frame.proofs.Laws.{length-frame}
 use Rattle.ledger.specs.Ledger.{Held}
 use Rattle.ledger.specs.Sound.{HeldBits}
 use Rattle.area.specs.Table.{total}

@@ -1,4 +1,4 @@
-use mathlib.Core.Bool.{Bool, true, ◌&&◌}
+use mathlib.Core.Bool.{Bool, ◌&&◌}
 use mathlib.Core.List.{List}
 use mathlib.Core.Path.{◌≡◌, sym, ap, ap₂, ◌∙◌}
 use Prim.Native.Nat.{ℕ}
@@ -10,9 +10,8 @@ use Rattle.harq.specs.Held.{h_max}
 use Rattle.frame.specs.Frame.{max_payload}
 use Rattle.area.specs.Layout.{area_bytes}
 use Rattle.area.specs.declared.table.Row.{Row}
-use Rattle.area.specs.Table.{rows_from}
-use Rattle.area_check.specs.Rows.{table_ok, row_offs}
-use Rattle.soundness.specs.Soundness.{counts_ok, lists_ok, sound_ok}
+use Rattle.area_check.specs.Rows.{table_ok}
+use Rattle.soundness.specs.Soundness.{lists_ok, sound_ok}
 use Rattle.config.specs.declared.Profile.{Profile}
 use Rattle.record.specs.declared.Sender.{Sender}
 use Rattle.soundness.proofs.fields.Counts.{pieces-within}

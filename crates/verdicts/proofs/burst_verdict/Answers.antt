@@ -1,6 +1,5 @@
 -- `verdicts::burst_verdict` meets its contract.
-use mathlib.Core.Bool.{true}
-use mathlib.Core.Path.{◌≡◌, refl}
+use mathlib.Core.Path.{refl}
 use borrow.Author.Tests.{lt-ltb, le-ltb}
 use Rattle.laws.proofs.Picks.{cond_yes, cond_no}
 use Rattle.verdicts.specs.Verdicts.{passed, output_verdict}

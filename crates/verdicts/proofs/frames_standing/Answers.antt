@@ -1,11 +1,10 @@
 -- `verdicts::frames_standing` meets its contract.
 use mathlib.Core.Bool.{◌&&◌}
-use mathlib.Core.Path.{◌≡◌, refl, sym, ap, ◌∙◌}
+use mathlib.Core.Path.{refl, sym, ap, ◌∙◌}
 use Prim.Native.Nat.{ℕ}
 use lib.Dec.{leb, ltb}
 use borrow.Author.Tests.{lt-ltb, le-ltb}
 use Rattle.laws.proofs.Picks.{cond_yes, cond_no}
-use Rattle.refusals.specs.Refusals.{number_of}
 use Rattle.verdicts.specs.Verdicts.{frames_standing}
 use Rattle.verdicts.proofs.frames_standing.Goals as goal
 

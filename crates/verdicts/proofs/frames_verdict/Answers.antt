@@ -1,10 +1,8 @@
 -- `verdicts::frames_verdict` meets its contract.
-use mathlib.Core.Bool.{true, false, not}
-use mathlib.Core.Path.{◌≡◌, refl, sym, ap, ◌∙◌}
+use mathlib.Core.Bool.{not}
+use mathlib.Core.Path.{refl, sym, ap, ◌∙◌}
 use Rattle.laws.proofs.Picks.{cond_yes, cond_no}
-use Rattle.refusals.specs.Refusals.{time_ok, heard_ok}
-use Rattle.refusals.specs.declared.Verdict.{Verdict}
-use Rattle.verdicts.specs.Verdicts.{passed, frames_standing, hearing_verdict}
+use Rattle.verdicts.specs.Verdicts.{hearing_verdict}
 use Rattle.verdicts.proofs.Passed.{is-passed, not-passed}
 use Rattle.verdicts.proofs.frames_verdict.Goals as goal
 

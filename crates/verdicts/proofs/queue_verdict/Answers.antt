@@ -1,15 +1,13 @@
 -- `verdicts::queue_verdict` meets its contract.
-use mathlib.Core.Bool.{true, false, ◌&&◌}
-use mathlib.Core.Path.{◌≡◌, refl, sym, ap, subst, ◌∙◌}
+use mathlib.Core.Bool.{◌&&◌}
+use mathlib.Core.Path.{refl, sym, ap, subst, ◌∙◌}
 use Prim.Native.Nat.{◌-◌, ◌≤◌}
 use native.Mathlib.Omega.{arith}
 use lib.Dec.{ltb, leb}
-use lib.ListN.{length}
 use borrow.Author.Tests.{eq-eqb, ne_eqb, lt-ltb, le-ltb}
 use Rattle.laws.proofs.Picks.{cond_yes, cond_no}
-use Rattle.limits.specs.Limits.{max_class, max_messages}
+use Rattle.limits.specs.Limits.{max_messages}
 use Rattle.area.specs.Room.{queue_refusal}
-use Rattle.messages.specs.Messages.{total_left, withdrawn_in}
 use Rattle.messages.specs.declared.Withdrawal.{Withdrawal}
 use Rattle.messages.proofs.Kept.{gone-within}
 use Rattle.verdicts.specs.Verdicts.{passed, taken_by, room_verdict}

@@ -1,10 +1,9 @@
 -- `verdicts::receive_verdict` meets its contract.
-use mathlib.Core.Bool.{Bool, true, false, not, ◌&&◌}
-use mathlib.Core.Path.{◌≡◌, refl, sym, ap, ap₂, ◌∙◌}
+use mathlib.Core.Bool.{Bool, not, ◌&&◌}
+use mathlib.Core.Path.{refl, sym, ap, ap₂, ◌∙◌}
 use Prim.Native.Nat.{ℕ}
 use lib.Dec.{eqb, ltb}
 use Rattle.laws.proofs.Picks.{cond_yes, cond_no}
-use Rattle.refusals.specs.Refusals.{kind_of, time_ok, heard_ok, reply_ok}
 use Rattle.verdicts.specs.Verdicts.{passed, reply_verdict}
 use Rattle.verdicts.proofs.Passed.{is-passed, not-passed}
 use Rattle.verdicts.proofs.receive_verdict.Goals as goal

@@ -1,11 +1,7 @@
 -- `data_burst::burst::data_burst` meets its contract.
-use Prim.Native.Nat.{ℕ, ◌≤◌}
 use native.Mathlib.Omega.{arith}
-use lib.ListN.{length}
-use borrow.Author.Rules.{length_unmapped}
 use Rattle.record.proofs.View.{Arrays}
 use Rattle.data_burst.proofs.burst.Sends.{frame-least, ready, number_lt, slot-le, slots-few, slots-within, stored-few, parity-few, done}
-use Rattle.limits.specs.Limits.{max_slots}
 use Rattle.data_burst.proofs.burst.data_burst.Goals as goal
 
 pub max_payload-payload-requires : goal.max_payload-payload-requires

@@ -1,5 +1,4 @@
 -- `data_burst::sending::cut` meets its contract.
-use borrow.Author.Tests.{not-true, not-false}
 use Rattle.data_burst.proofs.sending.Laws.{cut_short, cut-merged, cut-none}
 use mathlib.Core.Path.{◌∙◌}
 use native.Mathlib.Omega.{arith}

@@ -1,13 +1,10 @@
 -- `data_burst::sending::go` meets its contract.
-use lib.ListN.{length, take, length-take}
+use lib.ListN.{length, length-take}
 use lib.Seq.{length-take-le}
-use borrow.Author.Rules.{length_unmapped}
 use Rattle.area.proofs.removal.Laws.{length-hashes, hashed-by}
 use Rattle.data_burst.proofs.sending.Laws.{parity-few, held_fits, pick-able, shows, bytes-few, done}
-use Prim.Native.Nat.{ℕ, ◌-◌, ◌≤◌}
-use mathlib.Core.Path.{◌≡◌, refl, sym, ap, ◌∙◌}
+use mathlib.Core.Path.{refl, sym, ap, ◌∙◌}
 use native.Mathlib.Omega.{arith}
-use Rattle.limits.specs.Limits.{max_slots}
 use Rattle.data_burst.proofs.sending.go.Goals as goal
 
 pub slice_bounds-bits-end : goal.slice_bounds-bits-end

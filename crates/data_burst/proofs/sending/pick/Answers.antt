@@ -1,13 +1,11 @@
 -- `data_burst::sending::pick` meets its contract.
-use lib.ListN.{length, take}
 use lib.Seq.{length-take-le, get_or-take}
-use borrow.Author.Rules.{length_unmapped}
 use Rattle.frames.specs.Slots.{push_all}
 use Rattle.frames.specs.declared.slots.Slots.{Slots}
-use Rattle.data_burst.specs.Rows.{slots_in, incs}
+use Rattle.data_burst.specs.Rows.{incs}
 use Rattle.data_burst.proofs.sending.Laws.{first-few, then-more, old-few, pick_is}
-use Prim.Native.Nat.{ℕ, ◌-◌, ◌≤◌, ◌<◌}
-use mathlib.Core.Path.{◌≡◌, refl, sym, ap, ◌∙◌}
+use Prim.Native.Nat.{◌<◌}
+use mathlib.Core.Path.{refl, sym, ap, ◌∙◌}
 use native.Mathlib.Omega.{arith}
 use Rattle.data_burst.proofs.sending.pick.Goals as goal
 

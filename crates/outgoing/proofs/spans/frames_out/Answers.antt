@@ -1,6 +1,5 @@
 -- `outgoing::spans::frames_out` meets its contract.
 use mathlib.Core.Path.{refl, sym, ◌∙◌}
-use Prim.Native.Nat.{◌-◌}
 use native.Mathlib.Nat.{sub-zero}
 use native.Mathlib.Omega.{arith}
 use Rattle.outgoing.proofs.Laws.{slots_length}

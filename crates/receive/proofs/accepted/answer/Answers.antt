@@ -1,15 +1,11 @@
 -- `receive::accepted::answer` meets its contract.
 use mathlib.Core.Path.{sym, ap, ◌∙◌}
-use mathlib.Core.List.{List}
-use Prim.Native.Nat.{ℕ}
 use native.Mathlib.Omega.{arith}
 use Rattle.record.specs.declared.Sender.{Sender}
 use Rattle.refusals.specs.declared.Reply.{Reply}
 use Rattle.receive.specs.Accepted.{accepted_reply}
-use borrow.Author.Rules.{length_unmapped}
 use Rattle.record.proofs.View.{Arrays}
 use Rattle.receive.proofs.turns.Turned.{turned-is}
-use Rattle.limits.specs.Limits.{max_slots}
 use Rattle.receive.proofs.accepted.answer.Goals as goal
 
 pub hear_turn-requires : goal.hear_turn-requires

@@ -1,9 +1,6 @@
 -- `receive::accepted::hear_payload` meets its contract.
-use mathlib.Core.Path.{sym, ap, ◌∙◌}
-use mathlib.Core.List.{List}
-use Prim.Native.Nat.{ℕ}
+use mathlib.Core.Path.{ap, ◌∙◌}
 use Rattle.report.specs.declared.ack.AckRead.{AckRead}
-use Rattle.record.specs.declared.Sender.{Sender}
 use Rattle.receive.specs.Accepted.{long_read}
 use Rattle.receive.proofs.accepted.hear_payload.Goals as goal
 

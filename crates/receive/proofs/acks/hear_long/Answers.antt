@@ -1,13 +1,10 @@
 -- `receive::acks::hear_long` meets its contract.
 use mathlib.Core.Path.{ap}
-use Prim.Native.Nat.{ℕ}
 use native.Mathlib.Omega.{arith}
 use Rattle.gear.specs.declared.Gear.{Gear}
-use borrow.Author.Rules.{length_unmapped}
 use borrow.Author.Tests.{not-true, not-false}
 use Rattle.record.proofs.View.{Arrays}
 use Rattle.receive.proofs.acks.Replied.{settling, long-awaited, long-unasked}
-use Rattle.limits.specs.Limits.{max_slots}
 use Rattle.receive.proofs.acks.hear_long.Goals as goal
 
 pub returns-then-not-k : goal.returns-then-not-k

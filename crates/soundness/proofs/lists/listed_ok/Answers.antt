@@ -7,8 +7,7 @@ use native.Mathlib.Omega.{arith}
 use lib.ListN.{take, drop}
 use lib.Seq.{length-take-le, take-nil}
 use Rattle.laws.specs.Tests.{all}
-use Rattle.area.specs.Table.{rows_from}
-use Rattle.area_check.specs.Rows.{row_offs, all_flying, held_bits_ok, none_listed}
+use Rattle.area_check.specs.Rows.{none_listed}
 use Rattle.soundness.specs.Soundness.{lists_ok}
 use Rattle.soundness.proofs.fields.Counts.{held-few, rest-few, sent-few, pieces-within}
 use Rattle.soundness.proofs.lists.listed_ok.Goals as goal
