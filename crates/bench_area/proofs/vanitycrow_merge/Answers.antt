@@ -1,7 +1,7 @@
 -- `bench_area::vanitycrow_merge` meets its contract.
 use Rattle.area.specs.Removal.{Hashed}
 use Rattle.area.proofs.removal.Laws.{hashed-all}
-use Prim.Native.Nat.{ℕ, ◌-◌}
+use Prim.Native.Nat.{ℕ}
 use mathlib.Core.Path.{sym, subst}
 use mathlib.Core.List.{List}
 use lib.ListN.{length-replicate}

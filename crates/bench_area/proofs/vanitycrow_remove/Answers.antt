@@ -2,7 +2,7 @@
 use Rattle.area.specs.Removal.{Hashed}
 use Rattle.area.specs.declared.removal.Kept.{Kept}
 use Rattle.area.proofs.removal.Laws.{hashed-all}
-use Prim.Native.Nat.{ℕ, ◌-◌}
+use Prim.Native.Nat.{ℕ}
 use mathlib.Core.Path.{sym, subst, ap}
 use mathlib.Core.List.{List}
 use lib.ListN.{length-replicate}

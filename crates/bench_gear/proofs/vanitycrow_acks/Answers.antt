@@ -1,5 +1,5 @@
 -- `vanitycrow_acks` meets its contract. The loop's invariant: i acks are judged.
-use Prim.Native.Nat.{ℕ, ◌-◌, ◌≤◌}
+use Prim.Native.Nat.{ℕ, ◌≤◌}
 use mathlib.Core.Path.{◌≡◌, refl, subst, sym, ap, ◌∙◌}
 use native.Mathlib.Omega.{arith}
 use lib.Ieee.{Float}
@@ -29,9 +29,9 @@ loop-i-init c = let e = c.tried-g.ensures in (omega arith, e ∙ steps-none _ _,
 
 pub on_ack-g-requires : goal.on_ack-g-requires
 on_ack-g-requires c = let i = c.loop-i.invariant in record {
-      fact_1 = omega (arith, i.2);
-      fact_2 = subst Ranged (sym i.3) (ranged new_profile default-in-range);
-    }
+  fact_1 = omega (arith, i.2);
+  fact_2 = subst Ranged (sym i.3) (ranged new_profile default-in-range);
+}
 
 pub loop-i-preserved : goal.loop-i-preserved
 loop-i-preserved c = let i = c.loop-i.invariant in let e = next-is _ _ _ _ c.loop-i.i _ _ i.3 i.4 c.on_ack-g.ensures in (omega arith, steps-more _ _ _ _ _ i.1 e, next_low _ _ c.loop-i.i _ _ i.2 e, i.3, i.4)

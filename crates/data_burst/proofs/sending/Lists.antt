@@ -6,7 +6,7 @@ use mathlib.Core.Bool.{Bool, true, false, cond, ◌&&◌}
 use Prim.Native.Nat.{ℕ, zero, suc, ◌+◌, ◌-◌, ◌*◌, ◌≤◌, ◌<◌}
 use native.Mathlib.Omega.{arith}
 use lib.Dec.{eqb}
-use lib.ListN.{length, drop, get_or, length-append}
+use lib.ListN.{length, take, drop, get_or, length-append}
 use borrow.Author.Tests.{eqb-true}
 use Rattle.laws.specs.Bytes.{overwrite, part}
 use Rattle.laws.proofs.Bytes.{part-before, length_part}
@@ -38,7 +38,7 @@ unfolding split_rows
 split-same m k n [] st t a = refl
 split-same m k n (r ∷ rs) st t a =
     let e = head-length r rs st t in
-    ap₂ (λ (xs ys : List Row). xs ++ ys) (cut-end m r.off r.len (omega (arith, e.0, a.2))) (split-same m _ n rs (drop r.len st) e.1 a.3)
+    ap₂ (λ (xs ys : List Row). xs ++ ys) (cut-end m r.off r.len (omega (arith, e.0, a.2))) (split-same m (r.off + length (take r.len st)) n rs (drop r.len st) e.1 a.3)
 
 -- cut and then merged
 pub cut-recut : (long merging : Bool) (m : ℕ) (os : List ℕ) (rs : List Row) → (long ≡ true → split_rows m rs ≡ rs)

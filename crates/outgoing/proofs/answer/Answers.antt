@@ -1,20 +1,19 @@
-use Prim.Native.Nat.{◌<◌}
+use Prim.Native.Nat.{ℕ, ◌<◌}
+use mathlib.Core.Path.{◌≡◌}
+use Rattle.harq.specs.Held.{burst_check_bits}
 use native.Mathlib.Omega.{arith}
 use Rattle.outgoing.specs.Outgoing.{headed}
 use Rattle.outgoing.proofs.Laws.{check-lt}
-use Rattle.outgoing.proofs.answer.Lts as lts
-use Rattle.outgoing.proofs.answer.Tie as tie
-use Rattle.outgoing.proofs.answer.Reads as reads
 use Rattle.outgoing.proofs.answer.Goals as goal
 
-check : (d : lts.After-burst_check_bits tie.the-claims reads.Pre reads.Post) → d.burst_check_bits-check.result < 4
-check d = rw d.burst_check_bits-check.ensures (check-lt _ _)
+check : (n s f : ℕ) → n ≡ burst_check_bits s f → n < 4
+check n s f e = rw e (check-lt s f)
 
 pub overflow_mul-check : goal.overflow_mul-check
-overflow_mul-check c = omega (arith, check c.before)
+overflow_mul-check c = omega (arith, check _ _ _ c.burst_check_bits-check.ensures)
 
 pub overflow_add-number : goal.overflow_add-number
-overflow_add-number c = omega (arith, check c.before, c.requires.1)
+overflow_add-number c = omega (arith, check _ _ _ c.burst_check_bits-check.ensures, c.requires.1)
 
 pub returns : goal.returns
 unfolding headed

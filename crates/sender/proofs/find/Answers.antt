@@ -8,29 +8,27 @@ use Rattle.verdicts.specs.Verdicts.{passed, standing}
 use Rattle.sender.specs.Calls.{nowhere, find_of}
 use Rattle.verdicts.proofs.Passed.{is-passed, not-passed, standing-three, sound-rows}
 use Rattle.sender.proofs.Numbers.{find-numbered}
-use Rattle.sender.proofs.find.Lts as lts
-use Rattle.sender.proofs.find.Tie as tie
-use Rattle.sender.proofs.find.Reads as reads
 use Rattle.sender.proofs.find.Goals as goal
-
-stands : (c : lts.Else1 tie.the-claims reads.Pre reads.Post) → let s = c.before.before.before.before in passed (standing s.args.p s.args.t s.args.a.now false) ≡ true
-stands c = is-passed _ _ _ c.standing.ensures c.number-refusal.ensures c.if-refusal-ne0.false
 
 pub returns-then-refusal-ne0 : goal.returns-then-refusal-ne0
 unfolding find_of
 returns-then-refusal-ne0 c =
     let e = c.standing.ensures in
     find-numbered (record { verdict = c.standing.result; found = nowhere }) _ _
-    (cond_no _ _ _ _ (not-passed _ _ _ e c.number-refusal.ensures c.if-refusal-ne0.true) (ap (λ (v : Verdict). record { verdict = v; found = nowhere }) e))
+    (cond_no _ _ _ _ (not-passed _ _ _ e c.number-refusal.ensures c.if-refusal-ne0.true)
+    (ap (λ (v : Verdict). record { verdict = v; found = nowhere }) e))
     c.number-refusal.ensures
 
 pub find-f-requires : goal.find-f-requires
-find-f-requires c = let s = c in let r = sound-rows s.args.p s.args.t.sender s.args.a.now (standing-three s.args.p s.args.t s.args.a.now false (stands c.before)).2 in (r.0, r.1)
+find-f-requires c =
+    let r = sound-rows c.args.p c.args.t.sender c.args.a.now
+    (standing-three c.args.p c.args.t c.args.a.now false
+    (is-passed _ _ _ c.standing.ensures c.number-refusal.ensures c.if-refusal-ne0.false)).2 in (r.0, r.1)
 
 pub returns : goal.returns
 unfolding find_of
 returns c =
-    let e = c in
-    find-numbered (record { verdict = e.standing.result; found = c.find-f.result }) _ _
-    (cond_yes _ _ _ _ (stands c.before.before) (ap₂ (λ (v : Verdict) (f : Found). record { verdict = v; found = f }) e.standing.ensures c.find-f.ensures))
+    find-numbered (record { verdict = c.standing.result; found = c.find-f.result }) _ _
+    (cond_yes _ _ _ _ (is-passed _ _ _ c.standing.ensures c.number-refusal.ensures c.if-refusal-ne0.false)
+    (ap₂ (λ (v : Verdict) (f : Found). record { verdict = v; found = f }) c.standing.ensures c.find-f.ensures))
     c.number-refusal.ensures

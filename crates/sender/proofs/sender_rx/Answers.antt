@@ -7,13 +7,7 @@ use Rattle.sender.specs.Calls.{receive_of}
 use Rattle.sender.specs.Numbered.{answer_number}
 use Rattle.sender.specs.declared.Left.{Left}
 use Rattle.sender.proofs.Accepted.{connect-alone, short-alone, turn_alone}
-use Rattle.sender.proofs.sender_rx.Lts as lts
-use Rattle.sender.proofs.sender_rx.Tie as tie
-use Rattle.sender.proofs.sender_rx.Reads as reads
 use Rattle.sender.proofs.sender_rx.Goals as goal
-
-abbrev reply : lts.Start tie.the-claims reads.Pre reads.Post → Reply → Left × List ℕ
-reply s r = answer_number (receive_of s.args.p s.args.t s.args.a.now s.args.h r s.args.payload.now)
 
 pub connect-requires : goal.connect-requires
 connect-requires c = tt
@@ -29,24 +23,20 @@ turn-requires c = tt
 
 pub returns-in-ConnAck : goal.returns-in-ConnAck
 returns-in-ConnAck c =
-    let s = c in
-    c.connect.ensures ∙ ap answer_number (connect-alone s.args.p s.args.t s.args.a.now s.args.h s.args.payload.now _)
-    ∙ sym (ap (reply c.before.before.before.before.before.before.before.before.before.before) c.r-1.given.1)
+    c.connect.ensures ∙ ap answer_number (connect-alone c.args.p c.args.t c.args.a.now c.args.h c.args.payload.now _)
+    ∙ sym (ap (λ (r : Reply). answer_number (receive_of c.args.p c.args.t c.args.a.now c.args.h r c.args.payload.now)) c.in-ConnAck.is)
 
 pub returns-in-Ack : goal.returns-in-Ack
 returns-in-Ack c =
-    let s = c in
-    c.short_ack.ensures ∙ ap answer_number (short-alone s.args.p s.args.t s.args.a.now s.args.h s.args.payload.now _)
-    ∙ sym (ap (reply c.before.before.before.before.before.before.before.before.before.before) c.r-in-Ack-1.given.1)
+    c.short_ack.ensures ∙ ap answer_number (short-alone c.args.p c.args.t c.args.a.now c.args.h c.args.payload.now _)
+    ∙ sym (ap (λ (r : Reply). answer_number (receive_of c.args.p c.args.t c.args.a.now c.args.h r c.args.payload.now)) c.in-Ack.is)
 
 pub returns-in-LongAck : goal.returns-in-LongAck
 returns-in-LongAck c =
-    let s = c in
     c.long_ack.ensures
-    ∙ sym (ap (reply c.before.before.before.before.before.before.before.before.before.before) c.r-in-LongAck-1.given.1)
+    ∙ sym (ap (λ (r : Reply). answer_number (receive_of c.args.p c.args.t c.args.a.now c.args.h r c.args.payload.now)) c.in-LongAck.is)
 
 pub returns-in-Turn : goal.returns-in-Turn
 returns-in-Turn c =
-    let s = c in
-    c.turn.ensures ∙ ap answer_number (turn_alone s.args.p s.args.t s.args.a.now s.args.h s.args.payload.now _)
-    ∙ sym (ap (reply c.before.before.before.before.before.before.before.before.before.before) c.r-in-Turn-1.given.1)
+    c.turn.ensures ∙ ap answer_number (turn_alone c.args.p c.args.t c.args.a.now c.args.h c.args.payload.now _)
+    ∙ sym (ap (λ (r : Reply). answer_number (receive_of c.args.p c.args.t c.args.a.now c.args.h r c.args.payload.now)) c.in-Turn.is)

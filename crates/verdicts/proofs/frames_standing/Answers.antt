@@ -7,23 +7,20 @@ use borrow.Author.Tests.{lt-ltb, le-ltb}
 use Rattle.laws.proofs.Picks.{cond_yes, cond_no}
 use Rattle.refusals.specs.Refusals.{number_of}
 use Rattle.verdicts.specs.Verdicts.{frames_standing}
-use Rattle.verdicts.proofs.frames_standing.Lts as lts
-use Rattle.verdicts.proofs.frames_standing.Tie as tie
-use Rattle.verdicts.proofs.frames_standing.Reads as reads
 use Rattle.verdicts.proofs.frames_standing.Goals as goal
-
--- what the first test reads
-tested : (c : lts.After-number tie.the-claims reads.Pre reads.Post) → (ltb 0 c.number-k.result && leb c.number-k.result 3) ≡ (ltb 0 (number_of c.args.v) && leb (number_of c.args.v) 3)
-tested c = ap (λ (k : ℕ). ltb 0 k && leb k 3) c.number-k.ensures
 
 pub returns-then-k : goal.returns-then-k
 unfolding frames_standing
-returns-then-k c = cond_yes _ _ _ _ (sym (tested c.before.before) ∙ c.if-k.true) refl
+returns-then-k c = cond_yes _ _ _ _ (sym (ap (λ (k : ℕ). ltb 0 k && leb k 3) c.number-k.ensures) ∙ c.if-k.true) refl
 
 pub returns-then-n-gt-MAX_RECEIVED : goal.returns-then-n-gt-MAX_RECEIVED
 unfolding frames_standing
-returns-then-n-gt-MAX_RECEIVED c = cond_no _ _ _ _ (sym (tested c.before.before.before) ∙ c.if-k.false) (cond_yes _ _ _ _ (lt-ltb _ _ c.if-n-gt-MAX_RECEIVED.true) refl)
+returns-then-n-gt-MAX_RECEIVED c =
+    cond_no _ _ _ _ (sym (ap (λ (k : ℕ). ltb 0 k && leb k 3) c.number-k.ensures) ∙ c.if-k.false)
+    (cond_yes _ _ _ _ (lt-ltb _ _ c.if-n-gt-MAX_RECEIVED.true) refl)
 
 pub returns : goal.returns
 unfolding frames_standing
-returns c = cond_no _ _ _ _ (sym (tested c.before.before.before) ∙ c.if-k.false) (cond_no _ _ _ _ (le-ltb _ _ c.if-n-gt-MAX_RECEIVED.false) refl)
+returns c =
+    cond_no _ _ _ _ (sym (ap (λ (k : ℕ). ltb 0 k && leb k 3) c.number-k.ensures) ∙ c.if-k.false)
+    (cond_no _ _ _ _ (le-ltb _ _ c.if-n-gt-MAX_RECEIVED.false) refl)

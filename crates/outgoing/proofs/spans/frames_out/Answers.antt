@@ -19,7 +19,7 @@ pub loop-i-preserved : goal.loop-i-preserved
 loop-i-preserved c =
     let d = c in
     let p = d in
-    let s = p.args.t2 in
+    let s = p.args.s in
     let h = d.loop-i-test.true in
     let i = p.loop-i.i in (
       omega arith,
@@ -33,7 +33,7 @@ pub returns : goal.returns
 unfolding slot_frames
 returns c =
     let p = c in
-    let s = p.args.t2 in
+    let s = p.args.s in
     let h = c.loop-i-test.false in
     let i = p.loop-i.i in
     let o = sym (p.loop-i.invariant.1 ∙ stored-end off_of s s.n i p.loop-i.off h) in

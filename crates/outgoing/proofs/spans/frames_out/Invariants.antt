@@ -14,13 +14,13 @@ abbrev pub Same : (Slot → ℕ) → Slots → List ℕ → ℕ → List ℕ →
 Same f s l₀ i l = overwrite l₀ 0 (map f (slots_from s 0 s.n)) ≡ overwrite l i (map f (slots_from s i (s.n - i)))
 
 abbrev pub off_of : Slot → ℕ
-off_of x = x.off-1
+off_of x = x.off
 
 abbrev pub len_of : Slot → ℕ
-len_of x = x.len-1
+len_of x = x.len
 
 abbrev pub start-of : Harq → Slot → ℕ
-start-of q x = start_of q (x.held-1 - x.bits)
+start-of q x = start_of q (x.held - x.bits)
 
 abbrev pub bits_of : Slot → ℕ
 bits_of x = x.bits

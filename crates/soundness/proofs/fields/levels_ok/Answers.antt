@@ -1,9 +1,7 @@
 -- The loop is a fold (`every-fold`): the invariant has the whole as the fold of what is left from what was found. Other needs are indexes.
-use Rattle.laws.specs.Span.{fold, every}
 use Rattle.laws.proofs.Span.{fold-turn, fold_done}
 use Rattle.config.proofs.ranges.Every.{every-fold}
 use Rattle.soundness.specs.Soundness.{remembered_ok}
-use Prim.Native.Nat.{◌-◌}
 use mathlib.Core.Bool.{Bool, ◌&&◌}
 use mathlib.Core.Path.{sym, ap}
 use native.Mathlib.Omega.{arith}

@@ -2,7 +2,7 @@ use mathlib.Core.Bool.{Bool, ◌&&◌}
 use mathlib.Core.Path.{sym}
 use native.Mathlib.Omega.{arith}
 use lib.Dec.{leb}
-use borrow.Author.Tests.{not-true, not-false, leb-true}
+use borrow.Author.Tests.{leb-true}
 use Rattle.laws.specs.Tests.{all}
 use Rattle.laws.proofs.Picks.{and_first, and_second}
 use Rattle.soundness.specs.Soundness.{counts_ok}
@@ -19,14 +19,14 @@ unfolding counts_ok all
 returns-then-not-h-b c =
     let e = c in
     let s = e.args.s in
-    sym (too_many s.at_peer.n s.at_peer.rest s.last_burst.n _ (not-true (first c.before.before.before.before.before.before.before.before) c.if-not-h-b.true))
+    sym (too_many s.at_peer.n s.at_peer.rest s.last_burst.n _ c.if-not-h-b.true)
 
 pub overflow_add-result : goal.overflow_add-result
 overflow_add-result c =
     let d = c in
     let e = d in
     let s = e.args.s in
-    let p = not-false (first c.before.before.before.before.before.before.before.before.before.before) d.if-not-h-b.false in
+    let p = d.if-not-h-b.false in
     let q = and_first (leb s.at_peer.n 64 && leb s.at_peer.rest s.at_peer.n) (leb s.last_burst.n 64) p in
     omega (
       arith,
@@ -41,7 +41,7 @@ returns c =
     let d = c in
     let e = d in
     let s = e.args.s in
-    let p = not-false (first c.before.before.before.before.before.before.before.before.before.before.before.before.before.before.before.before.before.before) d.if-not-h-b.false in
+    let p = d.if-not-h-b.false in
     let q = and_first (leb s.at_peer.n 64 && leb s.at_peer.rest s.at_peer.n) (leb s.last_burst.n 64) p in
     let n = and_first (leb s.at_peer.n 64) (leb s.at_peer.rest s.at_peer.n) q in
     let r = and_second (leb s.at_peer.n 64) (leb s.at_peer.rest s.at_peer.n) q in
