@@ -1,5 +1,5 @@
 -- `kept_count` meets its contract: the bytes counted so far, and those ahead.
-use Prim.Native.Nat.{ℕ, ◌+◌, ◌-◌, min}
+use Prim.Native.Nat.{ℕ, ◌+◌, min}
 use Rattle.receiver.specs.Frames.{box_bytes}
 use mathlib.Core.Path.{◌≡◌, sym, ap}
 use mathlib.Core.List.{List}
@@ -10,9 +10,6 @@ use Rattle.laws.proofs.Span.{counted-hit, counted-miss, counted-end}
 use borrow.Author.Tests.{lt-leb, le-leb}
 use Rattle.window.specs.Window.{is_kept}
 use Rattle.box_lines.specs.BoxLines.{kept_count}
-use Rattle.box_lines.proofs.kept_count.Reads as reads
-use Rattle.box_lines.proofs.kept_count.Lts as lts
-use Rattle.box_lines.proofs.places_of.Reads as places-of-reads
 use Rattle.box_lines.proofs.kept_count.Goals as goal
 
 starts : (w : List ℕ) {end : ℕ} → end ≡ min (length w) box_bytes → kept_count w ≡ 0 + count (λ (j : ℕ). is_kept (get_or w j 0)) (upto 0 end)

@@ -4,9 +4,6 @@ use lib.ListN.{get_or}
 use Rattle.laws.specs.Span.{upto, count}
 use Rattle.window.specs.Window.{is_kept}
 use Rattle.box_lines.specs.BoxLines.{kept_count}
-use Rattle.box_lines.proofs.kept_count.Reads as reads
-use Rattle.box_lines.proofs.kept_count.Lts as lts
-use Rattle.box_lines.proofs.places_of.Reads as places-of-reads
 use Rattle.box_lines.proofs.kept_count.Given as goal
 
 abbrev pub invariant-loop-i : goal.invariant-loop-i

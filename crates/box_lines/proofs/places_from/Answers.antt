@@ -1,5 +1,5 @@
 -- `places_from` meets its contract: a turn reads one place more.
-use Prim.Native.Nat.{◌-◌, ◌<◌}
+use Prim.Native.Nat.{◌<◌}
 use mathlib.Core.Path.{refl, sym, ap, ◌∙◌}
 use native.Mathlib.Omega.{arith}
 use lib.ListN.{length}
@@ -8,10 +8,6 @@ use lib.ListN.{length-set}
 use Rattle.laws.proofs.Bytes.{over-nil}
 use Rattle.box_lines.proofs.Places.{begins, reads_on, puts-on, no_word, past-frames, no_room}
 use borrow.Author.Tests.{not-true, not-false}
-use Rattle.box_lines.proofs.places_from.Reads as reads
-use Rattle.box_lines.proofs.places_from.Lts as lts
-use Rattle.words.proofs.done.Reads as done-reads
-use Rattle.words.proofs.whole.Reads as whole-reads
 use Rattle.box_lines.proofs.places_from.Goals as goal
 
 pub loop-n-init : goal.loop-n-init

@@ -5,10 +5,6 @@ use Rattle.laws.specs.Bytes.{overwrite}
 use lib.ListN.{take}
 use Rattle.box_lines.specs.BoxLines.{places_from}
 use Rattle.box_lines.proofs.Places.{Reading}
-use Rattle.box_lines.proofs.places_from.Reads as reads
-use Rattle.box_lines.proofs.places_from.Lts as lts
-use Rattle.words.proofs.done.Reads as done-reads
-use Rattle.words.proofs.whole.Reads as whole-reads
 use Rattle.box_lines.proofs.places_from.Given as goal
 
 abbrev pub invariant-loop-n : goal.invariant-loop-n

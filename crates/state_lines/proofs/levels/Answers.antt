@@ -1,11 +1,8 @@
 -- `state_lines::levels` meets its contract.
-use Prim.Native.Nat.{◌-◌}
 use mathlib.Core.Path.{refl, ◌∙◌}
 use native.Mathlib.Omega.{arith}
 use Rattle.state_lines.specs.State.{gear_of}
-use Rattle.text.specs.Buffer.{each}
 use Rattle.laws.proofs.Span.{upto-more, upto-none}
-use Rattle.laws.specs.Span.{upto}
 use Rattle.text.proofs.Laws.{appends, whole, each_turn, each-end}
 use Rattle.state_lines.proofs.levels.Goals as goal
 

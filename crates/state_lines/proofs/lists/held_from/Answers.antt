@@ -1,10 +1,8 @@
 -- `state_lines::lists::held_from` meets its contract.
-use Prim.Native.Nat.{◌-◌}
 use mathlib.Core.Path.{refl, ◌∙◌}
 use native.Mathlib.Omega.{arith}
 use Rattle.state_lines.proofs.Laws.{held_more, held-over, held-over-off, held-over-bits}
 use Rattle.state_lines.specs.State.{held_word}
-use Rattle.text.specs.Buffer.{each}
 use Rattle.text.proofs.Laws.{appends, whole, each_turn, each-end}
 use Rattle.state_lines.proofs.lists.held_from.Goals as goal
 

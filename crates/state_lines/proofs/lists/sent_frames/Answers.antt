@@ -1,10 +1,8 @@
 -- `state_lines::lists::sent_frames` meets its contract.
-use Prim.Native.Nat.{◌-◌}
 use mathlib.Core.Path.{refl, ◌∙◌}
 use native.Mathlib.Omega.{arith}
 use Rattle.state_lines.proofs.Laws.{sent-more, sent-over, sent-over-off, sent-over-bits, sent-over-held}
 use Rattle.state_lines.specs.State.{sent_word}
-use Rattle.text.specs.Buffer.{each}
 use Rattle.text.proofs.Laws.{appends, whole, each_turn, each-end}
 use Rattle.state_lines.proofs.lists.sent_frames.Goals as goal
 

@@ -1,14 +1,12 @@
 -- `transcript::burst::frames` meets its contract.
-use Prim.Native.Nat.{ℕ, ◌+◌, ◌-◌, ◌*◌}
+use Prim.Native.Nat.{ℕ, ◌+◌, ◌*◌}
 use mathlib.Core.Path.{◌≡◌, refl, ap, ◌∙◌}
 use native.Mathlib.Omega.{arith}
 use lib.ListN.{drop}
 use native.Mathlib.Nat.{mul-add}
 use Rattle.transcript.proofs.Laws.{frame-bytes, frame-next}
 use Rattle.transcript.specs.Answers.{frame_entry, frame_line}
-use Rattle.text.specs.Buffer.{each}
 use Rattle.laws.proofs.Span.{upto-more, upto-none}
-use Rattle.laws.specs.Span.{upto}
 use Rattle.text.proofs.Laws.{appends, told, whole, each_turn, each-end}
 use Rattle.transcript.proofs.burst.frames.Goals as goal
 

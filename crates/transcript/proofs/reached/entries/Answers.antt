@@ -1,11 +1,8 @@
 -- `transcript::reached::entries` meets its contract.
-use Prim.Native.Nat.{◌-◌}
 use mathlib.Core.Path.{refl, ◌∙◌}
 use native.Mathlib.Omega.{arith}
 use Rattle.transcript.specs.Answers.{level_entry}
-use Rattle.text.specs.Buffer.{each}
 use Rattle.laws.proofs.Span.{upto-more, upto-none}
-use Rattle.laws.specs.Span.{upto}
 use Rattle.text.proofs.Laws.{appends, whole, each_turn, each-end}
 use Rattle.transcript.proofs.reached.entries.Goals as goal
 
