@@ -3,20 +3,11 @@ use borrow.Author.Tests.{le-leb, lt-leb}
 use Rattle.asked_lines.proofs.Laws.{line-done, line-called}
 use Rattle.asked_lines.proofs.answered.Goals as goal
 
-pub kept-requires : goal.kept-requires
-kept-requires c = tt
-
 pub returns-then-run-le-ANEW : goal.returns-then-run-le-ANEW
 returns-then-run-le-ANEW c =
     let a = c.args in
     line-done a.line.now a.run a.s a.area.now a.out.now a.t.now a.v.now a.file.now
     (le-leb _ _ c.if-run-le-ANEW.true) c.kept.ensures
-
-pub profile_now-requires : goal.profile_now-requires
-profile_now-requires c = tt
-
-pub called-requires : goal.called-requires
-called-requires c = tt
 
 pub returns : goal.returns
 returns c =

@@ -3,15 +3,6 @@ use borrow.Author.Tests.{eq-eqb, ne_eqb}
 use Rattle.asked_lines.proofs.Laws.{called-shown, called-asked}
 use Rattle.asked_lines.proofs.called.Goals as goal
 
-pub named-call-requires : goal.named-call-requires
-named-call-requires c = tt
-
-pub clear-requires : goal.clear-requires
-clear-requires c = tt
-
-pub showed-requires : goal.showed-requires
-showed-requires c = tt
-
 pub returns-then-run-eq-SHOWS : goal.returns-then-run-eq-SHOWS
 returns-then-run-eq-SHOWS c =
     let d = c in
@@ -21,9 +12,6 @@ returns-then-run-eq-SHOWS c =
     let a = g.args in
     called-shown a.line.now a.run a.p a.s a.area.now a.out.now a.t.now
     f.clear.ensures g.named-call.ensures (eq-eqb _ _ e.if-run-eq-SHOWS.true) d.showed.ensures
-
-pub asked-requires : goal.asked-requires
-asked-requires c = tt
 
 pub returns : goal.returns
 returns c =

@@ -2,9 +2,6 @@
 use Rattle.asked_lines.specs.AskedLines.{done_said}
 use Rattle.asked_lines.proofs.kept.Goals as goal
 
-pub sender_left-requires : goal.sender_left-requires
-sender_left-requires c = tt
-
 pub returns : goal.returns
 unfolding done_said
 returns c = rw (← c.sender_left.ensures)

@@ -4,15 +4,9 @@ use Rattle.laws.proofs.Picks.{cond_yes, cond_no}
 use Rattle.asked_lines.specs.AskedLines.{line_call}
 use Rattle.asked_lines.proofs.named.Goals as goal
 
-pub word-r-requires : goal.word-r-requires
-word-r-requires c = tt
-
 pub returns-then-r : goal.returns-then-r
 unfolding line_call
 returns-then-r c = rw (← c.word-r.ensures) (cond_yes _ _ _ _ c.if-r.true refl)
-
-pub call_of-requires : goal.call_of-requires
-call_of-requires c = tt
 
 pub returns : goal.returns
 unfolding line_call

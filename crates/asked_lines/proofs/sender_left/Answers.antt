@@ -4,9 +4,6 @@ use Rattle.laws.proofs.Picks.{cond_yes, cond_no}
 use Rattle.asked_lines.specs.AskedLines.{sender_left}
 use Rattle.asked_lines.proofs.sender_left.Goals as goal
 
-pub fresh-requires : goal.fresh-requires
-fresh-requires c = tt
-
 pub returns-then-anew : goal.returns-then-anew
 unfolding sender_left
 returns-then-anew c = cond_yes _ _ _ _ c.if-anew.true c.fresh.ensures

@@ -3,19 +3,10 @@ use borrow.Author.Tests.{lt-ltb, le-ltb}
 use Rattle.line_steps.proofs.Laws.{long-by, other-by}
 use Rattle.line_steps.proofs.box_asked.Goals as goal
 
-pub replied-k-requires : goal.replied-k-requires
-replied-k-requires c = tt
-
-pub to_ask-run-requires : goal.to_ask-run-requires
-to_ask-run-requires c = tt
-
 pub returns-then-k-gt0 : goal.returns-then-k-gt0
 returns-then-k-gt0 c =
     let d = c in
     long-by _ _ _ _ _ _ _ _ d.replied-k.ensures (lt-ltb _ _ c.if-k-gt0.true) c.to_ask-run.ensures
-
-pub listened-requires : goal.listened-requires
-listened-requires c = tt
 
 pub returns : goal.returns
 returns c =

@@ -5,17 +5,11 @@ use Rattle.laws.proofs.Picks.{cond_yes, cond_no, told-yes, told-no}
 use Rattle.line_steps.specs.LineSteps.{box_or_not}
 use Rattle.line_steps.proofs.box_or_not.Goals as goal
 
-pub is_box-requires : goal.is_box-requires
-is_box-requires c = tt
-
 pub returns-then-not-is_box : goal.returns-then-not-is_box
 unfolding box_or_not
 returns-then-not-is_box c =
     let d = c.is_box in
     cond_no _ _ _ _ (told-no _ _ d.ensures c.if-not-is_box.true) refl
-
-pub box_asked-requires : goal.box_asked-requires
-box_asked-requires c = tt
 
 pub returns : goal.returns
 unfolding box_or_not

@@ -3,12 +3,6 @@ use Rattle.line_steps.specs.LineSteps.{listened_step}
 use Rattle.line_steps.proofs.Laws.{listened-by}
 use Rattle.line_steps.proofs.listened.Goals as goal
 
-pub listen-q-requires : goal.listen-q-requires
-listen-q-requires c = tt
-
-pub left-run-requires : goal.left-run-requires
-left-run-requires c = tt
-
 pub returns : goal.returns
 unfolding listened_step
 returns c =

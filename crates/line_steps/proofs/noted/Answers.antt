@@ -5,9 +5,6 @@ use Rattle.laws.proofs.Picks.{cond_yes, cond_no}
 use Rattle.line_steps.specs.LineSteps.{burst_noted}
 use Rattle.line_steps.proofs.noted.Goals as goal
 
-pub burst_sent-requires : goal.burst_sent-requires
-burst_sent-requires c = tt
-
 pub returns-then-s-run : goal.returns-then-s-run
 unfolding burst_noted
 returns-then-s-run c = cond_no _ _ _ _ (ne_eqb _ _ c.if-s-run.true) c.burst_sent.ensures

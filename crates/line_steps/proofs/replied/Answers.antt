@@ -4,12 +4,6 @@ use Rattle.laws.proofs.Picks.{cond_yes, cond_no}
 use Rattle.line_steps.specs.LineSteps.{reply_as_long}
 use Rattle.line_steps.proofs.replied.Goals as goal
 
-pub word-r-requires : goal.word-r-requires
-word-r-requires c = tt
-
-pub reply_line-requires : goal.reply_line-requires
-reply_line-requires c = tt
-
 pub returns-then-r : goal.returns-then-r
 unfolding reply_as_long
 returns-then-r c =

@@ -5,12 +5,6 @@ use Rattle.run_lines.proofs.Laws.{pair}
 use Rattle.line_steps.specs.LineSteps.{box_standing}
 use Rattle.line_steps.proofs.standing.Goals as goal
 
-pub clear-requires : goal.clear-requires
-clear-requires c = tt
-
-pub fresh-requires : goal.fresh-requires
-fresh-requires c = tt
-
 pub returns-then-anew : goal.returns-then-anew
 unfolding box_standing
 returns-then-anew c =

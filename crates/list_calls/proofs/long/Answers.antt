@@ -5,4 +5,4 @@ use Rattle.list_calls.proofs.long.Goals as goal
 pub returns : goal.returns
 unfolding long_asks
 returns c =
-    let w = c.long_words-q in rw (← w.ensures.0, ← w.ensures.1, c.reply_line.ensures)
+    let w = c.long_words-q in rw (← w.ensures.value, ← w.ensures.bytes_after, c.reply_line.ensures)

@@ -6,4 +6,4 @@ pub returns : goal.returns
 unfolding queue_asks
 returns c =
     let w = c.queue_words-q in
-    rw (← w.ensures.0, ← w.ensures.1, c.no_line-a.ensures)
+    rw (← w.ensures.value, ← w.ensures.bytes_after, c.no_line-a.ensures)

@@ -1,5 +1,4 @@
 -- `card`: by whether its line is right. Assumes nothing.
-use borrow.Author.Tests.{not-true, not-false}
 use Rattle.laws.proofs.Picks.{told-yes, told-no}
 use Rattle.look_lines.specs.Looks.{card_shown}
 use Rattle.look_lines.proofs.Laws.{card-said}
@@ -12,6 +11,5 @@ returns-then-not-done c = rw (told-no _ _ c.done.ensures c.if-not-done.true, c.w
 pub returns : goal.returns
 unfolding card_shown
 returns c =
-    let d = c in
-    rw (told-yes _ _ d.done.ensures d.if-not-done.false)
-    (card-said _ d.write-refusal.ensures c.card_text-text.ensures)
+    rw (told-yes _ _ c.done.ensures c.if-not-done.false)
+    (card-said _ c.write-refusal.ensures c.card_text-text.ensures)

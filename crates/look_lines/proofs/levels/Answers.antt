@@ -1,5 +1,4 @@
 -- `levels`: by whether its line is right. Assumes nothing.
-use borrow.Author.Tests.{not-true, not-false}
 use Rattle.look_lines.specs.Looks.{levels_shown}
 use Rattle.look_lines.proofs.Laws.{said}
 use Rattle.look_lines.proofs.levels.Goals as goal
@@ -13,6 +12,5 @@ returns-then-not-q c =
 pub returns : goal.returns
 unfolding levels_shown
 returns c =
-    let d = c in
-    let w = d.range_words-q in
-    rw (← w.ensures, d.if-not-q.false, ← c.levels_under-found.ensures) (said c.levels_text-text.ensures)
+    let w = c.range_words-q in
+    rw (← w.ensures, c.if-not-q.false, ← c.levels_under-found.ensures) (said c.levels_text-text.ensures)

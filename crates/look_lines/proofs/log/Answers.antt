@@ -1,5 +1,4 @@
 -- `log`: by whether its line is right; its call sign is what the line has. Assumes nothing.
-use borrow.Author.Tests.{not-true, not-false}
 use Rattle.look_lines.specs.Looks.{log_shown}
 use Rattle.look_lines.proofs.Laws.{log-said}
 use Rattle.look_lines.proofs.log.Goals as goal
@@ -13,12 +12,10 @@ returns-then-not-q c =
 pub returns : goal.returns
 unfolding log_shown
 returns c =
-    let d = c in
-    let e = d in
-    let w = e.link_words-q in
+    let w = c.link_words-q in
     rw (
       ← w.ensures.0,
       ← w.ensures.1,
-      ← e.least-k.ensures.a_value,
-      e.if-not-q.false,
-    ) (log-said _ d.log_link-logged.ensures c.log_text-text.ensures)
+      ← c.least-k.ensures.a_value,
+      c.if-not-q.false,
+    ) (log-said _ c.log_link-logged.ensures c.log_text-text.ensures)

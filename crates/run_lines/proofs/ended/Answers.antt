@@ -11,8 +11,7 @@ end-requires c = tt
 pub returns-then-run-eq-LINES : goal.returns-then-run-eq-LINES
 unfolding ended
 returns-then-run-eq-LINES c =
-    let d = c in
-    cond_yes _ _ _ _ (eq-eqb _ _ d.if-run-eq-LINES.true)
+    cond_yes _ _ _ _ (eq-eqb _ _ c.if-run-eq-LINES.true)
     c.end.ensures
 
 pub returns : goal.returns

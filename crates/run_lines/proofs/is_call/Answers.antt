@@ -14,5 +14,4 @@ done-requires c = tt
 pub returns : goal.returns
 unfolding is_call
 returns c =
-    let d = c in
-    rw (← d.word-r.ensures, ← c.passed_over.ensures, ← c.done.ensures)
+    rw (← c.word-r.ensures, ← c.passed_over.ensures, ← c.done.ensures)

@@ -1,5 +1,4 @@
 -- `lend`: by whether its line is right. Assumes nothing.
-use borrow.Author.Tests.{not-false, not-true}
 use Rattle.run_lines.specs.RunLines.{lends}
 use Rattle.run_lines.proofs.Laws.{lent_by}
 use Rattle.run_lines.proofs.lend.Goals as goal
@@ -16,10 +15,8 @@ failed-requires c = tt
 pub returns-then-not-a : goal.returns-then-not-a
 unfolding lends
 returns-then-not-a c =
-    let d = c in
-    let e = d in
-    let w = d.length-a in
-    rw (← e.most_lent.ensures, ← w.ensures, c.if-not-a.true, c.failed.ensures)
+    let w = c.length-a in
+    rw (← c.most_lent.ensures, ← w.ensures, c.if-not-a.true, c.failed.ensures)
 
 pub lent_text-text-requires : goal.lent_text-text-requires
 lent_text-text-requires c = tt
@@ -33,16 +30,12 @@ lent-requires c = tt
 pub returns : goal.returns
 unfolding lends
 returns c =
-    let d = c in
-    let e = d in
-    let f = e in
-    let g = f in
-    let w = f.length-a in
+    let w = c.length-a in
     rw (
-      ← g.most_lent.ensures,
+      ← c.most_lent.ensures,
       ← w.ensures,
-      e.if-not-a.false,
+      c.if-not-a.false,
       c.lent.ensures,
       c.with_text.ensures,
     )
-    (lent_by _ _ _ d.lent_text-text.ensures)
+    (lent_by _ _ _ c.lent_text-text.ensures)

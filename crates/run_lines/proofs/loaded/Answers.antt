@@ -12,5 +12,4 @@ loaded-requires c = tt
 pub returns : goal.returns
 unfolding loaded
 returns c =
-    let d = c in
-    loaded-by _ d.start-after.ensures.value d.start-after.ensures.area_after c.loaded.ensures
+    loaded-by _ c.start-after.ensures.value c.start-after.ensures.area_after c.loaded.ensures

@@ -1,6 +1,6 @@
 -- `profile_step`: by whether the line is right, and by whether it is the last. Assumes nothing.
 use mathlib.Core.Path.{refl}
-use borrow.Author.Tests.{le-leb, lt-leb, not-false, not-true}
+use borrow.Author.Tests.{le-leb, lt-leb}
 use Rattle.laws.proofs.Picks.{cond_no, cond_yes, told-no, told-yes}
 use Rattle.run_lines.specs.RunLines.{next_line}
 use Rattle.run_lines.proofs.Laws.{pair}
@@ -24,12 +24,9 @@ start-requires c = tt
 pub returns-then-k : goal.returns-then-k
 unfolding next_line
 returns-then-k c =
-    let d = c in
-    let e = d in
-    let f = e in
-    cond_yes _ _ _ _ (told-yes _ _ f.profile_line.ensures.0 e.if-not-profile_line.false)
-    (cond_yes _ _ _ _ (le-leb _ _ d.if-k.true)
-    (pair c.start.ensures.value (pair c.start.ensures.area_after f.profile_line.ensures.1)))
+    cond_yes _ _ _ _ (told-yes _ _ c.profile_line.ensures.0 c.if-not-profile_line.false)
+    (cond_yes _ _ _ _ (le-leb _ _ c.if-k.true)
+    (pair c.start.ensures.value (pair c.start.ensures.area_after c.profile_line.ensures.1)))
 
 pub returns : goal.returns
 unfolding next_line

@@ -13,7 +13,4 @@ loaded-requires c = tt
 
 pub returns : goal.returns
 returns c =
-    let d = c in
-    let e = d in
-    let f = e in
-    taken-by _ _ _ _ _ _ _ e.begin-run.ensures d.loaded.ensures f.keep.ensures
+    taken-by _ _ _ _ _ _ _ c.begin-run.ensures c.loaded.ensures c.keep.ensures

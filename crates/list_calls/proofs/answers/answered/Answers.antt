@@ -2,7 +2,6 @@
 use mathlib.Core.Path.{ap}
 use mathlib.Core.List.{List}
 use Prim.Native.Nat.{ℕ}
-use borrow.Author.Tests.{not-true, not-false}
 use Rattle.transcript.specs.Answers.{answer_line}
 use Rattle.text.proofs.Laws.{appends, told}
 use Rattle.list_calls.specs.Answers.{answered}

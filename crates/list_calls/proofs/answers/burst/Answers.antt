@@ -5,7 +5,6 @@ use Rattle.list_calls.proofs.Laws.{burst-left}
 use Rattle.list_calls.proofs.answers.burst.Goals as goal
 
 pub data_burst-b-requires : goal.data_burst-b-requires
-
 data_burst-b-requires c = search rules
 
 pub returns : goal.returns

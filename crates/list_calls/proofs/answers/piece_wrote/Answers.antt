@@ -1,5 +1,4 @@
 -- `piece_wrote`: by whether the line is right. Assumes nothing.
-use borrow.Author.Tests.{not-true, not-false}
 use Rattle.list_calls.specs.Answers.{piece_told}
 use Rattle.list_calls.proofs.Laws.{wrote_of}
 use Rattle.list_calls.proofs.answers.piece_wrote.Goals as goal
