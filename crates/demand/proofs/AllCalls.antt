@@ -8,7 +8,7 @@ use Prim.Native.Nat.{ℕ, ◌≤◌}
 use lib.ListN.{length}
 use Rattle.laws.specs.Bytes.{Bytes}
 use Rattle.laws.proofs.Picks.{test, by}
-use Rattle.report.specs.Ack.{info_of, ack_of}
+use Rattle.report.specs.Ack.{info_of}
 use Rattle.report.specs.declared.ack.AckRead.{AckRead}
 use Rattle.config.specs.declared.Profile.{Profile}
 use Rattle.config.specs.Ranged.{Ranged}
@@ -32,7 +32,7 @@ use Rattle.verdicts.proofs.Passed.{frames-passed}
 use Rattle.reception.specs.Reception.{Decoded, decoded_in, is_ack_read, flags_of}
 use Rattle.reception.specs.declared.Reception.{Reception}
 use Rattle.reception.proofs.Laws.{read-long, read-info}
-use Rattle.demand.specs.Lists.{Call, queues, hears, receives, bursts, State, Given, shown, replies_in, next, call_told}
+use Rattle.demand.specs.Lists.{Call, queues, hears, receives, bursts, State, Given, shown, replies_in, next}
 use Rattle.demand.specs.AsSingles.{singles_of, Typed}
 use Rattle.demand.proofs.Answers.{queue-no, queue-told, hear-no, hear-told, frames-no, frames-told, burst-no, burst-silent}
 use Rattle.demand.proofs.AsSingles.{single, EachBytes, each-bytes, Takes, takes, after-takes, next-is, finds, as-singles}

@@ -6,12 +6,12 @@
 use mathlib.Core.Path.{◌≡◌, refl, sym, ap, ◌∙◌, subst}
 use mathlib.Core.List.{List, [], ◌∷◌}
 use mathlib.Core.Bool.{Bool, true, false, cond, not, ◌&&◌}
-use Prim.Native.Nat.{ℕ, zero, suc, ◌+◌, ◌≤◌}
+use Prim.Native.Nat.{ℕ, zero, suc, ◌≤◌}
 use native.Mathlib.Omega.{arith}
-use lib.Dec.{leb, ltb, eqb}
+use lib.Dec.{leb, ltb}
 use lib.Ieee.{Float, le}
 use lib.Ieee.Bits.{is_true}
-use lib.ListN.{length, take, drop, get_or}
+use lib.ListN.{length, drop, get_or}
 use borrow.Author.Tests.{le-leb, le-ltb}
 use Rattle.laws.specs.Bytes.{Bytes}
 use Rattle.laws.proofs.Little.{bytes_take, bytes_drop}
@@ -22,7 +22,6 @@ use Rattle.ieee.proofs.Value.{le_refl, le-no-nan}
 use Rattle.limits.specs.Limits.{max_taken}
 use Rattle.report.specs.Ack.{info_of, ack_of}
 use Rattle.report.specs.declared.ack.AckRead.{AckRead}
-use Rattle.report.specs.declared.ack.AckRead.TheVariants.{Info}
 use Rattle.report.specs.declared.ack.AckInfo.{AckInfo}
 use Rattle.config.specs.declared.Profile.{Profile}
 use Rattle.config.specs.Ranged.{Ranged}
@@ -32,7 +31,7 @@ use Rattle.ledger.specs.Calls.{Along, run, tally}
 use Rattle.ledger.specs.Ledger as L
 use Rattle.ledger.specs.Reply as R
 use Rattle.ledger.specs.Reply.{long_ack}
-use Rattle.ledger.specs.Tally.{Tally, Event, reply, replies, heard_all, feed}
+use Rattle.ledger.specs.Tally.{Tally, Event, reply, heard_all, feed}
 use Rattle.messages.specs.Messages.{messages_ok}
 use Rattle.record.specs.View.{view, store, store_link, store_counts}
 use Rattle.record.specs.declared.Sender.{Sender}

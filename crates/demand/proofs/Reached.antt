@@ -1,12 +1,12 @@
 -- After every list of calls: what the ledger claims, a sound record, and what a burst sends. Where the profile is refused or the work area is short, every call is.
 -- Assumes nothing.
-use mathlib.Core.Path.{◌≡◌, refl, sym, ap, ap₂, ◌∙◌, subst}
-use mathlib.Core.List.{List, [], ◌∷◌}
-use mathlib.Core.Bool.{Bool, true, false, cond, not, ◌&&◌, false≢true}
-use Prim.Native.Nat.{ℕ, zero, suc, ◌≤◌, ◌<◌}
+use mathlib.Core.Path.{◌≡◌, refl, sym, ap, ◌∙◌, subst}
+use mathlib.Core.List.{List}
+use mathlib.Core.Bool.{Bool, true, false, cond, ◌&&◌, false≢true}
+use Prim.Native.Nat.{ℕ, zero, suc, ◌≤◌}
 use native.Mathlib.Omega.{arith}
 use lib.Dec.{leb, eqb}
-use lib.ListN.{length, get_or, replicate, length-replicate}
+use lib.ListN.{length, replicate, length-replicate}
 use borrow.Author.Tests.{leb-true, leb-false, le-leb}
 use Rattle.laws.proofs.Picks.{test, and_yes, and_first, and_second}
 use Rattle.laws.proofs.Tests.{all-at}
@@ -24,11 +24,10 @@ use Rattle.queuing.proofs.Shown.{fresh-shows}
 use Rattle.messages.proofs.Kept.{sound-ok, sound_none, sized-none}
 use Rattle.record.specs.Profiles.{sizes_of}
 use Rattle.record.specs.View.{view}
-use Rattle.record.proofs.View.{view-fresh}
 use Rattle.soundness.specs.Soundness.{sound_ok}
 use Rattle.soundness.proofs.fields.Sound.{sound-test, profile-sizes}
 use Rattle.laws.specs.Bytes.{Bytes}
-use Rattle.invariant.proofs.Well.{Well, fresh-well}
+use Rattle.invariant.proofs.Well.{fresh-well}
 use Rattle.refusals.specs.declared.Verdict.{Verdict}
 use Rattle.refusals.specs.Refusals.{kind_of}
 use Rattle.verdicts.specs.Verdicts.{passed, taken_by, standing, first_of, queue_verdict, receive_verdict, frames_verdict, burst_verdict}

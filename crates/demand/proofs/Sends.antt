@@ -2,7 +2,7 @@
 -- Assumes nothing.
 use mathlib.Core.Path.{◌≡◌, refl, sym, ap, ap₂, ◌∙◌, subst}
 use mathlib.Core.Logic.{◌⊎◌}
-use mathlib.Core.List.{List, map, ◌++◌}
+use mathlib.Core.List.{List, map}
 use mathlib.Core.Bool.{Bool, true, false}
 use Prim.Native.Nat.{ℕ, ◌+◌, ◌*◌, ◌≤◌}
 use native.Mathlib.Nat.{le_trans, mul-le-mul_left, mul-le-mul_right}
@@ -48,7 +48,7 @@ use Rattle.verdicts.proofs.Passed.{burst-passed}
 use Rattle.sender.specs.Calls.{Bursted, burst_call}
 use Rattle.demand.specs.Lists.{Call, bursts, shown, frames_answered, next, call_told}
 use Rattle.demand.specs.Page.{by_offset, Taken, frames_of_taken, sum_of, on_air, allowance, any_increment, messages, bytes, c, s, t, answer, leaves, Sends}
-use Rattle.demand.proofs.Answers.{burst-is, burst-told, verdict-of-burst}
+use Rattle.demand.proofs.Answers.{burst-is, verdict-of-burst}
 use Rattle.demand.proofs.Steps.{sizes, Ok, does-burst, taken}
 use Rattle.demand.proofs.Payloads.{sent-taken, sent-bytes, within, none-reserved, with-room}
 use Rattle.demand.proofs.OnTime.{on-time, sum-bits}

@@ -1,7 +1,7 @@
 -- DEMAND 3, as one page states it (specs/Page.antt): after every list of connects, queuings, short acks, long acks, turns and bursts, refused ones included,
 -- whatever the replies say, from a fresh sender and a work area of any number of zeros, under any profile.
 -- Assumes nothing.
-use mathlib.Core.Path.{◌≡◌, refl, sym, ap, ◌∙◌, subst}
+use mathlib.Core.Path.{◌≡◌, refl, sym, ap, ◌∙◌}
 use mathlib.Core.List.{List, [], ◌∷◌, ◌++◌}
 use mathlib.Core.Bool.{true, false}
 use Prim.Native.Nat.{ℕ, ◌≤◌}

@@ -1,7 +1,7 @@
 -- "WITH A SINGLE CLASS AND NO LABELS THE RUST IS STILL EQUALLED" (document 02, Changes 1 and 6): over every list of calls that queues with one class
 -- and no label, record, work area and answers are those of the base, the queuings refused by 12 left out. Definitions only.
 -- To believe beside it: Lists.antt; of crates/sender Base.antt (the base's calls).
-use Rattle.std.specs.Prelude.{◌≡◌, List, [], ◌∷◌, Bool, false, cond, ℕ, ◌≤◌, eqb, length, replicate}
+use Rattle.std.specs.Prelude.{◌≡◌, List, [], ◌∷◌, Bool, cond, ℕ, ◌≤◌, eqb, length, replicate}
 use Rattle.limits.specs.Limits.{max_class}
 use Rattle.config.specs.declared.Profile.{Profile}
 use Rattle.ledger.specs.Calls.{Along, run}

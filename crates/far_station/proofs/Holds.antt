@@ -6,7 +6,7 @@
 -- all other calls leave the holds.
 -- Assumes nothing.
 use mathlib.Core.Path.{◌≡◌, refl, sym, ap, ◌∙◌, subst}
-use mathlib.Core.Logic.{◌⊎◌, inl, inr, ⊎_elim}
+use mathlib.Core.Logic.{inl, inr, ⊎_elim}
 use mathlib.Core.Option.{Option, none, some}
 use mathlib.Core.List.{List, [], ◌∷◌}
 use mathlib.Core.Bool.{Bool, true, false, cond, not, false≢true}
@@ -46,7 +46,7 @@ use Rattle.ledger.specs.Sizes.{Sizes}
 use Rattle.ledger.specs.Sound.{Sound}
 use Rattle.ledger.specs.Reply as R
 use Rattle.ledger.specs.Reply.{short_ack, long_ack}
-use Rattle.ledger.specs.Tally.{Tally, Event, silent, reply, replies, turn, Outstanding, nothing, outstanding, heard, feed}
+use Rattle.ledger.specs.Tally.{Tally, Event, reply, replies, turn, Outstanding, nothing, outstanding, heard, feed}
 use Rattle.ledger.proofs.Agree.{Agree}
 use Rattle.ledger.proofs.Kept.{step-agree, step-queue}
 use Rattle.record.specs.Profiles.{sizes_of}
@@ -68,7 +68,7 @@ use Rattle.refusals.specs.declared.Reply.{Reply}
 use Rattle.refusals.specs.declared.Reply.TheVariants.{ConnAck, Ack, LongAck, Turn}
 use Rattle.refusals.specs.Refusals.{time_ok, heard_ok}
 use Rattle.verdicts.specs.Verdicts.{passed, queue_verdict, receive_verdict, frames_verdict, burst_verdict}
-use Rattle.verdicts.proofs.Passed.{reply-passed, Receives, frames-passed}
+use Rattle.verdicts.proofs.Passed.{reply-passed, frames-passed}
 use Rattle.demand.specs.Lists.{Call, queues, hears, receives, bursts, State, Given, shown, long_event, reply_event, replies_in, next, call_told}
 use Rattle.demand.specs.AsSingles.{singles_of}
 use Rattle.reception.specs.Reception.{Decoded, decoded_in, is_ack_read, flags_of}

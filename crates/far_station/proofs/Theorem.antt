@@ -2,7 +2,7 @@
 -- every call is refused, and the record stays fresh.
 -- Assumes nothing.
 use mathlib.Core.Path.{◌≡◌, refl, sym, ap, ◌∙◌, subst}
-use mathlib.Core.Option.{Option, none, some}
+use mathlib.Core.Option.{Option, none}
 use mathlib.Core.List.{List, [], ◌∷◌}
 use mathlib.Core.Bool.{Bool, true, false, ◌&&◌, false≢true}
 use Prim.Native.Nat.{ℕ, zero, suc, ◌≤◌, ◌<◌}
@@ -24,7 +24,7 @@ use Rattle.record.specs.Fresh.{fresh}
 use Rattle.queuing.specs.Station.{fresh_station}
 use Rattle.queuing.proofs.Shown.{fresh-shows}
 use Rattle.verdicts.specs.Verdicts.{passed, standing}
-use Rattle.demand.specs.Lists.{Call, queues, hears, receives, bursts, State, Given, fresh_start, shown, next, call_told}
+use Rattle.demand.specs.Lists.{Call, queues, hears, receives, bursts, State, Given, fresh_start, next, call_told}
 use Rattle.demand.specs.Page.{c as reached}
 use Rattle.demand.proofs.Reached.{stays, refused-by, fresh-fit, well}
 use Rattle.far_station.specs.CannotForce.{judged_by, last_judged, EndsBy, NeverStopped, HoldsEnd, CannotForce}

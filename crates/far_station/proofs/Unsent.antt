@@ -1,9 +1,9 @@
 -- No acknowledged byte is in any later frame: a frame's bytes are in a piece, pieces cover bytes in flight alone, and what is acknowledged
 -- stays so.
 -- Assumes nothing.
-use mathlib.Core.Path.{◌≡◌, refl, sym, ap, ◌∙◌, subst}
+use mathlib.Core.Path.{◌≡◌, refl, sym, ap, ◌∙◌}
 use mathlib.Core.List.{List, [], ◌∷◌, ◌++◌}
-use mathlib.Core.Bool.{Bool, true, false, cond, ◌||◌}
+use mathlib.Core.Bool.{Bool, true, false, cond}
 use Prim.Native.Nat.{ℕ, zero, suc, ◌+◌, ◌≤◌}
 use native.Mathlib.Omega.{arith}
 use lib.Dec.{eqb}
@@ -20,7 +20,7 @@ use Rattle.ledger.proofs.PerOffset.{acked-exactly}
 use Rattle.sender.specs.Calls.{Bursted, burst_call}
 use Rattle.verdicts.specs.Verdicts.{passed}
 use Rattle.demand.specs.Lists.{Call, bursts, State, Given, fresh_start, shown, frames_answered, next, call_told}
-use Rattle.demand.specs.Page.{c as reached, t as tallied, answer}
+use Rattle.demand.specs.Page.{c as reached, t as tallied}
 use Rattle.demand.proofs.Answers.{burst-is, verdict-of-burst}
 use Rattle.demand.proofs.Reached as D
 use Rattle.demand.proofs.Theorem.{demand3}

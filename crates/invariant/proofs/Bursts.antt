@@ -23,12 +23,11 @@ use Rattle.record.specs.declared.Sender.{Sender}
 use Rattle.outgoing.specs.Choosing.{choice}
 use Rattle.outgoing.specs.Outgoing.{after, counted_air}
 use Rattle.outgoing.proofs.Choices.{choice-ranged, choice-long}
-use Rattle.soundness.proofs.fields.Sound.{profile-sizes, sound-level, sound-settling}
+use Rattle.soundness.proofs.fields.Sound.{profile-sizes, sound-level}
 use Rattle.invariant.proofs.Ledgers.{Kept, PieceBytes, bytes-joined, bytes-of}
 use Rattle.invariant.proofs.Well.{Well, well-gear, well-kept, stored-well, airtime-well}
 use Rattle.ledger.specs.Sizes.{Sizes}
 use Rattle.ledger.specs.SizesCode.{SizeRange}
-use Rattle.replies.specs.RepliesCode.{ReplyReady}
 
 -- ---- bytes: a burst moves none
 

@@ -1,11 +1,10 @@
 -- A typed and sound gear record stays so, whatever replies come. Assumes nothing.
 use mathlib.Core.Bool.{Bool, not, ◌&&◌}
-use Prim.Native.Nat.{ℕ, ◌<◌, ◌≤◌}
-use native.Mathlib.Omega.{arith}
+use Prim.Native.Nat.{ℕ, ◌<◌}
 use lib.Dec.{T, eqb}
 use lib.ListN.{get_or}
 use lib.Ieee.{Float, nan, sub, binary32, le, lt, eq}
-use Rattle.ieee.specs.Range.{In, w32, w64}
+use Rattle.ieee.specs.Range.{w32, w64}
 use Rattle.float.specs.Gear.{loss_of, loss_to_step_down, whole_loss}
 use Rattle.laws.proofs.Picks.{either}
 use Rattle.laws.proofs.Span.{fold-keep}

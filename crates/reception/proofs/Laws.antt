@@ -2,11 +2,10 @@
 -- Assumes nothing.
 use mathlib.Core.Path.{◌≡◌, refl, sym, ap, ◌∙◌, subst}
 use mathlib.Core.List.{List, [], ◌∷◌}
-use mathlib.Core.Bool.{Bool, true, false, cond, ◌&&◌}
-use Prim.Native.Nat.{ℕ, zero, suc, ◌+◌, ◌-◌, ◌≤◌, min}
-use native.Mathlib.Omega.{arith}
-use lib.Dec.{leb, ltb, eqb}
-use lib.ListN.{length, take, drop, get_or}
+use mathlib.Core.Bool.{true, false}
+use Prim.Native.Nat.{ℕ, ◌≤◌}
+use lib.Dec.{leb, eqb}
+use lib.ListN.{length}
 use borrow.Author.Tests.{leb-true, le-ltb}
 use Rattle.laws.proofs.Picks.{by, and_second}
 use Rattle.report.specs.Ack.{info_of, ack_of}
@@ -15,7 +14,7 @@ use Rattle.report.specs.declared.ack.AckRead.{AckRead}
 use Rattle.report.specs.declared.ack.AckRead.TheVariants.{TooShort, Info}
 use Rattle.config.specs.declared.Profile.{Profile}
 use Rattle.ledger.proofs.Sentences.{ack-ends}
-use Rattle.record.specs.View.{view, store, store_link}
+use Rattle.record.specs.View.{store, store_link}
 use Rattle.record.specs.declared.Link.{Link}
 use Rattle.record.specs.declared.Sender.{Sender}
 use Rattle.record.specs.Setters.{with_link}

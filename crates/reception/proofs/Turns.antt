@@ -1,9 +1,9 @@
 -- The loop over the frames of a reception: what is left to hear from a frame on, and what one turn does to it.
 -- Assumes nothing.
-use mathlib.Core.Path.{◌≡◌, refl, sym, ap, ◌∙◌, subst}
-use mathlib.Core.List.{List, [], ◌∷◌}
-use mathlib.Core.Bool.{Bool, true, false, cond, ◌&&◌, false≢true}
-use Prim.Native.Nat.{ℕ, zero, suc, ◌+◌, ◌-◌, ◌≤◌, ◌<◌, min}
+use mathlib.Core.Path.{◌≡◌, refl, sym, ap, ◌∙◌}
+use mathlib.Core.List.{List}
+use mathlib.Core.Bool.{true, false, cond, ◌&&◌, false≢true}
+use Prim.Native.Nat.{ℕ, suc, ◌+◌, ◌-◌, ◌≤◌, ◌<◌, min}
 use native.Mathlib.Nat.{sub-zero}
 use native.Mathlib.Omega.{arith}
 use lib.Dec.{leb, eqb}
@@ -21,7 +21,7 @@ use Rattle.receive.specs.Accepted.{long_read}
 use Rattle.reception.specs.Reception.{Decoded, decoded_from, decoded_in, is_ack_read, flags_of, frames_heard}
 use Rattle.reception.specs.ReceptionCode.{read_noted}
 use Rattle.reception.specs.declared.Reception.{Reception}
-use Rattle.reception.proofs.Laws.{State, read-ends, long-quiet, noted-quiet}
+use Rattle.reception.proofs.Laws.{State, read-ends, long-quiet}
 
 -- the bytes behind a payload, where it may have fewer bytes than its length says
 behind : (l k : ℕ) (bs : List ℕ) → k ≡ min l (length bs) → drop l bs ≡ drop k bs

@@ -31,7 +31,6 @@ use Rattle.refusals.specs.declared.Reply.{Reply}
 use Rattle.refusals.specs.declared.Reply.TheVariants as R
 use Rattle.refusals.specs.Refusals.{kind_of, max_received, heard_ok}
 use Rattle.verdicts.specs.Verdicts.{passed, standing, reply_verdict, queue_verdict, receive_verdict, frames_verdict}
-use Rattle.receive.specs.Accepted.{accepted_reply}
 use Rattle.reception.specs.Reception.{decoded_in, frames_heard}
 use Rattle.reception.specs.declared.Reception.{Reception}
 use Rattle.sender.specs.CallsCode.{verdict_after, judged_reply}

@@ -1,6 +1,6 @@
 -- A burst, refused or accepted.
 -- Assumes nothing.
-use mathlib.Core.Path.{◌≡◌, refl, sym, ap, ap₂, ◌∙◌}
+use mathlib.Core.Path.{◌≡◌, sym, ap, ap₂, ◌∙◌}
 use mathlib.Core.List.{List}
 use mathlib.Core.Bool.{true, false}
 use Prim.Native.Nat.{ℕ, ◌-◌, ◌≤◌}
@@ -13,9 +13,7 @@ use Rattle.outgoing.specs.declared.Outgoing.{Outgoing}
 use Rattle.record.specs.declared.Sender.{Sender}
 use Rattle.refusals.specs.declared.Verdict.{Verdict}
 use Rattle.verdicts.specs.Verdicts.{passed, burst_verdict}
-use Rattle.ledger.specs.Queue.{flies}
 use Rattle.messages.specs.declared.Messages.{Messages}
-use Rattle.messages.specs.Messages.{queue_in, store_queue}
 use Rattle.messages.specs.MessagesCode.{flown}
 use Rattle.messages.proofs.Link.{fly-stores}
 use Rattle.messages.proofs.Kept.{ok-sound}

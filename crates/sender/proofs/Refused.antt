@@ -5,10 +5,9 @@ use mathlib.Core.List.{List, [], ◌∷◌, ◌++◌}
 use mathlib.Core.Bool.{Bool, true, false}
 use Prim.Native.Nat.{ℕ, ◌+◌, ◌≤◌}
 use native.Mathlib.Omega.{arith}
-use lib.Dec.{eqb}
 use lib.Ieee.{Float}
-use lib.ListN.{length, drop, length-append, length-map, length-take}
-use Rattle.laws.specs.Bytes.{overwrite, part}
+use lib.ListN.{length, drop, length-append, length-map}
+use Rattle.laws.specs.Bytes.{overwrite}
 use Rattle.laws.proofs.Bytes.{drop-over, length_part}
 use Rattle.laws.proofs.Picks.{by, either}
 use Rattle.harq.specs.Held.{h_max}
@@ -31,13 +30,11 @@ use Rattle.ledger.proofs.Planned.{planned-fits}
 use Rattle.ledger.proofs.ShortFrames.{pieces-short_frames}
 use Rattle.ledger.proofs.Stream.{length-bytes_of}
 use Rattle.area.specs.Layout.{area_bytes, place, stream_bytes}
-use Rattle.area.specs.Table.{rows_from, table_bytes}
-use Rattle.area.specs.declared.table.Row.{Row}
-use Rattle.area.proofs.table.Laws.{length-table, length-rows}
+use Rattle.area.specs.Table.{table_bytes}
+use Rattle.area.proofs.table.Laws.{length-table}
 use Rattle.area.proofs.room.Laws.{stream-holds, not-refused}
-use Rattle.pieces.proofs.Sound.{size-rows, length-pieces}
 use Rattle.record.specs.Profiles.{sizes_of}
-use Rattle.record.specs.View.{view, rows_of, store, store_area}
+use Rattle.record.specs.View.{view, rows_of, store_area}
 use Rattle.ledger.specs.Queue.{goes, enqueue}
 use Rattle.ledger.specs.Station.{take_in}
 use Rattle.ledger.proofs.Queue.{length-enqueue}

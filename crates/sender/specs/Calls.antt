@@ -9,7 +9,7 @@ use Rattle.record.specs.View.{view}
 use Rattle.ledger.specs.Queue.{flies}
 use Rattle.messages.specs.Messages.{store_queue}
 use Rattle.messages.specs.declared.Messages.{Messages}
-use Rattle.queuing.specs.Station.{with_sender, with_messages, view_station, queued_in}
+use Rattle.queuing.specs.Station.{with_sender, view_station, queued_in}
 use Rattle.queuing.specs.declared.Station.{Station}
 use Rattle.record.specs.declared.Sender.{Sender}
 use Rattle.replies.specs.declared.Heard.{Heard}

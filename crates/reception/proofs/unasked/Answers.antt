@@ -1,7 +1,6 @@
 -- `reception::unasked` meets its contract.
-use mathlib.Core.Path.{sym, ap, ◌∙◌}
+use mathlib.Core.Path.{ap, ◌∙◌}
 use Rattle.report.specs.declared.ack.AckRead.{AckRead}
-use Rattle.record.specs.declared.Link.{Link}
 use Rattle.reception.specs.ReceptionCode.{read_noted}
 use Rattle.reception.proofs.unasked.Goals as goal
 

@@ -1,11 +1,9 @@
 -- `sender::data_burst` meets its contract.
-use mathlib.Core.Bool.{true}
-use mathlib.Core.Path.{◌≡◌, ap, ◌∙◌}
+use mathlib.Core.Path.{ap, ◌∙◌}
 use mathlib.Core.List.{List}
 use Prim.Native.Nat.{ℕ}
 use native.Mathlib.Omega.{arith}
 use lib.ListN.{length}
-use borrow.Author.Rules.{length_unmapped}
 use Rattle.config.proofs.ranges.Ranged.{ranged}
 use Rattle.record.proofs.View.{Arrays}
 use Rattle.record.specs.declared.Sender.{Sender}
@@ -13,11 +11,10 @@ use Rattle.soundness.proofs.fields.Sound.{test-sound}
 use Rattle.messages.proofs.Kept.{ok-sound}
 use Rattle.outgoing.specs.declared.Outgoing.{Outgoing}
 use Rattle.refusals.specs.declared.Verdict.{Verdict}
-use Rattle.verdicts.specs.Verdicts.{passed, first_of, output_verdict, burst_verdict}
+use Rattle.verdicts.specs.Verdicts.{first_of, output_verdict, burst_verdict}
 use Rattle.verdicts.proofs.Passed.{is-passed, not-passed, burst-passed}
 use Rattle.sender.proofs.Bursting.{next_grows, burst-refused, burst-accepted}
 use Rattle.sender.proofs.Numbers.{burst-numbered}
-use Rattle.limits.specs.Limits.{max_slots}
 use Rattle.sender.proofs.data_burst.Goals as goal
 
 pub returns-then-refusal-ne0 : goal.returns-then-refusal-ne0

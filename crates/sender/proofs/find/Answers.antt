@@ -1,10 +1,9 @@
 -- `sender::find` meets its contract.
-use mathlib.Core.Bool.{true, false}
-use mathlib.Core.Path.{◌≡◌, ap, ap₂}
+use mathlib.Core.Bool.{false}
+use mathlib.Core.Path.{ap, ap₂}
 use Rattle.laws.proofs.Picks.{cond_yes, cond_no}
 use Rattle.area.specs.declared.lookup.Found.{Found}
 use Rattle.refusals.specs.declared.Verdict.{Verdict}
-use Rattle.verdicts.specs.Verdicts.{passed, standing}
 use Rattle.sender.specs.Calls.{nowhere, find_of}
 use Rattle.verdicts.proofs.Passed.{is-passed, not-passed, standing-three, sound-rows}
 use Rattle.sender.proofs.Numbers.{find-numbered}

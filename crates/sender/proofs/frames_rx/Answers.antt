@@ -1,16 +1,12 @@
 -- `sender::frames_rx` meets its contract.
-use mathlib.Core.Bool.{true}
-use mathlib.Core.Path.{◌≡◌, ap, ◌∙◌}
-use Prim.Native.Nat.{ℕ}
-use borrow.Author.Rules.{length_unmapped}
+use mathlib.Core.Path.{ap, ◌∙◌}
 use native.Mathlib.Omega.{arith}
 use Rattle.record.proofs.View.{Arrays}
 use Rattle.refusals.specs.declared.Verdict.{Verdict}
-use Rattle.verdicts.specs.Verdicts.{passed, first_of, frames_standing, hearing_verdict, frames_verdict}
+use Rattle.verdicts.specs.Verdicts.{first_of, frames_standing, hearing_verdict, frames_verdict}
 use Rattle.verdicts.proofs.Passed.{is-passed, not-passed}
 use Rattle.sender.proofs.Accepted.{frames-refused, frames-ranged, frames-ready, frames-accepted}
 use Rattle.sender.proofs.Numbers.{answer-numbered}
-use Rattle.limits.specs.Limits.{max_slots}
 use Rattle.sender.proofs.frames_rx.Goals as goal
 
 pub returns-then-refusal-ne0 : goal.returns-then-refusal-ne0

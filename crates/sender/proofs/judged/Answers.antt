@@ -1,16 +1,12 @@
 -- `sender::judged` meets its contract.
-use mathlib.Core.Bool.{true}
-use mathlib.Core.Path.{◌≡◌, ap, ap₂, ◌∙◌}
+use mathlib.Core.Path.{ap, ap₂, ◌∙◌}
 use mathlib.Core.List.{List}
 use Prim.Native.Nat.{ℕ}
-use lib.ListN.{length}
 use Rattle.laws.proofs.Picks.{cond_yes, cond_no}
 use Rattle.record.specs.declared.Sender.{Sender}
 use Rattle.refusals.specs.Refusals.{number_of}
-use Rattle.refusals.specs.declared.Verdict.{Verdict}
-use Rattle.verdicts.specs.Verdicts.{passed}
 use Rattle.verdicts.proofs.Passed.{is-passed, not-passed}
-use Rattle.sender.specs.CallsCode.{verdict_after, judged_reply}
+use Rattle.sender.specs.CallsCode.{judged_reply}
 use Rattle.sender.specs.declared.LeftSender.{LeftSender}
 use Rattle.sender.proofs.judged.Goals as goal
 

@@ -1,11 +1,10 @@
 -- `sender::piece` meets its contract.
-use mathlib.Core.Bool.{true, false}
-use mathlib.Core.Path.{◌≡◌, refl, ◌∙◌}
+use mathlib.Core.Bool.{false}
+use mathlib.Core.Path.{refl, ◌∙◌}
 use Rattle.laws.proofs.Picks.{cond_yes, cond_no}
 use Rattle.area.specs.Table.{rows_from}
 use Rattle.pieces.proofs.Placed.{found-bytes}
 use Rattle.record.specs.View.{view}
-use Rattle.verdicts.specs.Verdicts.{passed, standing}
 use Rattle.sender.specs.Calls.{piece_of}
 use Rattle.verdicts.proofs.Passed.{is-passed, not-passed, standing-three, sound-rows}
 use Rattle.sender.proofs.piece.Goals as goal

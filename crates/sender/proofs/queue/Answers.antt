@@ -1,13 +1,10 @@
 -- `sender::queue` meets its contract.
 use mathlib.Core.Bool.{true, false}
 use mathlib.Core.Path.{◌≡◌, sym, ap, ◌∙◌}
-use Prim.Native.Nat.{ℕ}
 use lib.ListN.{length}
-use borrow.Author.Rules.{length_unmapped}
-use Rattle.laws.specs.Bytes.{Bytes}
 use Rattle.messages.specs.SoundCode.{Sized}
 use Rattle.messages.proofs.Kept.{ok-sound}
-use Rattle.queuing.specs.StationCode.{Fit, store_waiting}
+use Rattle.queuing.specs.StationCode.{store_waiting}
 use Rattle.queuing.proofs.Queuing.{queued-waiting}
 use native.Mathlib.Omega.{arith}
 use Rattle.record.proofs.View.{Arrays}
@@ -16,7 +13,6 @@ use Rattle.verdicts.specs.Verdicts.{passed, first_of, room_verdict, queue_verdic
 use Rattle.verdicts.proofs.Passed.{is-passed, not-passed, Stands, standing-three}
 use Rattle.sender.proofs.Accepted.{queue-refused, queue-accepted, queue-fit}
 use Rattle.sender.proofs.Numbers.{answer-numbered}
-use Rattle.limits.specs.Limits.{max_slots, max_messages}
 use Rattle.sender.proofs.queue.Goals as goal
 
 pub queue_verdict-requires : goal.queue_verdict-requires

@@ -1,11 +1,8 @@
 -- `sender::sender_rx` meets its contract.
 use mathlib.Core.Path.{sym, ap, ◌∙◌}
-use mathlib.Core.List.{List}
-use Prim.Native.Nat.{ℕ}
 use Rattle.refusals.specs.declared.Reply.{Reply}
 use Rattle.sender.specs.Calls.{receive_of}
 use Rattle.sender.specs.Numbered.{answer_number}
-use Rattle.sender.specs.declared.Left.{Left}
 use Rattle.sender.proofs.Accepted.{connect-alone, short-alone, turn_alone}
 use Rattle.sender.proofs.sender_rx.Goals as goal
 

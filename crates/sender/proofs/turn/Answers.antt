@@ -1,12 +1,9 @@
 -- `sender::turn` meets its contract.
-use Prim.Native.Nat.{ℕ}
 use mathlib.Core.List.{[]}
-use borrow.Author.Rules.{length_unmapped}
 use native.Mathlib.Omega.{arith}
 use Rattle.record.proofs.View.{Arrays}
 use Rattle.refusals.specs.declared.Reply.TheVariants as R
 use Rattle.sender.proofs.Accepted.{judged-reply, reply-ready}
-use Rattle.limits.specs.Limits.{max_slots}
 use Rattle.sender.proofs.turn.Goals as goal
 
 pub standing-v-requires : goal.standing-v-requires
