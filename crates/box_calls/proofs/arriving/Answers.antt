@@ -12,18 +12,13 @@ use Rattle.box_calls.proofs.arriving.Goals as goal
 pub returns : goal.returns
 unfolding arriving_said
 returns c =
-    let p1 = c in
-    let p2 = p1 in
-    let p3 = p2 in
-    let p4 = p3 in
-    let p5 = p4 in
-    let a = p5.args in
+    let a = c.args in
     let places = a.places.now in
     let t : ℕ × List ℕ = (a.n, a.t.now) in
     let sizes = replicate most_places a.b.size in
     let frames =
-    ap₂ (λ (l : List ℕ) (size : ℕ). overwrite l 0 (frames_at size a.sent.now places)) p4.frames_room-bytes.ensures
-    p3.frame_size.ensures in
-    p1.taken.ensures
+    ap₂ (λ (l : List ℕ) (size : ℕ). overwrite l 0 (frames_at size a.sent.now places)) c.frames_room-bytes.ensures
+    c.frame_size.ensures in
+    c.taken.ensures
     ∙ ap (λ (l : List ℕ). taken_said (text "arrive") false a.b.number a.db l sizes places a.b a.most a.w.now t)
-    (p2.frames_at.ensures ∙ frames)
+    (c.frames_at.ensures ∙ frames)

@@ -9,14 +9,10 @@ use Rattle.box_calls.proofs.burst_sent.Goals as goal
 
 pub copy_in-requires : goal.copy_in-requires
 copy_in-requires c =
-    let p1 = c in
-    let p2 = p1 in
-    let a = p2.args in
-    omega (arith, ap (λ (l : List ℕ). length l) p1.least-k.ensures.a_value, length-take (length a.sent.now) a.out.now)
+    let a = c.args in
+    omega (arith, ap (λ (l : List ℕ). length l) c.least-k.ensures.a_value, length-take (length a.sent.now) a.out.now)
 
 pub returns : goal.returns
 unfolding burst_sent
 returns c =
-    let p1 = c in
-    let p2 = p1 in
-    rw (p1.copy_in.ensures, p2.least-k.ensures.a_value)
+    rw (c.copy_in.ensures, c.least-k.ensures.a_value)

@@ -7,10 +7,10 @@ use Rattle.box_calls.proofs.lent.Goals as goal
 
 pub returns-then-n-w : goal.returns-then-n-w
 returns-then-n-w c = record {
-      upper_bound = omega (arith, c.if-n-w.true);
-      value = sym (length-take-le _ _ (omega (arith, c.if-n-w.true)));
-      w_value = refl;
-    }
+  upper_bound = omega (arith, c.if-n-w.true);
+  value = sym (length-take-le _ _ (omega (arith, c.if-n-w.true)));
+  w_value = refl;
+}
 
 pub returns-else-n-w : goal.returns-else-n-w
 returns-else-n-w c =

@@ -8,15 +8,11 @@ use Rattle.box_calls.proofs.reply_line.Goals as goal
 pub returns-then-not-b : goal.returns-then-not-b
 unfolding long_ack_line
 returns-then-not-b c =
-    let p1 = c in
-    let b = p1.args.b in
+    let b = c.args.b in
     cond_no b.answered _ _ _ (not-true b.answered c.if-not-b.true) refl
 
 pub returns : goal.returns
 unfolding long_ack_line
 returns c =
-    let p1 = c in
-    let p2 = p1 in
-    let p3 = p2 in
-    let b = p3.args.b in
-    cond_yes b.answered _ _ _ (not-false b.answered p2.if-not-b.false) p1.as_long.ensures
+    let b = c.args.b in
+    cond_yes b.answered _ _ _ (not-false b.answered c.if-not-b.false) c.as_long.ensures

@@ -11,12 +11,8 @@ use Rattle.box_calls.proofs.take_in.Goals as goal
 pub returns : goal.returns
 unfolding taken_in
 returns c =
-    let p1 = c in
-    let p2 = p1 in
-    let p3 = p2 in
-    let p4 = p3 in
-    let q = p3.receiver_rx-q in
-    let a = p4.args in
+    let q = c.receiver_rx-q in
+    let a = c.args in
     let t : ℕ × List ℕ = (a.n, a.t.now) in
-    let words = ap (λ (l : List ℕ). appended t (received_line a.name.now q.result.answer l)) p2.least-k.ensures.a_value in
-    taken-said a.name.now a.heard a.b t q.ensures (p1.received-text.ensures ∙ words) c.after-next.ensures
+    let words = ap (λ (l : List ℕ). appended t (received_line a.name.now q.result.answer l)) c.least-k.ensures.a_value in
+    taken-said a.name.now a.heard a.b t q.ensures (c.received-text.ensures ∙ words) c.after-next.ensures
