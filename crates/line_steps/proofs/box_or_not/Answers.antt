@@ -1,6 +1,5 @@
 -- `box_or_not`: by whether the line is the box's. Assumes nothing.
 use mathlib.Core.Path.{refl}
-use borrow.Author.Tests.{not-true, not-false}
 use Rattle.laws.proofs.Picks.{cond_yes, cond_no, told-yes, told-no}
 use Rattle.line_steps.specs.LineSteps.{box_or_not}
 use Rattle.line_steps.proofs.box_or_not.Goals as goal

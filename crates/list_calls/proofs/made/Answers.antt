@@ -21,7 +21,8 @@ with-area {a = a} e d = ap {B = Left × List ℕ} (λ (n : Left). (n, a)) e ∙ 
 
 -- a line that is right makes its call
 module _ (p : Profile) (s : Station) (a : List ℕ) (q : AskLine) (bytes : List ℕ) where
-  asks : {z : Left × List ℕ} {x : Answer × List ℕ} → q.ok ≡ true → z ≡ answer_number x → x ≡ requested p s a q bytes → z ≡ made p s a q bytes
+  asks : {z : Left × List ℕ} {x : Answer × List ℕ} → q.ok ≡ true → z ≡ answer_number x
+      → x ≡ requested p s a q bytes → z ≡ made p s a q bytes
   unfolding made
   asks e g h = cond_yes _ _ _ _ e (g ∙ ap answer_number h)
 
