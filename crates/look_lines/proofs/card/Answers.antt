@@ -1,5 +1,4 @@
 -- `card`: by whether its line is right. Assumes nothing.
-use borrow.Author.Tests.{not-true, not-false}
 use Rattle.laws.proofs.Picks.{told-yes, told-no}
 use Rattle.look_lines.specs.Looks.{card_shown}
 use Rattle.look_lines.proofs.Laws.{card-said}

@@ -8,7 +8,7 @@ pub returns-then-not-q : goal.returns-then-not-q
 unfolding log_shown
 returns-then-not-q c =
     let w = c.link_words-q in
-    rw (← w.ensures.0, c.if-not-q.true, c.wrong.ensures)
+    rw (← w.ensures.value, not-true w.result.ok c.if-not-q.true, c.wrong.ensures)
 
 pub returns : goal.returns
 unfolding log_shown
@@ -17,8 +17,8 @@ returns c =
     let e = d in
     let w = e.link_words-q in
     rw (
-      ← w.ensures.0,
-      ← w.ensures.1,
+      ← w.ensures.value,
+      ← w.ensures.bytes_after,
       ← e.least-k.ensures.a_value,
-      e.if-not-q.false,
+      not-false w.result.ok e.if-not-q.false,
     ) (log-said _ d.log_link-logged.ensures c.log_text-text.ensures)
