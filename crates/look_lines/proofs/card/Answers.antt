@@ -11,5 +11,6 @@ returns-then-not-done c = rw (told-no _ _ c.done.ensures c.if-not-done.true, c.w
 pub returns : goal.returns
 unfolding card_shown
 returns c =
-    rw (told-yes _ _ c.done.ensures c.if-not-done.false)
-    (card-said _ c.write-refusal.ensures c.card_text-text.ensures)
+    let d = c in
+    rw (told-yes _ _ d.done.ensures d.if-not-done.false)
+    (card-said _ d.write-refusal.ensures c.card_text-text.ensures)

@@ -9,7 +9,7 @@ returns c =
     let l = c.least-len in
     let h = c.hex-file in
     let w = c.word-r in record {
-      value = rw (← w.ensures, ← h.ensures.0, ← h.ensures.1, ← l.ensures.1.1, ← c.done.ensures)
-          (loaded _ l.ensures.1.0 c.read-found.ensures);
-      bytes_after = rw (← w.ensures) h.ensures.1;
+      value = rw (← w.ensures, ← h.ensures.value, ← h.ensures.bytes_after, ← l.ensures.a_value, ← c.done.ensures)
+          (loaded _ l.ensures.value c.read-found.ensures);
+      bytes_after = rw (← w.ensures) h.ensures.bytes_after;
     }

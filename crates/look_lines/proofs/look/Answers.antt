@@ -12,27 +12,31 @@ returns-then-call-eq-STATE c = cond_yes _ _ _ _ (eq-eqb _ _ c.if-call-eq-STATE.t
 pub returns-then-call-eq-MESSAGES : goal.returns-then-call-eq-MESSAGES
 unfolding look_shown
 returns-then-call-eq-MESSAGES c =
-    cond_no _ _ _ _ (ne_eqb _ _ c.if-call-eq-STATE.false) (cond_yes _ _ _ _ (eq-eqb _ _ c.if-call-eq-MESSAGES.true) (kept c.messages.ensures))
+    let d = c in
+    cond_no _ _ _ _ (ne_eqb _ _ d.if-call-eq-STATE.false) (cond_yes _ _ _ _ (eq-eqb _ _ d.if-call-eq-MESSAGES.true) (kept c.messages.ensures))
 
 pub returns-then-call-eq-LEVELS : goal.returns-then-call-eq-LEVELS
 unfolding look_shown
 returns-then-call-eq-LEVELS c =
-    cond_no _ _ _ _ (ne_eqb _ _ c.if-call-eq-STATE.false)
-    (cond_no _ _ _ _ (ne_eqb _ _ c.if-call-eq-MESSAGES.false)
-    (cond_yes _ _ _ _ (eq-eqb _ _ c.if-call-eq-LEVELS.true) (kept c.levels.ensures)))
+    let d = c in
+    cond_no _ _ _ _ (ne_eqb _ _ d.if-call-eq-STATE.false)
+    (cond_no _ _ _ _ (ne_eqb _ _ d.if-call-eq-MESSAGES.false)
+    (cond_yes _ _ _ _ (eq-eqb _ _ d.if-call-eq-LEVELS.true) (kept c.levels.ensures)))
 
 pub returns-then-call-eq-CARD : goal.returns-then-call-eq-CARD
 unfolding look_shown
 returns-then-call-eq-CARD c =
-    cond_no _ _ _ _ (ne_eqb _ _ c.if-call-eq-STATE.false)
-    (cond_no _ _ _ _ (ne_eqb _ _ c.if-call-eq-MESSAGES.false)
-    (cond_no _ _ _ _ (ne_eqb _ _ c.if-call-eq-LEVELS.false)
-    (cond_yes _ _ _ _ (eq-eqb _ _ c.if-call-eq-CARD.true) c.card.ensures)))
+    let d = c in
+    cond_no _ _ _ _ (ne_eqb _ _ d.if-call-eq-STATE.false)
+    (cond_no _ _ _ _ (ne_eqb _ _ d.if-call-eq-MESSAGES.false)
+    (cond_no _ _ _ _ (ne_eqb _ _ d.if-call-eq-LEVELS.false)
+    (cond_yes _ _ _ _ (eq-eqb _ _ d.if-call-eq-CARD.true) c.card.ensures)))
 
 pub returns : goal.returns
 unfolding look_shown
 returns c =
-    cond_no _ _ _ _ (ne_eqb _ _ c.if-call-eq-STATE.false)
-    (cond_no _ _ _ _ (ne_eqb _ _ c.if-call-eq-MESSAGES.false)
-    (cond_no _ _ _ _ (ne_eqb _ _ c.if-call-eq-LEVELS.false)
-    (cond_no _ _ _ _ (ne_eqb _ _ c.if-call-eq-CARD.false) c.log.ensures)))
+    let d = c in
+    cond_no _ _ _ _ (ne_eqb _ _ d.if-call-eq-STATE.false)
+    (cond_no _ _ _ _ (ne_eqb _ _ d.if-call-eq-MESSAGES.false)
+    (cond_no _ _ _ _ (ne_eqb _ _ d.if-call-eq-LEVELS.false)
+    (cond_no _ _ _ _ (ne_eqb _ _ d.if-call-eq-CARD.false) c.log.ensures)))
