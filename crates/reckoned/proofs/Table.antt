@@ -3,7 +3,7 @@
 use mathlib.Core.Path.{◌≡◌, refl}
 use mathlib.Core.Bool.{true, false}
 use lib.Ieee.{Float, binary32, binary64, of_bits, add, mul, le, lt, is_nan}
-use mathlib.Core.List.{List, [], ◌∷◌}
+use mathlib.Core.List.{[], ◌∷◌}
 use Prim.Native.Nat.{ℕ, ◌+◌, ◌-◌, ◌*◌}
 use Rattle.laws.specs.Steps.{highest}
 use Rattle.float.specs.Pick.{min_f}
@@ -13,11 +13,9 @@ use Rattle.header.specs.Header.{air_code, user_bits, next_burst_id}
 use Rattle.harq.specs.Held.{above, smallest, up_to, increment_of, start_of, partial_field, check_bits, burst_check_bits}
 use Rattle.harq.specs.declared.Harq.{Harq}
 use Rattle.config.specs.Entries.{entry_at}
-use Rattle.config.specs.declared.Marks.{Marks}
-use Rattle.report.specs.declared.ChanClass.{ChanClass}
 use Rattle.levels.specs.Usable.{air_db, family_ok, enough, level_for}
 use Rattle.ledger.specs.Ledger.{split, merge_inflight}
-use Rattle.ledger.proofs.Examples.{spans, piece, P7, P8, P9}
+use Rattle.ledger.proofs.Examples.{spans, piece}
 
 -- "Rate ends 5760, 4320, 2880, 2160, 1920, 1728, mother 5760, slot 2880."
 abbrev pub codes : Harq

@@ -16,7 +16,7 @@ use Rattle.record.specs.declared.Link.{Link}
 use Rattle.record.specs.Airtime.{air_added}
 use Rattle.record.specs.Fresh.{fresh_link}
 use Rattle.outgoing.specs.declared.Frames.{Frames}
-use Rattle.outgoing.specs.Outgoing.{headed, td_ease_hz, airtime_of}
+use Rattle.outgoing.specs.Outgoing.{headed, airtime_of}
 use Rattle.refusals.specs.Refusals.{report_ok, time_ok}
 use Rattle.reckoned.proofs.Table.{codes}
 

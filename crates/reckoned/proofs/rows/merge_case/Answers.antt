@@ -1,5 +1,5 @@
 -- Each held offset has its hash.
-use Rattle.std.proofs.Common.{ℕ, rules, arith}
+use Rattle.std.proofs.Common.{ℕ, rules}
 use lib.ListN.{length-replicate}
 use Rattle.area.proofs.removal.Laws.{hashed-by}
 use Rattle.reckoned.proofs.rows.merge_case.Goals as goal

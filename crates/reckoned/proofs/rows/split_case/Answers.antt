@@ -1,5 +1,5 @@
 -- The piece's rows fit the table.
-use Rattle.std.proofs.Common.{rules, arith}
+use Rattle.std.proofs.Common.{rules}
 use Rattle.reckoned.proofs.Pieces.{few, ends}
 use Rattle.reckoned.proofs.rows.split_case.Goals as goal
 
