@@ -19,7 +19,7 @@ returns-then-not-a c =
     let d = c in
     let e = d in
     let w = d.length-a in
-    rw (← e.most_lent.ensures, ← w.ensures, c.if-not-a.true, c.failed.ensures)
+    rw (← e.most_lent.ensures, ← w.ensures, not-true w.result.ok c.if-not-a.true, c.failed.ensures)
 
 pub lent_text-text-requires : goal.lent_text-text-requires
 lent_text-text-requires c = tt
@@ -41,7 +41,7 @@ returns c =
     rw (
       ← g.most_lent.ensures,
       ← w.ensures,
-      e.if-not-a.false,
+      not-false w.result.ok e.if-not-a.false,
       c.lent.ensures,
       c.with_text.ensures,
     )

@@ -15,7 +15,7 @@ unfolding loads
 returns-then-not-q c =
     let d = c in
     let w = d.load_words-q in
-    rw (← w.ensures.0, c.if-not-q.true, c.failed.ensures)
+    rw (← w.ensures.value, not-true w.result.ok c.if-not-q.true, c.failed.ensures)
 
 pub answer-requires : goal.answer-requires
 answer-requires c = tt
@@ -32,8 +32,8 @@ returns-then-q-ne0 c =
     let g = f in
     let w = g.load_words-q in
     rw (
-      ← w.ensures.0,
-      f.if-not-q.false,
+      ← w.ensures.value,
+      not-false w.result.ok f.if-not-q.false,
       ne_eqb w.result.refusal 0 e.if-q-ne0.true,
       c.with_text.ensures,
     ) (refused-by _ d.answer.ensures)
@@ -54,9 +54,9 @@ returns c =
     let h = g in
     let w = h.load_words-q in
     rw (
-      ← w.ensures.0,
-      ← w.ensures.1,
+      ← w.ensures.value,
+      ← w.ensures.bytes_after,
       ← e.least-n.ensures.a_value,
-      g.if-not-q.false,
+      not-false w.result.ok g.if-not-q.false,
       eq-eqb w.result.refusal 0 f.if-q-ne0.false,
     ) d.take_file.ensures

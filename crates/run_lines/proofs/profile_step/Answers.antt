@@ -1,6 +1,6 @@
 -- `profile_step`: by whether the line is right, and by whether it is the last. Assumes nothing.
 use mathlib.Core.Path.{refl}
-use borrow.Author.Tests.{le-leb, lt-leb, not-false, not-true}
+use borrow.Author.Tests.{le-leb, lt-leb}
 use Rattle.laws.proofs.Picks.{cond_no, cond_yes, told-no, told-yes}
 use Rattle.run_lines.specs.RunLines.{next_line}
 use Rattle.run_lines.proofs.Laws.{pair}

@@ -9,6 +9,6 @@ clear-requires c = tt
 pub returns : goal.returns
 unfolding started
 returns c = record {
-      value = refl;
-      area_after = c.clear.ensures;
-    }
+  value = refl;
+  area_after = c.clear.ensures;
+}
