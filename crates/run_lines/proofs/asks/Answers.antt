@@ -18,5 +18,7 @@ to_ask-requires c = tt
 pub returns : goal.returns
 unfolding asks
 returns c =
-    pair (rw (← c.todo_of.ensures, ← c.least-n.ensures.a_value, ← c.least-n.ensures.value) c.to_ask.ensures)
-    c.keep.ensures
+    let d = c in
+    let e = d in
+    pair (rw (← c.todo_of.ensures, ← e.least-n.ensures.a_value, ← e.least-n.ensures.value) c.to_ask.ensures)
+    d.keep.ensures

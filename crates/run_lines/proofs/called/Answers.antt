@@ -10,7 +10,8 @@ lend-requires c = tt
 pub returns-then-n : goal.returns-then-n
 unfolding called
 returns-then-n c =
-    cond_yes _ _ _ _ c.if-n.true
+    let d = c in
+    cond_yes _ _ _ _ d.if-n.true
     (ap (line_kept _) c.lend.ensures)
 
 pub asks-after-requires : goal.asks-after-requires
@@ -22,5 +23,7 @@ size_after-requires c = tt
 pub returns : goal.returns
 unfolding called
 returns c =
-    cond_no _ _ _ _ c.if-n.false
-    (rw (← c.size_after.ensures) (ap (sized _ _) c.asks-after.ensures))
+    let d = c in
+    let e = d in
+    cond_no _ _ _ _ e.if-n.false
+    (rw (← c.size_after.ensures) (ap (sized _ _) d.asks-after.ensures))

@@ -11,7 +11,8 @@ end-requires c = tt
 pub returns-then-run-eq-LINES : goal.returns-then-run-eq-LINES
 unfolding ended
 returns-then-run-eq-LINES c =
-    cond_yes _ _ _ _ (eq-eqb _ _ c.if-run-eq-LINES.true)
+    let d = c in
+    cond_yes _ _ _ _ (eq-eqb _ _ d.if-run-eq-LINES.true)
     c.end.ensures
 
 pub returns : goal.returns

@@ -14,4 +14,5 @@ is_load-requires c = tt
 pub returns : goal.returns
 unfolding is_box
 returns c =
-    rw (← c.call_of-n.ensures, ← c.is_call.ensures, ← c.is_load.ensures)
+    let d = c in
+    rw (← d.call_of-n.ensures, ← c.is_call.ensures, ← c.is_load.ensures)

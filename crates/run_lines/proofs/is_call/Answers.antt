@@ -14,4 +14,5 @@ done-requires c = tt
 pub returns : goal.returns
 unfolding is_call
 returns c =
-    rw (← c.word-r.ensures, ← c.passed_over.ensures, ← c.done.ensures)
+    let d = c in
+    rw (← d.word-r.ensures, ← c.passed_over.ensures, ← c.done.ensures)

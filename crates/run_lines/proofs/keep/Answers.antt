@@ -5,8 +5,11 @@ use Rattle.run_lines.proofs.keep.Goals as goal
 
 pub copy_in-requires : goal.copy_in-requires
 copy_in-requires c =
-    rw c.least-n.ensures.a_value (omega (arith, cut_fits c.args.file.now c.args.bytes.now))
+    let d = c in
+    let s = d in
+    rw c.least-n.ensures.a_value (omega (arith, cut_fits s.args.file.now s.args.bytes.now))
 
 pub returns : goal.returns
 returns c =
-    rw (← over-cut, ← c.least-n.ensures.a_value) c.copy_in.ensures
+    let d = c in
+    rw (← over-cut, ← d.least-n.ensures.a_value) c.copy_in.ensures

@@ -1,4 +1,5 @@
 -- `lend`: by whether its line is right. Assumes nothing.
+use borrow.Author.Tests.{not-false, not-true}
 use Rattle.run_lines.specs.RunLines.{lends}
 use Rattle.run_lines.proofs.Laws.{lent_by}
 use Rattle.run_lines.proofs.lend.Goals as goal
@@ -15,8 +16,10 @@ failed-requires c = tt
 pub returns-then-not-a : goal.returns-then-not-a
 unfolding lends
 returns-then-not-a c =
-    let w = c.length-a in
-    rw (← c.most_lent.ensures, ← w.ensures, c.if-not-a.true, c.failed.ensures)
+    let d = c in
+    let e = d in
+    let w = d.length-a in
+    rw (← e.most_lent.ensures, ← w.ensures, not-true w.result.ok c.if-not-a.true, c.failed.ensures)
 
 pub lent_text-text-requires : goal.lent_text-text-requires
 lent_text-text-requires c = tt
@@ -30,12 +33,16 @@ lent-requires c = tt
 pub returns : goal.returns
 unfolding lends
 returns c =
-    let w = c.length-a in
+    let d = c in
+    let e = d in
+    let f = e in
+    let g = f in
+    let w = f.length-a in
     rw (
-      ← c.most_lent.ensures,
+      ← g.most_lent.ensures,
       ← w.ensures,
-      c.if-not-a.false,
+      not-false w.result.ok e.if-not-a.false,
       c.lent.ensures,
       c.with_text.ensures,
     )
-    (lent_by _ _ _ c.lent_text-text.ensures)
+    (lent_by _ _ _ d.lent_text-text.ensures)

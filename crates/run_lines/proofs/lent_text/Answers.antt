@@ -12,11 +12,13 @@ answer-requires c = tt
 pub returns-then-call-eq-AREA : goal.returns-then-call-eq-AREA
 unfolding lent_text
 returns-then-call-eq-AREA c =
+    let d = c in
     told (appends c.answer.ensures)
-    (cond_yes _ _ _ _ (eq-eqb _ _ c.if-call-eq-AREA.true) refl)
+    (cond_yes _ _ _ _ (eq-eqb _ _ d.if-call-eq-AREA.true) refl)
 
 pub returns : goal.returns
 unfolding lent_text
 returns c =
+    let d = c in
     told (appends c.answer-2.ensures)
-    (cond_no _ _ _ _ (ne_eqb _ _ c.if-call-eq-AREA.false) refl)
+    (cond_no _ _ _ _ (ne_eqb _ _ d.if-call-eq-AREA.false) refl)

@@ -9,7 +9,7 @@ load-requires c = tt
 
 pub returns : goal.returns
 returns c =
-    record {
-      value = rw (← c.profile_of.ensures) c.load.ensures.value;
+    let d = c in record {
+      value = rw (← d.profile_of.ensures) c.load.ensures.value;
       bytes_after = c.load.ensures.bytes_after;
     }

@@ -12,4 +12,5 @@ loaded-requires c = tt
 pub returns : goal.returns
 unfolding loaded
 returns c =
-    loaded-by _ c.start-after.ensures.value c.start-after.ensures.area_after c.loaded.ensures
+    let d = c in
+    loaded-by _ d.start-after.ensures.value d.start-after.ensures.area_after c.loaded.ensures

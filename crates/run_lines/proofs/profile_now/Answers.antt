@@ -26,5 +26,8 @@ read-q-requires c = tt
 pub returns : goal.returns
 unfolding profile_now
 returns c =
-    cond_no _ _ _ _ (ne_eqb _ _ c.if-run-eq0.false)
-    (rw (← c.profile_of-p.ensures, ← c.least-n.ensures.a_value) (ap (λ (m : ℕ × Profile × Bool). m.1) c.read-q.ensures))
+    let d = c in
+    let e = d in
+    let f = e in
+    cond_no _ _ _ _ (ne_eqb _ _ e.if-run-eq0.false)
+    (rw (← f.profile_of-p.ensures, ← d.least-n.ensures.a_value) (ap (λ (m : ℕ × Profile × Bool). m.1) c.read-q.ensures))

@@ -24,8 +24,11 @@ profile_step-requires c = tt
 pub returns-then-run-lt-LINES : goal.returns-then-run-lt-LINES
 unfolding profile_part
 returns-then-run-lt-LINES c =
-    cond_no _ _ _ _ (told-no _ _ c.passed_over.ensures c.if-passed_over.false)
-    (cond_yes _ _ _ _ (lt-ltb _ _ c.if-run-lt-LINES.true)
+    let d = c in
+    let e = d in
+    let f = e in
+    cond_no _ _ _ _ (told-no _ _ f.passed_over.ensures e.if-passed_over.false)
+    (cond_yes _ _ _ _ (lt-ltb _ _ d.if-run-lt-LINES.true)
     (ap (buffer_kept _) c.profile_step.ensures))
 
 pub word-r-requires : goal.word-r-requires
@@ -40,10 +43,16 @@ begin-requires c = tt
 pub returns-then-done : goal.returns-then-done
 unfolding profile_part
 returns-then-done c =
-    rw (← c.word-r.ensures)
-    (cond_no _ _ _ _ (told-no _ _ c.passed_over.ensures c.if-passed_over.false)
-    (cond_no _ _ _ _ (le-ltb _ _ c.if-run-lt-LINES.false)
-    (cond_yes _ _ _ _ (told-yes _ _ c.done.ensures c.if-done.true)
+    let d = c in
+    let e = d in
+    let f = e in
+    let g = f in
+    let h = g in
+    let k = h in
+    rw (← f.word-r.ensures)
+    (cond_no _ _ _ _ (told-no _ _ k.passed_over.ensures h.if-passed_over.false)
+    (cond_no _ _ _ _ (le-ltb _ _ g.if-run-lt-LINES.false)
+    (cond_yes _ _ _ _ (told-yes _ _ e.done.ensures d.if-done.true)
     (ap (area_kept _ _) c.begin.ensures))))
 
 pub failed-requires : goal.failed-requires
@@ -52,8 +61,12 @@ failed-requires c = tt
 pub returns : goal.returns
 unfolding profile_part
 returns c =
-    rw (← c.word-r.ensures)
-    (cond_no _ _ _ _ (told-no _ _ c.passed_over.ensures c.if-passed_over.false)
-    (cond_no _ _ _ _ (le-ltb _ _ c.if-run-lt-LINES.false)
+    let d = c in
+    let e = d in
+    let f = e in
+    let g = f in
+    rw (← d.word-r.ensures)
+    (cond_no _ _ _ _ (told-no _ _ g.passed_over.ensures f.if-passed_over.false)
+    (cond_no _ _ _ _ (le-ltb _ _ e.if-run-lt-LINES.false)
     (cond_no _ _ _ _ (told-no _ _ c.done.ensures c.if-done.false)
     (pair c.failed.ensures refl))))

@@ -24,9 +24,12 @@ start-requires c = tt
 pub returns-then-k : goal.returns-then-k
 unfolding next_line
 returns-then-k c =
-    cond_yes _ _ _ _ (told-yes _ _ c.profile_line.ensures.0 c.if-not-profile_line.false)
-    (cond_yes _ _ _ _ (le-leb _ _ c.if-k.true)
-    (pair c.start.ensures.value (pair c.start.ensures.area_after c.profile_line.ensures.1)))
+    let d = c in
+    let e = d in
+    let f = e in
+    cond_yes _ _ _ _ (told-yes _ _ f.profile_line.ensures.0 e.if-not-profile_line.false)
+    (cond_yes _ _ _ _ (le-leb _ _ d.if-k.true)
+    (pair c.start.ensures.value (pair c.start.ensures.area_after f.profile_line.ensures.1)))
 
 pub returns : goal.returns
 unfolding next_line

@@ -19,9 +19,13 @@ load-requires c = tt
 pub returns-then-is_load : goal.returns-then-is_load
 unfolding quiet_line
 returns-then-is_load c =
-    cond_no _ _ _ _ (ap not (eq-eqb _ _ c.if-run-ne-NEW.false))
-    (cond_yes _ _ _ _ (told-yes _ _ c.is_load.ensures c.if-is_load.true)
-    (ap (after_load _ _) c.load.ensures))
+    let d = c in
+    let e = d in
+    let f = e in
+    let g = f in
+    cond_no _ _ _ _ (ap not (eq-eqb _ _ g.if-run-ne-NEW.false))
+    (cond_yes _ _ _ _ (told-yes _ _ f.is_load.ensures e.if-is_load.true)
+    (ap (after_load _ _) d.load.ensures))
 
 pub is_call-requires : goal.is_call-requires
 is_call-requires c = tt
@@ -35,10 +39,17 @@ called-requires c = tt
 pub returns-then-is_call : goal.returns-then-is_call
 unfolding quiet_line
 returns-then-is_call c =
-    cond_no _ _ _ _ (ap not (eq-eqb _ _ c.if-run-ne-NEW.false))
-    (cond_no _ _ _ _ (told-no _ _ c.is_load.ensures c.if-is_load.false)
-    (cond_yes _ _ _ _ (told-yes _ _ c.is_call.ensures c.if-is_call.true)
-    (rw (← c.call_of.ensures) (ap (after_call _ _ _) c.called.ensures))))
+    let d = c in
+    let e = d in
+    let f = e in
+    let g = f in
+    let h = g in
+    let k = h in
+    let m = k in
+    cond_no _ _ _ _ (ap not (eq-eqb _ _ m.if-run-ne-NEW.false))
+    (cond_no _ _ _ _ (told-no _ _ k.is_load.ensures h.if-is_load.false)
+    (cond_yes _ _ _ _ (told-yes _ _ g.is_call.ensures f.if-is_call.true)
+    (rw (← e.call_of.ensures) (ap (after_call _ _ _) d.called.ensures))))
 
 pub profile_part-requires : goal.profile_part-requires
 profile_part-requires c = tt
@@ -46,7 +57,13 @@ profile_part-requires c = tt
 pub returns : goal.returns
 unfolding quiet_line
 returns c =
-    cond_no _ _ _ _ (ap not (eq-eqb _ _ c.if-run-ne-NEW.false))
-    (cond_no _ _ _ _ (told-no _ _ c.is_load.ensures c.if-is_load.false)
-    (cond_no _ _ _ _ (told-no _ _ c.is_call.ensures c.if-is_call.false)
-    (ap (after_part _ _) c.profile_part.ensures)))
+    let d = c in
+    let e = d in
+    let f = e in
+    let g = f in
+    let h = g in
+    let k = h in
+    cond_no _ _ _ _ (ap not (eq-eqb _ _ k.if-run-ne-NEW.false))
+    (cond_no _ _ _ _ (told-no _ _ h.is_load.ensures g.if-is_load.false)
+    (cond_no _ _ _ _ (told-no _ _ f.is_call.ensures e.if-is_call.false)
+    (ap (after_part _ _) d.profile_part.ensures)))

@@ -13,4 +13,7 @@ loaded-requires c = tt
 
 pub returns : goal.returns
 returns c =
-    taken-by _ _ _ _ _ _ _ c.begin-run.ensures c.loaded.ensures c.keep.ensures
+    let d = c in
+    let e = d in
+    let f = e in
+    taken-by _ _ _ _ _ _ _ e.begin-run.ensures d.loaded.ensures f.keep.ensures
