@@ -10,8 +10,6 @@ use Rattle.laws.proofs.Picks.{by}
 use Rattle.config.specs.declared.Profile.{Profile}
 use Rattle.queuing.specs.Station.{with_sender, with_messages}
 use Rattle.queuing.specs.declared.Station.{Station}
-use Rattle.record.specs.declared.Sender.{Sender}
-use Rattle.messages.specs.declared.Messages.{Messages}
 use Rattle.replies.specs.declared.Heard.{Heard}
 use Rattle.reception.specs.declared.Reception.{Reception}
 use Rattle.replies.specs.declared.ConnAck.{ConnAck}
