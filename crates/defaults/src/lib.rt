@@ -34,7 +34,7 @@ fn new_air() -> Air
     let pre_s = PRE_S;
     let rate = RATE;
     let ack_s = ACK_S;
-    let max_bits = [0x_f_f_f_f_f_f_f_fu32; 17];
+    let max_bits = [0xFFFFFFFFu32; 17];
     Air {
         slot_bits,
         pre_s,
