@@ -1,5 +1,5 @@
 #!/bin/sh
-# The tools do what they say, over small repositories made here: check-contracts, believed, prove.
+# The tools do what they say, over small repositories made here: check-contracts, believed, prove, check-edits.
 #
 # tools/check-contracts notices what it is there for: in copies of the sources, a removed ensures (of a function, a method, an exported
 # function with its signature over several lines) and an added requires are each reported; a requires where one may stand, and a
@@ -220,5 +220,35 @@ LOG=$work/asked BAD=c PATH="$repo/bin:$PATH" "$repo/tools/prove" e 2>"$work/said
 status=0
 "$repo/tools/prove" g 2>/dev/null || status=$?
 [ $status -eq 2 ] || { echo "prove: a crate that is not there"; exit 1; }
-tried=$((tried + 6))
+rm -r "$repo/target"
+: >"$work/asked"
+LOG=$work/asked BAD=none PATH="$repo/bin:$PATH" "$repo/tools/prove" f e b 2>/dev/null
+[ "$(grep -c '^begin' "$work/asked")" -eq 6 ] && [ -f "$repo/target/bin/e" ] && [ -f "$repo/target/staticlib/libf.a" ] || { cat "$work/asked"; echo "prove: three names"; exit 1; }
+tried=$((tried + 7))
+
+# tools/check-edits tries an edit of several whole, then the parts of what was not refused for itself: here `n::h`, which calls `n::f`. The check is a script again.
+cp tools/check-edits "$repo/tools/"
+mkdir "$repo/crates/a/must-fail"
+printf 'f = 1\ng = 2\nh = 3\n' >"$repo/crates/a/src/lib.rt"
+cat >"$repo/bin/rt" <<'END'
+#!/bin/sh
+[ "$1" = check ] || exit 0
+! grep -q 'f = 9' src/lib.rt || echo "fn a::n::f: not proved: what it answers"
+! grep -q 'g = 9' src/lib.rt || echo "./proofs/Laws.antt:1:2 error: \`g-is\`: no"
+! grep -q 'h = 9' src/lib.rt || if grep -q 'f = 9' src/lib.rt; then echo "fn a::n::h: not proved: it calls n::f, which is not proved"; else echo "fn a::n::h: no proof"; fi
+END
+edit_of_three() {
+    printf 'refuses: %s\n\nof_f\nfile: src/lib.rt\nold: f = 1\nnew: f = 9\n\nof_g\nfile: src/lib.rt\nold: g = 2\nnew: g = 9\n\nof_h\nfile: src/lib.rt\nold: h = 3\nnew: h = %s\n' "$1" "$2" >"$repo/crates/a/must-fail/three.edit"
+    status=0
+    PATH="$repo/bin:$PATH" "$repo/tools/check-edits" a >"$work/said" 2>&1 || status=$?
+}
+edit_of_three 'n::f Laws/g-is n::h' 9
+[ $status -eq 0 ] && grep -q '^check-edits: 3 functions and laws refused by edits of several, 0 not$' "$work/said" || { cat "$work/said"; echo "check-edits: three are refused"; exit 1; }
+edit_of_three 'n::f Laws/g-is n::h' 4
+[ $status -eq 1 ] && grep -q '^crates/a/must-fail/three.edit: n::h is not refused$' "$work/said" && grep -q ' 2 functions .* 1 not$' "$work/said" ||
+    { cat "$work/said"; echo "check-edits: one is not refused"; exit 1; }
+edit_of_three 'n::f Laws/f-is' 9
+[ $status -eq 1 ] && grep -q 'Laws/f-is is not refused$' "$work/said" || { cat "$work/said"; echo "check-edits: a law that no edit breaks"; exit 1; }
+[ "$(cat "$repo/crates/a/src/lib.rt")" = "$(printf 'f = 1\ng = 2\nh = 3')" ] || { echo "check-edits: it changed the crate"; exit 1; }
+tried=$((tried + 4))
 echo "$tried cases"
