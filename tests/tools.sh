@@ -249,6 +249,10 @@ edit_of_three 'n::f Laws/g-is n::h' 4
     { cat "$work/said"; echo "check-edits: one is not refused"; exit 1; }
 edit_of_three 'n::f Laws/f-is' 9
 [ $status -eq 1 ] && grep -q 'Laws/f-is is not refused$' "$work/said" || { cat "$work/said"; echo "check-edits: a law that no edit breaks"; exit 1; }
+edit_of_three 'n::f n::h n::h' 9
+[ $status -eq 1 ] && grep -q ' 2 functions .* 1 not$' "$work/said" || { cat "$work/said"; echo "check-edits: one part alone breaks what is named twice"; exit 1; }
+sed -i 's/^new: g = 9$/new: h = 9/' "$repo/crates/a/must-fail/three.edit"
+PATH="$repo/bin:$PATH" "$repo/tools/check-edits" a >"$work/said" 2>&1 || { cat "$work/said"; echo "check-edits: two parts break what is named twice"; exit 1; }
 [ "$(cat "$repo/crates/a/src/lib.rt")" = "$(printf 'f = 1\ng = 2\nh = 3')" ] || { echo "check-edits: it changed the crate"; exit 1; }
-tried=$((tried + 4))
+tried=$((tried + 6))
 echo "$tried cases"
