@@ -254,5 +254,17 @@ edit_of_three 'n::f n::h n::h' 9
 sed -i 's/^new: g = 9$/new: h = 9/' "$repo/crates/a/must-fail/three.edit"
 PATH="$repo/bin:$PATH" "$repo/tools/check-edits" a >"$work/said" 2>&1 || { cat "$work/said"; echo "check-edits: two parts break what is named twice"; exit 1; }
 [ "$(cat "$repo/crates/a/src/lib.rt")" = "$(printf 'f = 1\ng = 2\nh = 3')" ] || { echo "check-edits: it changed the crate"; exit 1; }
-tried=$((tried + 6))
+# The same where each part names what it breaks: n::f and n::h fall in two checks, a name of another part's stays not refused, and a name twice needs both of its parts.
+edit_by_parts() {
+    printf 'of_f\nrefuses: n::f\nfile: src/lib.rt\nold: f = 1\nnew: f = 9\n\nof_g_and_h\nrefuses: %s\nfile: src/lib.rt\nold: g = 2\nnew: g = 9\nold: h = 3\nnew: h = %s\n' "$1" "$2" >"$repo/crates/a/must-fail/three.edit"
+    status=0
+    PATH="$repo/bin:$PATH" "$repo/tools/check-edits" a >"$work/said" 2>&1 || status=$?
+}
+edit_by_parts 'Laws/g-is n::h' 9
+[ $status -eq 0 ] && grep -q '^check-edits: 3 functions and laws refused by edits of several, 0 not$' "$work/said" || { cat "$work/said"; echo "check-edits: three are refused by their parts"; exit 1; }
+edit_by_parts 'Laws/g-is n::h' 4
+[ $status -eq 1 ] && grep -q ': n::h is not refused$' "$work/said" || { cat "$work/said"; echo "check-edits: a part does not break what it names"; exit 1; }
+edit_by_parts 'Laws/g-is n::f' 9
+[ $status -eq 1 ] && grep -q ' 2 functions .* 1 not$' "$work/said" || { cat "$work/said"; echo "check-edits: two parts name what one breaks"; exit 1; }
+tried=$((tried + 9))
 echo "$tried cases"
