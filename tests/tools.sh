@@ -35,6 +35,11 @@ tries 'lib.rt:4 Gear::a: no ensures' level 'impl Gear {\n    // ensures { }\n   
 tries 'lib.rt:2 vanitycrow_a: no ensures' station '#[unsafe(no_mangle)]\npub extern "C" fn vanitycrow_a(\n    p: &Profile,\n    s: &mut Sender,\n) -> u8\n{\n    0\n}\n'
 tries 'lib.rt:1 a: an entry point with a requires' station 'pub fn a(x: u8) -> u8\n    requires { x < 2 }\n    ensures { result ≡ x }\n{\n    x\n}\n'
 tries none level 'pub fn a(x: u8) -> u8\n    requires { x < 2 }\n    ensures { result ≡ x }\n{\n    x\n}\n'
+tries 'lib.rt:2 Half::half: no ensures' level 'pub trait Half {\n    fn half(self) -> Self;\n}\n'
+tries none level 'trait Half {\n    fn half(self) -> Self;\n}\n'
+tries none level 'pub trait Half {\n    fn half(self) -> Self\n        ensures { result ≡ self };\n}\n\nimpl Half for u8 {\n    fn half(self) -> u8 {\n        self\n    }\n}\n'
+tries 'lib.rt:2 u8::from: no ensures' level 'impl From<Gear> for u8 {\n    fn from(g: Gear) -> u8 {\n        0\n    }\n}\n'
+tries none level 'impl From<Gear> for u8 {\n    ghost from_gives = { λ g n. n ≡ 0 };\n\n    fn from(g: Gear) -> u8 {\n        0\n    }\n}\n'
 
 # Of the sources as they stand: each public function of the calls, with its ensures taken out
 for source in crates/sender/src/lib.rt crates/station/src/lib.rt; do

@@ -47,11 +47,12 @@ def blank_comments(text):
 
 
 class Function:
-    """A function of an .rt source: its name (Type::name in an impl), line, how public it is, signature, and its clauses."""
+    """A function of an .rt source: its name (Type::name in an impl, Trait::name in a trait), line, how public it is, signature, its clauses, and in an impl
+    of a trait the trait's name and whether the impl gives a ghost member NAME_gives, which stands for the clauses of a trait of std."""
 
-    def __init__(self, path, name, line, public, extern, signature, clauses):
+    def __init__(self, path, name, line, public, extern, signature, clauses, trait=None, gives=False):
         self.path, self.name, self.line, self.public, self.extern = path, name, line, public, extern
-        self.signature, self.clauses = signature, clauses
+        self.signature, self.clauses, self.trait, self.gives = signature, clauses, trait, gives
 
     def has(self, word):
         return any(w == word for w, _ in self.clauses)
@@ -59,6 +60,7 @@ class Function:
 
 FN = re.compile(r'(?P<pub>\bpub\s*(?P<scope>\([^)]*\))?\s+)?(?P<mods>(?:(?:const|unsafe|ghost|extern\s*"[^"]*")\s+)*)\bfn\s+(?P<name>[A-Za-z_0-9]+)')
 IMPL = re.compile(r'^\s*impl\b[^{;]*\{', re.M)
+TRAIT = re.compile(r'^\s*(?P<pub>pub\s+)?(?:pub\s*\([^)]*\)\s*)?trait\s+(?P<name>\w+)[^{;]*\{', re.M)
 
 
 def functions(path):
@@ -68,7 +70,12 @@ def functions(path):
     for m in IMPL.finditer(text):
         head = text[m.start():m.end() - 1]
         kind = re.sub(r'<[^>]*>', '', head).split(' for ')[-1].replace('impl', '').strip()
-        impls.append((m.end() - 1, closing(text, m.end() - 1), kind, ' for ' in head))
+        end = closing(text, m.end() - 1)
+        trait = re.search(r'(\w+)(?:<[^{]*>)?\s+for\s', head)
+        gives = bool(re.search(r'\bghost \w+_gives\b', text[m.end():end]))
+        impls.append((m.end() - 1, end, kind, ' for ' in head, trait and trait.group(1), gives))
+    for m in TRAIT.finditer(text):
+        impls.append((m.end() - 1, closing(text, m.end() - 1), m.group('name'), bool(m.group('pub')), None, False))
     found = []
     for m in FN.finditer(text):
         at = m.end()
@@ -99,7 +106,7 @@ def functions(path):
         name = (inside[-1][2] + '::' if inside else '') + m.group('name')
         public = bool(m.group('pub')) and not m.group('scope') or bool(inside and inside[-1][3])
         found.append(Function(path, name, text.count('\n', 0, m.start('name')) + 1, public, 'extern' in m.group('mods'),
-                              text[m.start():signature_end], clauses))
+                              text[m.start():signature_end], clauses, *(inside[-1][4:] if inside else ())))
     return found
 
 
