@@ -19,7 +19,7 @@ extern "C" {
 #endif
 
 /* The version of this interface (CHANGELOG.md). */
-#define VANITYCROW_VERSION "0.14.3"
+#define VANITYCROW_VERSION "0.14.4"
 #define VANITYCROW_VERSION_MAJOR 0
 #define VANITYCROW_VERSION_MINOR 14
 #define VANITYCROW_VERSION_PATCH 3

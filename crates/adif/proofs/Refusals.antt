@@ -8,8 +8,11 @@ use native.Mathlib.Omega.{arith}
 use borrow.Author.Tests.{eq-eqb, ne_eqb, ltb-false}
 use lib.ListN.{length}
 use Rattle.calendar.specs.Calendar.{last_second}
-use Rattle.adif.specs.Adif.{sign_ok, refusal_of, record_of, log_of}
-use Rattle.adif.specs.AdifCode.{Put}
+use Rattle.adif.specs.Adif.{sign_ok, refusal_of, number_of, record_of, log_of}
+use Rattle.adif.specs.AdifCode.{Put, answer_of}
+use Rattle.adif.specs.declared.Refusal.{Refusal}
+use Rattle.adif.specs.declared.Refusal.TheVariants.{CallSign, Times, ShortOutput}
+use Rattle.std.specs.Prelude.{Ok, Err}
 use Rattle.adif.proofs.Steps.{sign-length}
 
 no : (b : Bool) (x y : ℕ) → cond b (suc x) y ≡ 0 → (b ≡ false) × (y ≡ 0)
@@ -49,14 +52,19 @@ accepted call on off room z =
       fits = ltb-false _ _ r.0;
     }
 
-module _ (call : List ℕ) (on off acked : ℕ) (out : List ℕ) (r : ℕ) (is : r ≡ refusal_of call on off (length out)) where
-  pub log-refused : (r ≡ 0 → ⊥) → (record { refusal = r; len = 0 }, out) ≡ log_of call on off acked out
-  unfolding log_of
-  log-refused h = rw (is, ne_eqb (refusal_of call on off (length out)) 0 (λ z. h (is ∙ z)))
+number-some : (r : Refusal) → number_of r ≡ 0 → ⊥
+number-some CallSign e = omega arith
+number-some Times e = omega arith
+number-some ShortOutput e = omega arith
 
-  pub log-made : r ≡ 0 → (n : ℕ) (o : List ℕ) → Put out 0 (record_of call on off acked) o n
-      → (record { refusal = 0; len = n }, o) ≡ log_of call on off acked out
+module _ (call : List ℕ) (on off acked : ℕ) (out : List ℕ) where
+  pub log-refused : (r : Refusal) → number_of r ≡ refusal_of call on off (length out) → (answer_of (Err r), out) ≡ log_of call on off acked out
+  unfolding log_of
+  log-refused r is = rw (is, ne_eqb (refusal_of call on off (length out)) 0 (λ z. number-some r (is ∙ z)))
+
+  pub log-made : 0 ≡ refusal_of call on off (length out) → (n : ℕ) (o : List ℕ) → Put out 0 (record_of call on off acked) o n
+      → (answer_of (Ok n), o) ≡ log_of call on off acked out
   unfolding log_of
   log-made h n o p =
       let e : n ≡ length (record_of call on off acked) = omega (arith, p.1) in
-      rw (eq-eqb (refusal_of call on off (length out)) 0 (sym is ∙ h), p.0, e)
+      rw (eq-eqb (refusal_of call on off (length out)) 0 (sym h), p.0, e)

@@ -2,21 +2,22 @@
 -- Assumes nothing.
 use Prim.Native.Nat.{ℕ, zero, suc, ◌+◌, ◌-◌, ◌/◌, ◌%◌, ◌≤◌, ◌<◌}
 use mathlib.Core.Path.{◌≡◌, refl, sym, ap, ◌∙◌}
-use mathlib.Core.Bool.{Bool, true, false}
+use mathlib.Core.Bool.{Bool, true, false, ◌&&◌}
 use mathlib.Core.List.{List, [], ◌∷◌, ◌++◌, append_assoc, append-nil}
 use native.Mathlib.Omega.{arith}
 use borrow.Author.Tests.{lt-ltb, le-ltb, le-leb, lt-leb, leb-true}
 use lib.Dec.{ltb, leb}
-use lib.ListN.{length, get_or, set, take, length-append, drop_of_length-le}
+use lib.ListN.{length, get_or, set, take, drop, length-append, drop_of_length-le}
 use Rattle.laws.specs.Bytes.{overwrite}
 use Rattle.laws.proofs.Bytes.{over-nil, over-cat, over-front, set-over, over-eq}
-use Rattle.laws.specs.Span.{every, upto}
-use Rattle.laws.proofs.Span.{every-pass, every-fail, every-end}
+use Rattle.laws.specs.Span.{every, upto, from}
+use Rattle.std.specs.List.{list_all}
 use Rattle.laws.proofs.Picks.{by, and_first, and_second}
 use Rattle.calendar.specs.declared.Date.{Date}
 use Rattle.calendar.specs.declared.Time.{Time}
 use Rattle.calendar.specs.Calendar.{date_of, time_of}
-use lib.Seq.{take_at}
+use lib.Seq.{take_at, drop-cons}
+use native.Mathlib.Numerals.{add-one}
 use Rattle.adif.specs.Adif.{«CALL», QSO_DATE, TIME_ON, QSO_DATE_OFF, TIME_OFF, APP_STATION_ACKED}
 use Rattle.adif.specs.Adif.{last_digits, digit_count, numeral, date_text, time_text, written, written_all, record_of, sign_char, sign_ok}
 use Rattle.adif.specs.AdifCode.{Put, moment}
@@ -38,9 +39,9 @@ module _ (k r z : ℕ) (inv : z ≡ (k - 1) + digit_count (10 - k) r) (from : 1 
       let e : digit_count (10 - k) r ≡ suc (digit_count (10 - (k + 1)) (r / 10)) = ap (λ (x : ℕ). digit_count x r) j ∙ rw (le-ltb r 10 l) in
       omega arith
 
-  pub count-last : 10 ≤ k → k ≤ 10 → k ≡ z
+  pub count-last : k ≡ 10 → 10 ≡ z
   unfolding digit_count
-  count-last h l =
+  count-last h =
       let j : 10 - k ≡ 0 = omega arith in
       let e : digit_count (10 - k) r ≡ 1 = ap (λ (x : ℕ). digit_count x r) j in
       omega arith
@@ -205,31 +206,30 @@ module _ (call : List ℕ) (on off acked : ℕ) where
 
 -- ---- the call sign
 
-pub sign-short : (s : List ℕ) → length s < 1 → false ≡ sign_ok s
-unfolding sign_ok
-sign-short s h = simp (lt-leb 1 (length s) h)
+-- a test at every place of a list is the test of all that stands there
+listed-from : (t : ℕ → Bool) (s : List ℕ) (a m : ℕ) → a + m ≡ length s → every (λ i. t (get_or s i 0)) (from a m) ≡ list_all t (drop a s)
+unfolding from every
+listed-from t s a zero e = sym (ap (list_all t) (drop_of_length-le s {i = a} (omega arith)))
+listed-from t s a (suc m) e =
+    ap (λ (b : Bool). t (get_or s a 0) && b) (listed-from t s (a + 1) m (omega arith))
+    ∙ sym (ap (list_all t) (drop-cons s a 0 (omega arith) ∙ ap (λ (i : ℕ). get_or s a 0 ∷ drop i s) (sym (add-one a))))
 
-pub sign-long : (s : List ℕ) → 12 < length s → false ≡ sign_ok s
-unfolding sign_ok
-sign-long s h = simp (le-leb 1 (length s) (omega arith), lt-leb (length s) 12 h)
+every-listed : (t : ℕ → Bool) (s : List ℕ) → every (λ i. t (get_or s i 0)) (upto 0 (length s)) ≡ list_all t s
+unfolding upto
+every-listed t s = listed-from t s 0 (length s - 0) (omega arith)
 
--- the test of the characters from place i on
-abbrev pub sign_from : List ℕ → ℕ → Bool
-sign_from s i = every (λ j. sign_char (get_or s j 0)) (upto i (length s))
+module _ (s : List ℕ) where
+  pub sign-none : length s ≡ 0 → false ≡ sign_ok s
+  unfolding sign_ok
+  sign-none h = simp (lt-leb 1 (length s) (omega arith))
 
-pub sign-start : (s : List ℕ) → 1 ≤ length s → length s ≤ 12 → sign_ok s ≡ sign_from s 0
-unfolding sign_ok
-sign-start s h l = simp (le-leb 1 (length s) h, le-leb (length s) 12 l)
+  pub sign-long : 12 < length s → false ≡ sign_ok s
+  unfolding sign_ok
+  sign-long h = simp (le-leb 1 (length s) (omega arith), lt-leb (length s) 12 h)
 
-module _ (s : List ℕ) (i : ℕ) (inv : sign_ok s ≡ sign_from s i) (b : Bool) (is : b ≡ sign_char (get_or s i 0)) (more : i < length s) where
-  pub sign-bad : b ≡ false → false ≡ sign_ok s
-  sign-bad e = sym (inv ∙ every-fail i (length s) _ more (sym is ∙ e))
-
-  pub sign-good : b ≡ true → sign_ok s ≡ sign_from s (i + 1)
-  sign-good e = inv ∙ every-pass i (length s) _ more (sym is ∙ e)
-
-pub sign-end : (s : List ℕ) (i : ℕ) → sign_ok s ≡ sign_from s i → length s ≤ i → true ≡ sign_ok s
-sign-end s i inv h = sym (inv ∙ every-end i (length s) _ h)
+  pub sign-made : (b : Bool) → (length s ≡ 0 → ⊥) → length s ≤ 12 → b ≡ list_all sign_char s → b ≡ sign_ok s
+  unfolding sign_ok
+  sign-made b h l e = e ∙ sym (every-listed sign_char s) ∙ simp (le-leb 1 (length s) (omega arith), le-leb (length s) 12 l)
 
 pub sign-length : (s : List ℕ) → sign_ok s ≡ true → length s ≤ 12
 unfolding sign_ok

@@ -4,6 +4,8 @@ use Rattle.laws.specs.Span.{every, upto}
 use Rattle.laws.specs.Bytes.{overwrite}
 use Rattle.calendar.specs.Calendar.{date_of, time_of, last_second}
 use Rattle.adif.specs.declared.Logged.{Logged}
+use Rattle.adif.specs.declared.Refusal.{Refusal}
+use Rattle.adif.specs.declared.Refusal.TheVariants.{CallSign, Times, ShortOutput}
 
 -- ---- numbers as characters
 
@@ -90,6 +92,12 @@ sign_ok s = leb 1 (length s) && (leb (length s) 12 && every (λ i. sign_char (ge
 unfoldable pub refusal_of : List ℕ → ℕ → ℕ → ℕ → ℕ
 refusal_of call on off room =
     cond (sign_ok call) (cond (ltb last_second on || (ltb last_second off || ltb off on)) 21 (cond (ltb room 256) 22 0)) 20
+
+-- a refusal's number
+abbrev pub number_of : Refusal → ℕ
+number_of CallSign = 20
+number_of Times = 21
+number_of ShortOutput = 22
 
 -- ---- the call: the answer and the output, kept where it refuses and past the record
 

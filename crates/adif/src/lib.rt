@@ -4,8 +4,8 @@
 ghost use Rattle.std.specs.Prelude.{◌≡◌, [], ◌∷◌, ◌+◌, ◌≤◌, length};
 ghost use Rattle.laws.specs.Bytes.{overwrite};
 ghost use Rattle.adif.specs.Adif.{last_digits, digit_count, numeral, date_text, time_text, written, record_of};
-ghost use Rattle.adif.specs.Adif.{sign_char, sign_ok, refusal_of, log_of};
-ghost use Rattle.adif.specs.AdifCode.{Put, moment};
+ghost use Rattle.adif.specs.Adif.{sign_char, sign_ok, refusal_of, number_of, log_of};
+ghost use Rattle.adif.specs.AdifCode.{Put, moment, told, answer_of};
 
 use byte_copy::copy_in;
 use calendar::{date_of, time_of};
@@ -13,7 +13,29 @@ use calendar::{date_of, time_of};
 // 31 December 2099, 23:59:59.
 const LAST_SECOND: u64 = 4102444799;
 
+// Why a link is not logged: its call sign; a time past 2099, or the end before the start; an output under 256 bytes.
+#[derive(Clone, Copy, Debug, PartialEq, Eq)]
+pub enum Refusal {
+    CallSign,
+    Times,
+    ShortOutput,
+}
+
+impl Refusal {
+    // The papers' number.
+    pub fn number(self) -> u8
+        ensures { result ≡ number_of self }
+    {
+        match self {
+            Refusal::CallSign => 20,
+            Refusal::Times => 21,
+            Refusal::ShortOutput => 22,
+        }
+    }
+}
+
 // What a call answers: 0 and the characters written, or the refusal's number and 0.
+// kept: the number beside the length: C interface.
 #[repr(C)]
 #[derive(Clone, Copy)]
 pub struct Logged {
@@ -43,12 +65,10 @@ fn put_digits(out: &mut [u8], at: usize, k: usize, n: u64)
     requires { at + k ≤ length out.old }
     ensures { out.new ≡ overwrite out.old at (last_digits k n) }
 {
-    let mut i = k;
     let mut rest = n;
-    while 0 < i {
-        i -= 1;
-        out[at + i] = (48 + rest % 10) as u8;
-        rest = rest / 10;
+    for i in (0..k).rev() {
+        out[at + i] = b'0' + (rest % 10) as u8;
+        rest /= 10;
     }
 }
 
@@ -56,16 +76,14 @@ fn put_digits(out: &mut [u8], at: usize, k: usize, n: u64)
 fn count_digits(n: u64) -> usize
     ensures { result ≡ digit_count 9 n }
 {
-    let mut k = 1;
     let mut rest = n;
-    while k < 10 {
+    for k in 1..10 {
         if rest < 10 {
             return k;
         }
-        rest = rest / 10;
-        k += 1;
+        rest /= 10;
     }
-    k
+    10
 }
 
 // A number in decimal.
@@ -147,60 +165,40 @@ fn put_record(out: &mut [u8], call: &[u8], on: u64, off: u64, acked: u32) -> usi
 fn sign_char(c: u8) -> bool
     ensures { result ≡ sign_char c }
 {
-    if c == b'/' {
-        return true;
-    }
-    if c < b'0' {
-        return false;
-    }
-    if c <= b'9' {
-        return true;
-    }
-    if c < b'A' {
-        return false;
-    }
-    c <= b'Z'
+    matches!(c, b'/' | b'0'..=b'9' | b'A'..=b'Z')
 }
 
 fn sign_ok(call: &[u8]) -> bool
     ensures { result ≡ sign_ok call.now }
 {
-    if call.len() < 1 {
+    if call.is_empty() || 12 < call.len() {
         return false;
     }
-    if 12 < call.len() {
-        return false;
-    }
-    let mut i = 0;
-    while i < call.len() {
-        if !sign_char(call[i]) {
-            return false;
-        }
-        i += 1;
-    }
-    true
+    call.iter().all(|c| sign_char(*c))
 }
 
-// 20: the call sign; 21: a time past 2099, or the end before the start; 22: the output under 256 bytes.
-fn refusal(call: &[u8], on: u64, off: u64, room: usize) -> u8
-    ensures { result ≡ refusal_of call.now on off room }
+// The refusals in their order.
+fn check(call: &[u8], on: u64, off: u64, room: usize) -> Result<(), Refusal>
+    ensures { told result ≡ refusal_of call.now on off room }
 {
     if !sign_ok(call) {
-        return 20;
+        return Err(Refusal::CallSign);
     }
-    if LAST_SECOND < on {
-        return 21;
-    }
-    if LAST_SECOND < off {
-        return 21;
-    }
-    if off < on {
-        return 21;
+    if LAST_SECOND < on || LAST_SECOND < off || off < on {
+        return Err(Refusal::Times);
     }
     if room < 256 {
-        return 22;
+        return Err(Refusal::ShortOutput);
     }
-    0
+    Ok(())
+}
+
+// The number of characters written.
+fn try_log(call: &[u8], on: u64, off: u64, acked: u32, out: &mut [u8]) -> Result<usize, Refusal>
+    ensures { (answer_of result, out.new) ≡ log_of call.now on off acked out.old }
+{
+    check(call, on, off, out.len())?;
+    Ok(put_record(out, call, on, off, acked))
 }
 
 // Writes the record of a link with `call`, from the second `on` to the second `off`, in which `acked` bytes were acknowledged.
@@ -208,13 +206,11 @@ fn refusal(call: &[u8], on: u64, off: u64, room: usize) -> u8
 pub fn log_link(call: &[u8], on: u64, off: u64, acked: u32, out: &mut [u8]) -> Logged
     ensures { (result, out.new) ≡ log_of call.now on off acked out.old }
 {
-    let refused = refusal(call, on, off, out.len());
-    if refused != 0 {
-        return Logged {
-            refusal: refused,
+    match try_log(call, on, off, acked, out) {
+        Ok(len) => Logged { refusal: 0, len },
+        Err(refusal) => Logged {
+            refusal: refusal.number(),
             len: 0,
-        };
+        },
     }
-    let n = put_record(out, call, on, off, acked);
-    Logged { refusal: 0, len: n }
 }

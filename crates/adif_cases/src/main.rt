@@ -30,14 +30,8 @@ fn moment(rt: &impl Print, t: u64) -> io::Result<()> {
 fn century(rt: &impl Print, from: u64) -> io::Result<()>
     requires { from ≤ 10000 }
 {
-    let mut k = 0;
-    while k < 100 {
-        if leap(from + k) {
-            print!(rt; "1")?;
-        } else {
-            print!(rt; "0")?;
-        }
-        k += 1;
+    for year in from..from + 100 {
+        print!(rt; "{}", u8::from(leap(year)))?;
     }
     println!(rt; "")
 }
@@ -45,8 +39,7 @@ fn century(rt: &impl Print, from: u64) -> io::Result<()>
 // The first and the last second of every year, and both ends of its 60th day.
 fn years(rt: &impl Print) -> io::Result<()> {
     let mut s: u64 = 0;
-    let mut y: u64 = 1970;
-    while y < 2100 {
+    for y in 1970..2100 {
         let n = year_days(y);
         moment(rt, s)?;
         moment(rt, s + 5097599)?;
@@ -55,38 +48,35 @@ fn years(rt: &impl Print) -> io::Result<()> {
         moment(rt, s + 5184000)?;
         s += n * 86400;
         moment(rt, s - 1)?;
-        y += 1;
     }
     Ok(())
 }
 
 // 1,560 seconds a mean month apart.
 fn spread(rt: &impl Print) -> io::Result<()> {
-    let mut k: u64 = 0;
-    while k < 1560 {
+    for k in 0..1560 {
         moment(rt, k * 2629746)?;
-        k += 1;
     }
     Ok(())
 }
 
 // A link: the whole output, which held dots, and the answer.
 fn link(rt: &impl Print, call: &[u8], on: u64, off: u64, acked: u32) -> io::Result<()> {
-    let mut out = [46u8; 256];
+    let mut out = [b'.'; 256];
     let r = log_link(call, on, off, acked, &mut out);
     rt.write_all(&out)?;
     print!(rt; " ")?;
-    number(rt, r.refusal as u64)?;
+    number(rt, u64::from(r.refusal))?;
     number(rt, r.len as u64)?;
     println!(rt; "")
 }
 
 fn short_output(rt: &impl Print, call: &[u8], on: u64, off: u64) -> io::Result<()> {
-    let mut out = [46u8; 255];
+    let mut out = [b'.'; 255];
     let r = log_link(call, on, off, 7, &mut out);
     rt.write_all(&out)?;
     print!(rt; " ")?;
-    number(rt, r.refusal as u64)?;
+    number(rt, u64::from(r.refusal))?;
     number(rt, r.len as u64)?;
     println!(rt; "")
 }
@@ -123,16 +113,9 @@ fn refused(rt: &impl Print) -> io::Result<()> {
 }
 
 fn main(rt: HostRuntime) -> io::Result<()> {
-    century(&rt, 1500)?;
-    century(&rt, 1600)?;
-    century(&rt, 1700)?;
-    century(&rt, 1800)?;
-    century(&rt, 1900)?;
-    century(&rt, 2000)?;
-    century(&rt, 2100)?;
-    century(&rt, 2200)?;
-    century(&rt, 2300)?;
-    century(&rt, 2400)?;
+    for hundreds in 15..25 {
+        century(&rt, hundreds * 100)?;
+    }
     years(&rt)?;
     spread(&rt)?;
     links(&rt)?;

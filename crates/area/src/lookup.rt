@@ -22,8 +22,7 @@ pub fn find(a: &[u8], n: usize, off: u32) -> Found
     ensures { result ≡ find_from off 0 (rows_from a.now 0 n) }
 {
     let mut start: usize = 0;
-    let mut i = 0;
-    while i < n {
+    for i in 0..n {
         let r = load_row(a, i);
         let len = r.len as usize;
         if off == r.off {
@@ -33,8 +32,7 @@ pub fn find(a: &[u8], n: usize, off: u32) -> Found
                 len,
             };
         }
-        start = start + len;
-        i += 1;
+        start += len;
     }
     Found {
         here: false,

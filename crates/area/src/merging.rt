@@ -35,24 +35,18 @@ pub fn merge_table(a: &mut [u8], n: usize, max: u32, hashes: &[u8], held: &[u32]
     if n == 0 {
         return 0;
     }
-    let first = load_row(a, 0);
-    let mut off = first.off;
-    let mut len = first.len;
+    let mut p = load_row(a, 0);
     let mut w = 0;
-    let mut i = 1;
-    while i < n {
+    for i in 1..n {
         let q = load_row(a, i);
-        if joins(Row { off, len }, q, max, hashes, held) {
-            len = len + q.len;
-            i += 1;
+        if joins(p, q, max, hashes, held) {
+            p.len += q.len;
         } else {
-            store_row(a, w, Row { off, len });
+            store_row(a, w, p);
             w += 1;
-            off = q.off;
-            len = q.len;
-            i += 1;
+            p = q;
         }
     }
-    store_row(a, w, Row { off, len });
+    store_row(a, w, p);
     w + 1
 }

@@ -24,11 +24,9 @@ pub fn hash(hashes: &mut [u8], offs: &[u32])
     requires { length hashes.old ≡ hash_count }
     ensures { hashes.new ≡ hash_all hashes.old offs.now }
 {
-    let mut i = 0;
-    while i < offs.len() {
-        let k = hash_place(offs[i]);
+    for &o in offs {
+        let k = hash_place(o);
         hashes[k] = 1;
-        i += 1;
     }
 }
 
@@ -37,10 +35,8 @@ pub fn contains(offs: &[u32], off: u32) -> bool
     ensures { result ≡ listed off offs.now }
 {
     let mut found = false;
-    let mut i = 0;
-    while i < offs.len() {
-        found = found | (off == offs[i]);
-        i += 1;
+    for &o in offs {
+        found |= off == o;
     }
     found
 }
@@ -98,21 +94,15 @@ pub fn remove_pieces(a: &mut [u8], n: usize, used: usize, hashes: &[u8], gone: &
     let mut from: usize = 0;
     let mut to: usize = 0;
     let mut w: usize = 0;
-    let mut i = 0;
-    while i < n {
+    for i in 0..n {
         let r = load_row(a, i);
-        let off = r.off;
         let len = r.len as usize;
-        if contains_near(hashes, gone, i - w, off) {
-            from = from + len;
-            i += 1;
-        } else {
+        if !contains_near(hashes, gone, i - w, r.off) {
             move_piece(a, i, w, from, to, r);
-            from = from + len;
-            to = to + len;
+            to += len;
             w += 1;
-            i += 1;
         }
+        from += len;
     }
     if w == n {
         return Kept {

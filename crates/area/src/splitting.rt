@@ -25,12 +25,9 @@ fn split_count(a: &[u8], n: usize, max: u32) -> usize
     ensures { result ≡ length (split_rows max (rows_from a.now 0 n)) }
 {
     let mut sum: usize = 0;
-    let mut i = 0;
-    while i < n {
+    for i in 0..n {
         let r = load_row(a, i);
-        let len = r.len;
-        sum = sum + cut_count(len, max);
-        i += 1;
+        sum += cut_count(r.len, max);
     }
     sum
 }
@@ -43,10 +40,11 @@ fn store_cut(a: &mut [u8], w: usize, off: u32, len: u32, max: u32)
     let mut o = off;
     let mut left = len;
     let mut i = w;
+    // kept: a `while`, since it ends by the bytes that are left; row and offset only go along.
     while max < left {
         store_row(a, i, Row { off: o, len: max });
-        o = o + max;
-        left = left - max;
+        o += max;
+        left -= max;
         i += 1;
     }
     store_row(a, i, Row { off: o, len: left });
@@ -59,14 +57,10 @@ pub fn split_table(a: &mut [u8], n: usize, max: u32) -> usize
 {
     let m = split_count(a, n, max);
     let mut w = m;
-    let mut i = n;
-    while 0 < i {
-        i = i - 1;
+    for i in (0..n).rev() {
         let r = load_row(a, i);
-        let off = r.off;
-        let len = r.len;
-        w = w - cut_count(len, max);
-        store_cut(a, w, off, len, max);
+        w -= cut_count(r.len, max);
+        store_cut(a, w, r.off, r.len, max);
     }
     m
 }

@@ -5,7 +5,7 @@ ghost use Rattle.area.specs.Layout.{place, area_bytes};
 ghost use Rattle.area.specs.Table.{row_at, table_bytes};
 ghost use Rattle.limits.specs.Limits.{max_pieces};
 
-use byte_copy::{load32, store32};
+use byte_copy::Little;
 use limits::STREAM_BYTES;
 
 const ROW_BYTES: usize = 8;
@@ -24,8 +24,8 @@ pub fn load_row(a: &[u8], i: usize) -> Row
 {
     let at = STREAM_BYTES + ROW_BYTES * i;
     Row {
-        off: load32(a, at),
-        len: load32(a, at + 4),
+        off: u32::load(a, at),
+        len: u32::load(a, at + 4),
     }
 }
 
@@ -35,6 +35,6 @@ pub fn store_row(a: &mut [u8], i: usize, r: Row)
     ensures { a.new ≡ overwrite a.old (place i) (table_bytes (r ∷ [])) }
 {
     let at = STREAM_BYTES + ROW_BYTES * i;
-    store32(a, at, r.off);
-    store32(a, at + 4, r.len);
+    u32::store(a, at, r.off);
+    u32::store(a, at + 4, r.len);
 }

@@ -16,6 +16,7 @@ fn is_flying(a: &[u8], n: usize, off: u32, long: u32, next: u32) -> bool
 {
     let mut low = 0;
     let mut high = n;
+    // kept: a search by hand, since the rows are bytes of the work area and no slice of rows.
     while low < high {
         let mid = low + (high - low) / 2;
         let r = load_row(a, mid);
@@ -54,17 +55,15 @@ pub fn all_flying(a: &[u8], n: usize, xs: &[u32], long: u32, next: u32) -> bool
         return true;
     }
     let mut hashes = [0u8; HASHES];
-    let mut i = xs.len();
-    while 0 < i {
-        let x = xs[i - 1];
-        if !flies_near(a, n, xs.len() - i, x, long, next) {
+    for i in (0..xs.len()).rev() {
+        let x = xs[i];
+        if !flies_near(a, n, xs.len() - 1 - i, x, long, next) {
             return false;
         }
-        if contains_hashed(&hashes, &xs[i..], x) {
+        if contains_hashed(&hashes, &xs[i + 1..], x) {
             return false;
         }
-        hash(&mut hashes, &xs[i - 1..i]);
-        i = i - 1;
+        hash(&mut hashes, &xs[i..i + 1]);
     }
     true
 }

@@ -31,8 +31,7 @@ pub fn table_ok(a: &[u8], n: usize, short: u32, long: u32, next: u32, flying: u3
     let mut from: u64 = 0;
     let mut sum: u64 = 0;
     let mut shorts: u64 = 0;
-    let mut i = 0;
-    while i < n {
+    for i in 0..n {
         let r = load_row(a, i);
         let off = r.off as u64;
         let len = r.len as u64;
@@ -46,9 +45,8 @@ pub fn table_ok(a: &[u8], n: usize, short: u32, long: u32, next: u32, flying: u3
             return false;
         }
         from = off + len;
-        sum = sum + len;
-        shorts = shorts + shorts_of(len, short);
-        i += 1;
+        sum += len;
+        shorts += shorts_of(len, short);
     }
     if (next as u64) < from {
         return false;
@@ -63,18 +61,7 @@ pub fn table_ok(a: &[u8], n: usize, short: u32, long: u32, next: u32, flying: u3
 pub fn held_bits_ok(bits: &[u32], top: u32) -> bool
     ensures { result ≡ held_bits_ok top bits.now }
 {
-    let mut i = 0;
-    while i < bits.len() {
-        let b = bits[i];
-        if b == 0 {
-            return false;
-        }
-        if top <= b {
-            return false;
-        }
-        i += 1;
-    }
-    true
+    bits.iter().all(|b| 0 < *b && *b < top)
 }
 
 // Whether each frame has 1 to 16,384 bits, and held bits from its bits to 49,151.
@@ -82,17 +69,13 @@ pub fn sent_bits_ok(bits: &[u32], held: &[u32]) -> bool
     requires { length bits.now ≡ length held.now }
     ensures { result ≡ sent_bits_ok bits.now held.now }
 {
-    let mut i = 0;
-    while i < bits.len() {
-        let b = bits[i];
-        let h = held[i];
+    for (&b, &h) in bits.iter().zip(held) {
         if !((0 < b) & (b <= MAX_BITS)) {
             return false;
         }
         if !((b <= h) & (h <= MAX_HELD)) {
             return false;
         }
-        i += 1;
     }
     true
 }

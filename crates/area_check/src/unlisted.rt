@@ -13,13 +13,10 @@ pub fn none_listed(xs: &[u32], ys: &[u32]) -> bool
     }
     let mut hashes = [0u8; HASHES];
     hash(&mut hashes, ys);
-    let mut i = 0;
-    while i < xs.len() {
-        let x = xs[i];
+    for &x in xs {
         if contains_hashed(&hashes, ys, x) {
             return false;
         }
-        i += 1;
     }
     true
 }

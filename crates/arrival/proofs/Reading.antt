@@ -9,10 +9,10 @@ use native.Mathlib.Nat.{zero-add}
 use lib.Dec.{leb, ltb, eqb}
 use lib.ListN.{length, get_or}
 use borrow.Author.Tests.{leb-true, ltb-true, eqb-true}
+use Rattle.std.proofs.Common.{Some}
 use Rattle.laws.specs.Little.{num, le}
 use Rattle.laws.proofs.Picks.{test, and_first, and_second}
 use Rattle.report.specs.Ack.{ack_of, info_of}
-use Rattle.report.specs.declared.ack.AckRead.TheVariants.{Info}
 use Rattle.ledger.specs.Ledger.{Frame}
 use Rattle.ledger.specs.Claim.{bit_over}
 use Rattle.ledger.specs.Tally.{Event, reply}

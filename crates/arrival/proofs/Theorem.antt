@@ -12,13 +12,13 @@ use lib.Pow.{pow_mono}
 use lib.ListN.{length, take, drop, get_or, replicate, length-append, length-map, length-take, length-drop, take-append-drop}
 use lib.Seq.{take-append-le, drop-append-le, get_or-take, get_or-drop}
 use borrow.Author.Tests.{eqb-true, ltb-true, ltb-false}
+use Rattle.std.proofs.Common.{Option, Some, None}
 use Rattle.laws.specs.Bytes.{overwrite, Bytes}
 use Rattle.laws.proofs.Picks.{by, test, either, and_second}
 use Rattle.config.specs.declared.Profile.{Profile}
 use Rattle.config.specs.Durations.{frame_bytes}
 use Rattle.report.specs.Ack.{ack_of, info_of}
-use Rattle.report.specs.declared.ack.AckRead.{AckRead}
-use Rattle.report.specs.declared.ack.AckRead.TheVariants.{TooShort, Info}
+use Rattle.report.specs.declared.ack.AckInfo.{AckInfo}
 use Rattle.ledger.specs.Ledger.{Frame}
 use Rattle.ledger.specs.Calls.{Along}
 use Rattle.ledger.specs.Claim.{settled_by, named, any_named, bit_over}
@@ -138,9 +138,9 @@ none_yet k fs ys = refl
 latest-is : (k : ℕ) → is_latest k ≡ true → k ≡ 0
 latest-is k e = omega (arith, eqb-true k _ e)
 
-long-still : (x : AckRead) → Still (long_event x)
-long-still TooShort = tt
-long-still (Info i) = tt
+long-still : (x : Option AckInfo) → Still (long_event x)
+long-still None = tt
+long-still (Some i) = tt
 
 reply-still : (r : Reply) (b : List ℕ) → Still (reply_event r b)
 reply-still (ConnAck r) b = tt

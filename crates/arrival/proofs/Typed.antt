@@ -8,6 +8,7 @@ use native.Mathlib.Omega.{arith}
 use lib.Dec.{leb}
 use lib.ListN.{length}
 use borrow.Author.Tests.{lt-leb, leb-false}
+use Rattle.std.proofs.Common.{Option, Some, None}
 use Rattle.laws.specs.Bytes.{Bytes}
 use Rattle.laws.specs.Lists.{one}
 use Rattle.laws.proofs.Lists.{one_none}
@@ -18,8 +19,7 @@ use Rattle.ledger.specs.Ledger.{Frame}
 use Rattle.ledger.specs.Queue.{Message, message_bytes, message, count_those, rest}
 use Rattle.ledger.specs.Tally.{Event, silent, took, replies, went, messages_told, byte_of}
 use Rattle.report.specs.Ack.{ack_of}
-use Rattle.report.specs.declared.ack.AckRead.{AckRead}
-use Rattle.report.specs.declared.ack.AckRead.TheVariants.{TooShort, Info}
+use Rattle.report.specs.declared.ack.AckInfo.{AckInfo}
 use Rattle.replies.specs.declared.Heard.{Heard}
 use Rattle.refusals.specs.declared.Reply.{Reply}
 use Rattle.refusals.specs.declared.Reply.TheVariants.{ConnAck, Ack, LongAck, Turn}
@@ -91,9 +91,9 @@ module _ (p : Profile) where
       either P (passed x.verdict) (went x.outgoing.number (frames_answered x.outgoing.frames)) silent
       (b x.outgoing.number (frames_answered x.outgoing.frames) out refl) n
 
-  long-queues : (x : AckRead) → messages_told (long_event x) ≡ []
-  long-queues TooShort = refl
-  long-queues (Info i) = refl
+  long-queues : (x : Option AckInfo) → messages_told (long_event x) ≡ []
+  long-queues None = refl
+  long-queues (Some i) = refl
 
   reply-queues : (r : Reply) (b : List ℕ) → messages_told (reply_event r b) ≡ []
   reply-queues (ConnAck r) b = refl

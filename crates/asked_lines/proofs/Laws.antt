@@ -5,7 +5,6 @@ use mathlib.Core.List.{List, ◌++◌}
 use Prim.Native.Nat.{ℕ, ◌≤◌}
 use native.Mathlib.Nat.{zero-add}
 use native.Mathlib.Omega.{arith}
-use lib.Dec.{eqb, leb}
 use lib.ListN.{length, drop}
 use Rattle.laws.specs.Bytes.{overwrite}
 use Rattle.laws.proofs.Bytes.{over-eq}
@@ -15,7 +14,7 @@ use Rattle.queuing.specs.declared.Station.{Station}
 use Rattle.call_lines.specs.declared.names.Named.{Named}
 use Rattle.look_lines.specs.declared.Shown.{Shown}
 use Rattle.run_lines.specs.declared.Run.{Run}
-use Rattle.run_lines.specs.RunLines.{todo_anew, todo_shows, zeros, profile_now}
+use Rattle.run_lines.specs.RunLines.{is_over, shows, zeros, profile_now}
 use Rattle.list_calls.specs.declared.answers.Said.{Said}
 use Rattle.list_calls.specs.Answers.{said}
 use Rattle.asked_lines.specs.AskedLines.{done_said, line_call, showed_of, asked_of, area_beside, called_of, answered_of}
@@ -48,7 +47,7 @@ put_second {q} {a} {r} {t} l k h e f = ap (λ (o : List ℕ). (q, (a, (o, t)))) 
 -- a call: what is to do about it
 module _ (chars : List ℕ) (run : Run) (p : Profile) (s : Station) (a out t : List ℕ) where
   pub called-shown : {call : Named} {o : List ℕ} {q : Said} {x : List ℕ × List ℕ} → o ≡ zeros out → call ≡ line_call chars
-      → eqb run.todo todo_shows ≡ true → (q, x) ≡ showed_of call chars p s a run.out o (run.text, t)
+      → shows run.todo ≡ true → (q, x) ≡ showed_of call chars p s a run.out o (run.text, t)
       → area_beside a (q, x) ≡ called_of chars run p s a out t
   unfolding called_of
   called-shown e f g h =
@@ -56,7 +55,7 @@ module _ (chars : List ℕ) (run : Run) (p : Profile) (s : Station) (a out t : L
       (ap (area_beside a) (h ∙ ap₂ (λ (call : Named) (o : List ℕ). showed_of call chars p s a run.out o (run.text, t)) f e))
 
   pub called-asked : {call : Named} {o : List ℕ} {x : Said × (List ℕ × (List ℕ × List ℕ))} → o ≡ zeros out → call ≡ line_call chars
-      → eqb run.todo todo_shows ≡ false → x ≡ asked_of call chars run p s a o t → x ≡ called_of chars run p s a out t
+      → shows run.todo ≡ false → x ≡ asked_of call chars run p s a o t → x ≡ called_of chars run p s a out t
   unfolding called_of
   called-asked e f g h =
       cond_no _ _ _ _ g
@@ -67,11 +66,11 @@ module _ (chars : List ℕ) (run : Run) (s : Station) (a out t v file : List ℕ
   abbrev all_kept : Said → Said × (List ℕ × (List ℕ × List ℕ))
   all_kept q = (q, (a, (out, t)))
 
-  pub line-done : {q : Said} → leb run.todo todo_anew ≡ true → q ≡ done_said run s → all_kept q ≡ answered_of chars run s a out t v file
+  pub line-done : {q : Said} → is_over run.todo ≡ true → q ≡ done_said run s → all_kept q ≡ answered_of chars run s a out t v file
   unfolding answered_of
   line-done e f = cond_yes _ _ _ _ e (ap all_kept f)
 
-  pub line-called : {p : Profile} {x : Said × (List ℕ × (List ℕ × List ℕ))} → leb run.todo todo_anew ≡ false → p ≡ profile_now run v file
+  pub line-called : {p : Profile} {x : Said × (List ℕ × (List ℕ × List ℕ))} → is_over run.todo ≡ false → p ≡ profile_now run v file
       → x ≡ called_of chars run p s a out t → x ≡ answered_of chars run s a out t v file
   unfolding answered_of
   line-called e f g = cond_no _ _ _ _ e (g ∙ ap (λ (p : Profile). called_of chars run p s a out t) f)

@@ -7,13 +7,13 @@ ghost use Rattle.run_lines.specs.RunLines.{zeros};
 ghost use Rattle.asked_lines.specs.AskedLines.{sender_left, done_said, line_call, shown_said, showed_of, asked_out, asked_of, called_of};
 ghost use Rattle.asked_lines.specs.AskedLines.{answered_of};
 
-use byte_copy::{fill, least};
-use call_lines::names::{LONG, Named, call_of};
+use byte_copy::least;
+use call_lines::names::{Call, Named, call_of};
 use config::Profile;
 use list_calls::answers::{Said, say};
 use look_lines::look;
 use queuing::Station;
-use run_lines::{ANEW, Run, SHOWS, profile_now};
+use run_lines::{Run, Todo, profile_now};
 use sender::fresh;
 use words::word;
 
@@ -28,13 +28,14 @@ fn sender_left(anew: bool, s: Station) -> Station
 }
 
 // What a line left that is done.
+#[tactic(auto, unfolding(crate::specs::AskedLines::done_said))]
 fn kept(run: Run, s: Station) -> Said
     ensures { result ≡ done_said run s }
 {
     Said {
         ok: run.ok,
         text: run.text,
-        next: sender_left(run.todo == ANEW, s),
+        next: sender_left(run.todo == Todo::Anew, s),
     }
 }
 
@@ -45,7 +46,7 @@ fn named(line: &[u8]) -> Named
     let r = word(line, b"reply");
     if r.ok {
         return Named {
-            call: LONG,
+            call: Some(Call::Long),
             read: r,
         };
     }
@@ -134,10 +135,11 @@ fn asked(
 fn clear(out: &mut [u8])
     ensures { out.new ≡ zeros out.old }
 {
-    fill(out, 0, out.len(), 0);
+    out.fill(0);
 }
 
 // A call, under the profile p: the output is zeros before it.
+#[tactic(auto, unfolding(crate::specs::AskedLines::called_of))]
 fn called(
     line: &[u8],
     run: Run,
@@ -152,13 +154,14 @@ fn called(
 {
     let call = named(line);
     clear(out);
-    if run.todo == SHOWS {
+    if run.todo == Todo::Shows {
         return showed(call, line, p, s, area, run.out, out, t, run.text);
     }
     asked(call, line, run, p, s, area, out, t)
 }
 
 // What a line leaves that the run has looked at: the sender's record and the transcript.
+#[tactic(auto, unfolding(crate::specs::AskedLines::answered_of))]
 pub fn answered(
     line: &[u8],
     run: Run,
@@ -173,8 +176,8 @@ pub fn answered(
         ≡ answered_of line.now run s area.old out.old t.old v.now
         file.now }
 {
-    if run.todo <= ANEW {
-        return kept(run, s);
+    match run.todo {
+        Todo::New | Todo::Done | Todo::Anew => kept(run, s),
+        _ => called(line, run, profile_now(run, v, file), s, area, out, t),
     }
-    called(line, run, profile_now(run, v, file), s, area, out, t)
 }

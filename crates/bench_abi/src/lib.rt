@@ -23,9 +23,7 @@ pub extern "C" fn vanitycrow_frames(out: &mut [u8], count: usize, size: usize, p
 {
     let t = frame::crc::table();
     let n = payload.len();
-    let mut i = 0;
-    while i < count {
+    for i in 0..count {
         encode(&t, out, i * size, size, (i * n) as u32, payload);
-        i += 1;
     }
 }

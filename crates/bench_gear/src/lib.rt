@@ -67,10 +67,8 @@ pub extern "C" fn vanitycrow_acks(n: u64, snr_db: f32, now: f64) -> usize
         got: 9,
     };
     let mut g = tried();
-    let mut i = 0;
-    while i < n {
+    for _i in 0..n {
         g = g.on_ack(cfg, burst, snr_db, now);
-        i += 1;
     }
     g.level
 }

@@ -41,6 +41,9 @@ take_min n m l =
     (λ t. let p : m < n = leb-false n m t in let q : min n m ≡ m = omega arith in
     ap (λ (j : ℕ). take j l) q ∙ sym (take-take m n l (omega arith)))
 
+pub take_least : (n : ℕ) (l : List ℕ) → take (min n (length l)) l ≡ take n l
+take_least n l = take_min n (length l) l ∙ take_all (length l) (take n l) (omega (arith, length-take n l))
+
 pub taken-few : {l : List ℕ} (n : ℕ) (m : List ℕ) → l ≡ take n m → length l ≤ n
 taken-few n m e = omega (arith, ap (λ (x : List ℕ). length x) e, length-take n m)
 

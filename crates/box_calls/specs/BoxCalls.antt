@@ -1,7 +1,7 @@
 -- The box of a call list (docs/CALLS.md, The box): what each of its lines answers, and what it leaves. Definitions only.
 -- `chars` are a line's characters, `r` how far it was read; `w` is the box's window, `h` the bytes of the frames heard, `sent` the last
 -- burst's frames, `t` the transcript's buffer and what is used of it.
-use Rattle.std.specs.Prelude.{Bool, true, false, cond, ◌&&◌, List, [], ◌∷◌, ◌++◌, ℕ, ◌+◌, ◌*◌, min, leb, ltb, eqb, length, take, drop, set, replicate}
+use Rattle.std.specs.Prelude.{Bool, true, false, cond, ◌&&◌, Option, None, Some, List, [], ◌∷◌, ◌++◌, ℕ, ◌+◌, ◌*◌, min, leb, ltb, eqb, length, take, drop, set, replicate}
 use Rattle.laws.specs.Bytes.{overwrite}
 use Rattle.laws.specs.Text.{text}
 use Rattle.text.specs.Buffer.{appended}
@@ -48,8 +48,7 @@ fresh_box =
       number = 0;
       frames = 0;
       size = 0;
-      answered = false;
-      answer = replicate 13 0;
+      answer = None;
     }
 
 -- whether the line was right, what is used of the buffer, and the box
@@ -76,7 +75,6 @@ keep_frame slot bytes x =
         number = b.number;
         frames = b.frames;
         size = b.size;
-        answered = b.answered;
         answer = b.answer;
       },
       overwrite x.1 b.used bytes,
@@ -112,8 +110,7 @@ after_reception heard q b =
       number = b.number;
       frames = b.frames;
       size = b.size;
-      answered = true;
-      answer = q.answer.payload;
+      answer = Some q.answer.payload;
     })
     b
 
@@ -171,7 +168,6 @@ with_lent n b =
       number = b.number;
       frames = b.frames;
       size = b.size;
-      answered = b.answered;
       answer = b.answer;
     }
 
@@ -232,12 +228,15 @@ burst_sent number frames size out x =
         number = number;
         frames = frames;
         size = size;
-        answered = b.answered;
         answer = b.answer;
       },
       overwrite x.1 0 (take (length x.1) out),
     )
 
 -- `reply` is a long ack whose payload is the box's last answer: the line's characters, and none where it has not answered
+abbrev pub long_ack_of : List ℕ → Option (List ℕ) → List ℕ → ℕ × List ℕ
+long_ack_of chars None l = (0, l)
+long_ack_of chars (Some answer) l = appended (0, l) (chars ++ hex answer)
+
 unfoldable pub long_ack_line : List ℕ → Box → List ℕ → ℕ × List ℕ
-long_ack_line chars b l = cond b.answered (appended (0, l) (chars ++ hex b.answer)) (0, l)
+long_ack_line chars b l = long_ack_of chars b.answer l

@@ -3,7 +3,7 @@
 // burst's frames `sent`.
 #![tactic(auto)]
 
-ghost use Rattle.std.specs.Prelude.{◌≡◌, false, ◌+◌, ◌*◌, ◌≤◌, ◌<◌, min, leb, length, take};
+ghost use Rattle.std.specs.Prelude.{◌≡◌, false, ◌+◌, ◌*◌, ◌≤◌, ◌<◌, leb, length, take};
 ghost use Rattle.laws.specs.Bytes.{overwrite};
 ghost use Rattle.box_calls.specs.BoxCalls.{most_heard, most_bytes, burst_frame_bytes, most_places, fresh_box, box_left, keep_frame};
 ghost use Rattle.box_calls.specs.BoxCalls.{frame_said, heard_said, after_reception, taken_in, taken_said, receive_said, frames_room, frames_at};
@@ -31,6 +31,7 @@ const FRAMES_ROOM: usize = 524288;
 // Bytes of output that there are, zeros at each call.
 const OUT_BYTES: usize = 32768;
 
+// kept: lengths and slot numbers stand in two arrays, since `receiver_rx` takes two slices.
 // What a box keeps between lines: its record, how many places of its window are lent; of the frames heard the lengths, the slot numbers,
 // how many they are, and how many bytes they have; the last burst's number, frames and frame size; its last answer, where it has answered.
 #[derive(Clone, Copy)]
@@ -44,8 +45,7 @@ pub struct Box {
     pub number: u8,
     pub frames: u8,
     pub size: u16,
-    pub answered: bool,
-    pub answer: [u8; 13],
+    pub answer: Option<[u8; 13]>,
 }
 
 // What a line left: whether it was right, what is used of the transcript's buffer, and the box.
@@ -71,8 +71,7 @@ pub fn fresh() -> Box
         number: 0,
         frames: 0,
         size: 0,
-        answered: false,
-        answer: [0; 13],
+        answer: None,
     }
 }
 
@@ -88,7 +87,7 @@ fn wrong(b: Box, n: usize) -> BoxLeft
 
 // ---- heard
 
-// Whether k bytes more have room behind the first `used` of `most`.
+// Whether k bytes more have room behind the first `used` of `most`. kept: a difference, since the sum could pass the largest usize.
 fn has_room(used: usize, k: usize, most: usize) -> bool
     ensures { result ≡ leb (used + k) most }
 {
@@ -96,13 +95,6 @@ fn has_room(used: usize, k: usize, most: usize) -> bool
         return false;
     }
     k <= most - used
-}
-
-// How many bytes of a frame are kept.
-fn kept_bytes(n: usize) -> usize
-    ensures { result ≡ min n most_bytes }
-{
-    if n < MOST_BYTES { n } else { MOST_BYTES }
 }
 
 // A frame for the next reception.
@@ -148,7 +140,7 @@ fn hear(line: &[u8], r: Read, b: Box, h: &mut [u8], t: &mut [u8], n: usize) -> B
     if !q.ok {
         return wrong(b, n);
     }
-    let len = least(kept_bytes(q.len), &bytes);
+    let len = least(q.len.min(MOST_BYTES), &bytes);
     hear_frame(q.slot, &bytes[..len], b, h, t, n)
 }
 
@@ -166,8 +158,7 @@ fn after(b: Box, q: Listened, heard: bool) -> Box
     let answer = a.payload;
     let mut next = b;
     next.receiver = receiver;
-    next.answered = true;
-    next.answer = answer;
+    next.answer = Some(answer);
     if heard {
         next.heard = 0;
         next.used = 0;
@@ -206,15 +197,6 @@ fn take_in(
     }
 }
 
-// At most so many places at the start of a slice.
-fn lent(n: usize, w: &[u16]) -> usize
-    ensures upper_bound { result ≤ length w.now }
-    ensures value { result ≡ length (take result w.now) }
-    ensures w_value { take result w.now ≡ take n w.now }
-{
-    if n < w.len() { n } else { w.len() }
-}
-
 // The same in the box's places and so much of the output.
 fn taken(
     name: &[u8],
@@ -236,7 +218,7 @@ fn taken(
 {
     let mut out = [0u8; OUT_BYTES];
     let room = least(most, &out);
-    let places = lent(b.lent, w);
+    let places = b.lent.min(w.len());
     take_in(
         name,
         heard,
@@ -290,31 +272,18 @@ fn receive(
     )
 }
 
-// A frame's size, as far as there is room for frames.
-fn frame_size(size: u16) -> usize
-    ensures { result ≡ min size burst_frame_bytes }
-{
-    if size < FRAME_BYTES {
-        return size as usize;
-    }
-    FRAME_BYTES as usize
-}
-
 // The last burst's frames at these places, one after the other.
 fn frames_at(sent: &[u8], places: &[u8], size: usize, bytes: &mut [u8])
     requires { (size ≤ burst_frame_bytes) × (length places.now ≤ most_places) × (burst_frame_bytes * most_places ≤ length bytes.old) }
     ensures { bytes.new ≡ overwrite bytes.old 0 (frames_at size sent.now places.now) }
 {
-    let n = places.len();
     let mut used: usize = 0;
-    let mut i: usize = 0;
-    while i < n {
-        let start = places[i] as usize * size;
+    for &place in places {
+        let start = place as usize * size;
         let from = least(start, sent);
         let to = least(start + size, sent);
         copy_in(bytes, used, &sent[from..to]);
         used = used + (to - from);
-        i += 1;
     }
 }
 
@@ -341,7 +310,9 @@ fn arriving(
         ≡ arriving_said db places.now b most w.old sent.now (n, t.old) }
 {
     let mut bytes = frames_room();
-    frames_at(sent, places, frame_size(b.size), &mut bytes);
+    // as far as there is room for frames
+    let size = b.size.min(FRAME_BYTES);
+    frames_at(sent, places, size as usize, &mut bytes);
     let sizes = [b.size; MOST_PLACES];
     taken(
         b"arrive", false, b.number, db, &bytes, &sizes, places, b, most, w, t, n,
@@ -491,12 +462,12 @@ pub fn burst_sent(b: Box, number: u8, frames: u8, size: u16, out: &[u8], sent: &
 }
 
 // A line `reply` as one of a long ack, in `l`: how many characters it has, none where the box has not answered.
+#[tactic(auto, unfolding(crate::specs::BoxCalls::long_ack_line))]
 pub fn reply_line(line: &[u8], b: Box, l: &mut [u8]) -> usize
     ensures { (result, l.new) ≡ long_ack_line line.now b l.old }
 {
-    if !b.answered {
-        return 0;
+    match b.answer {
+        Some(answer) => as_long(line, &answer, l),
+        None => 0,
     }
-    let answer = b.answer;
-    as_long(line, &answer, l)
 }

@@ -88,8 +88,7 @@ fn places_from(line: &[u8], r: Read, frames: u64, places: &mut [u8]) -> PlacesRe
     ensures places_after { places.new ≡ overwrite places.old 0 (places_from (length places.old) frames line.now r).0 }
 {
     let mut q = r;
-    let mut n: usize = 0;
-    while n < places.len() {
+    for n in 0..places.len() {
         let place = whole(line, q);
         if !place.ok {
             return PlacesRead {
@@ -102,10 +101,9 @@ fn places_from(line: &[u8], r: Read, frames: u64, places: &mut [u8]) -> PlacesRe
         }
         places[n] = place.value as u8;
         q = place;
-        n += 1;
     }
     PlacesRead {
-        n,
+        n: places.len(),
         ok: done(line, q),
     }
 }
@@ -157,7 +155,7 @@ pub fn state(t: &mut [u8], n: usize, first: u32, kept: usize) -> usize
 fn places_of(n: usize) -> usize
     ensures { result ≡ min n box_bytes }
 {
-    if n < PLACES { n } else { PLACES }
+    n.min(PLACES)
 }
 
 // How many bytes a window keeps.
@@ -166,14 +164,11 @@ pub fn kept_count(w: &[u16]) -> usize
 {
     let end = places_of(w.len());
     let mut n: usize = 0;
-    let mut i: usize = 0;
-    while i < end {
+    for i in 0..end {
         if w[i] < 256 {
-            i += 1;
-        } else {
-            n += 1;
-            i += 1;
+            continue;
         }
+        n += 1;
     }
     n
 }

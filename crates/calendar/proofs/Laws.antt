@@ -1,14 +1,14 @@
 -- The date of a second up to the end of 2099 is one that the calendar has, and means the second's day; with the time of day it means the
 -- second. Month by month from a month on, then year by year from a year on, with the days before as a sum.
 -- Assumes nothing.
-use Prim.Native.Nat.{ℕ, zero, suc, ◌+◌, ◌-◌, ◌*◌, ◌/◌, ◌%◌, ◌≤◌, ◌<◌}
-use mathlib.Core.Path.{◌≡◌, refl, sym, ap, ◌∙◌}
+use Prim.Native.Nat.{ℕ, zero, suc, ◌+◌, ◌-◌, ◌/◌, ◌≤◌, ◌<◌}
+use mathlib.Core.Path.{◌≡◌, refl, ap}
 use native.Mathlib.Omega.{arith}
 use borrow.Author.Tests.{ltb-true, ltb-false}
 use lib.Dec.{ltb}
 use Rattle.laws.proofs.Picks.{by, test}
-use Rattle.calendar.specs.Calendar.{last_second, leap_year, year_days, month_days, month_of, year_of, date_of, time_of}
-use Rattle.calendar.specs.Meaning.{sum_from, day_number, Valid, Dated, second_of, DateBack, SecondBack}
+use Rattle.calendar.specs.Calendar.{leap_year, year_days, month_days, month_of, year_of}
+use Rattle.calendar.specs.Meaning.{sum_from, day_number, Valid, Dated, DateBack, SecondBack}
 use Rattle.calendar.specs.declared.Date.{Date}
 
 -- ---- sums

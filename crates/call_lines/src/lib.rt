@@ -1,7 +1,7 @@
 // A call's line, read: the words after its name become the call's arguments (docs/CALLS.md, Calls).
 #![tactic(auto)]
 
-ghost use Rattle.std.specs.Prelude.{◌≡◌, cond, min, ◌%◌, ◌≤◌, length};
+ghost use Rattle.std.specs.Prelude.{◌≡◌, cond, ◌%◌, ◌≤◌, length};
 ghost use Rattle.words.specs.Words.{hex_into};
 ghost use Rattle.words.specs.Lines.{chars_of, next_word};
 ghost use Rattle.call_lines.specs.CallLines.{field_byte, heard_first, class_words, wish_words, burst_words, connect_line, short_line};
@@ -9,7 +9,7 @@ ghost use Rattle.call_lines.specs.CallLines.{turn_line, long_wishes, long_line, 
 
 use byte_copy::least;
 use config::MaybeDb;
-use float_bits::of_bits64;
+use float_bits::Pattern;
 use profile_table::single_of;
 use reception::Reception;
 use refusals::MAX_RECEIVED;
@@ -38,7 +38,7 @@ pub struct ShortLine {
 pub fn u8_of(n: u64) -> u8
     ensures { result ≡ field_byte n }
 {
-    if n < 256 { n as u8 } else { 255 }
+    u8::try_from(n).unwrap_or(u8::MAX)
 }
 
 // T, W and HERE.
@@ -50,7 +50,7 @@ fn heard_first(line: &[u8], r: Read) -> Hearing
     let here = single(line, wave);
     Hearing {
         heard: Heard {
-            time: of_bits64(time.value),
+            time: f64::of_bits(time.value),
             wave: u8_of(wave.value),
             snr_db: single_of(here.value),
         },
@@ -271,12 +271,6 @@ pub struct FrameWords {
     pub used: usize,
 }
 
-fn fewer(n: usize, room: usize) -> usize
-    ensures { result ≡ min n room }
-{
-    if n < room { n } else { room }
-}
-
 // KIND FLAGS PAYLOAD of the frame at place i. The payload is put behind the bytes that are used.
 fn frame_words(line: &[u8], i: usize, g: FrameWords, bytes: &mut [u8]) -> FrameWords
     requires { g.used ≤ length bytes.old }
@@ -288,7 +282,7 @@ fn frame_words(line: &[u8], i: usize, g: FrameWords, bytes: &mut [u8]) -> FrameW
     let kind = whole(line, g.read);
     let flags = whole(line, kind);
     let payload = hex(line, flags, &mut bytes[at..]);
-    let n = fewer(payload.value as usize, room);
+    let n = (payload.value as usize).min(room);
     let reception = placed(
         g.reception,
         i,
@@ -337,10 +331,8 @@ pub fn frames_words(line: &[u8], r: Read, bytes: &mut [u8]) -> FramesLine
         reception,
         used: 0,
     };
-    let mut i = 0;
-    while i < n {
+    for i in 0..n {
         g = frame_words(line, i, g, bytes);
-        i += 1;
     }
     let reception = g.reception;
     FramesLine {

@@ -4,56 +4,47 @@ ghost use Rattle.call_lines.specs.Names.{or_call, no_name, asking, call_of};
 
 use words::{Read, word};
 
-// The calls, those first that a queuing or a reply makes; 0 is none.
-pub const NO_CALL: u8 = 0;
+// The calls, those first that a queuing or a reply makes.
+#[derive(Clone, Copy, PartialEq, Eq)]
+pub enum Call {
+    Connect,
+    Queue,
+    Short,
+    Long,
+    Turn,
+    Burst,
+    Piece,
+    Log,
+    State,
+    Area,
+    Out,
+    Levels,
+    Messages,
+    Card,
+    Frames,
+}
 
-pub const CONNECT: u8 = 1;
-
-pub const QUEUE: u8 = 2;
-
-pub const SHORT: u8 = 3;
-
-pub const LONG: u8 = 4;
-
-pub const TURN: u8 = 5;
-
-pub const BURST: u8 = 6;
-
-pub const PIECE: u8 = 7;
-
-pub const LOG: u8 = 8;
-
-pub const STATE: u8 = 9;
-
-pub const AREA: u8 = 10;
-
-pub const OUT: u8 = 11;
-
-pub const LEVELS: u8 = 12;
-
-pub const MESSAGES: u8 = 13;
-
-pub const CARD: u8 = 14;
-
-pub const FRAMES: u8 = 15;
-
-// A line's call, and how far the line was read.
+// A line's call, if its first word names one, and how far the line was read.
 #[derive(Clone, Copy)]
 pub struct Named {
-    pub call: u8,
+    pub call: Option<Call>,
     pub read: Read,
 }
 
 // `call`, where the first word is `name` and was no name before.
-fn or(n: Named, line: &[u8], name: &[u8], call: u8) -> Named
+#[tactic(auto, unfolding(crate::specs::Names::or_call))]
+fn or(n: Named, line: &[u8], name: &[u8], call: Call) -> Named
     ensures { result ≡ or_call n line.now name.now call }
 {
-    if n.call != NO_CALL {
+    if n.call.is_some() {
         return n;
     }
     let read = word(line, name);
     if read.ok {
-        return Named { call, read };
+        return Named {
+            call: Some(call),
+            read,
+        };
     }
     n
 }
@@ -62,7 +53,7 @@ fn no_name() -> Named
     ensures { result ≡ no_name }
 {
     Named {
-        call: NO_CALL,
+        call: None,
         read: Read {
             at: 0,
             ok: false,
@@ -76,12 +67,12 @@ fn asking(line: &[u8]) -> Named
     ensures { result ≡ asking line.now }
 {
     let n = no_name();
-    let n = or(n, line, b"short", SHORT);
-    let n = or(n, line, b"queue", QUEUE);
-    let n = or(n, line, b"long", LONG);
-    let n = or(n, line, b"turn", TURN);
-    let n = or(n, line, b"frames", FRAMES);
-    or(n, line, b"connect", CONNECT)
+    let n = or(n, line, b"short", Call::Short);
+    let n = or(n, line, b"queue", Call::Queue);
+    let n = or(n, line, b"long", Call::Long);
+    let n = or(n, line, b"turn", Call::Turn);
+    let n = or(n, line, b"frames", Call::Frames);
+    or(n, line, b"connect", Call::Connect)
 }
 
 // The call that a line names.
@@ -89,13 +80,13 @@ pub fn call_of(line: &[u8]) -> Named
     ensures { result ≡ call_of line.now }
 {
     let n = asking(line);
-    let n = or(n, line, b"burst", BURST);
-    let n = or(n, line, b"piece", PIECE);
-    let n = or(n, line, b"log", LOG);
-    let n = or(n, line, b"state", STATE);
-    let n = or(n, line, b"area", AREA);
-    let n = or(n, line, b"out", OUT);
-    let n = or(n, line, b"levels", LEVELS);
-    let n = or(n, line, b"messages", MESSAGES);
-    or(n, line, b"card", CARD)
+    let n = or(n, line, b"burst", Call::Burst);
+    let n = or(n, line, b"piece", Call::Piece);
+    let n = or(n, line, b"log", Call::Log);
+    let n = or(n, line, b"state", Call::State);
+    let n = or(n, line, b"area", Call::Area);
+    let n = or(n, line, b"out", Call::Out);
+    let n = or(n, line, b"levels", Call::Levels);
+    let n = or(n, line, b"messages", Call::Messages);
+    or(n, line, b"card", Call::Card)
 }

@@ -1,17 +1,19 @@
 -- Numbers written in a row: a turn of a loop that writes one, over any width and any reading as a number. Assumes nothing.
-use Prim.Native.Nat.{ℕ, zero, suc, ◌+◌, ◌*◌, ◌≤◌, ◌<◌}
+use Prim.Native.Nat.{ℕ, zero, suc, ◌+◌, ◌*◌, ◌%◌, ◌<◌}
+use mathlib.Core.Bool.{Bool, true, false}
 use mathlib.Core.Path.{◌≡◌, refl, sym, ap, ◌∙◌}
 use mathlib.Core.List.{List, [], ◌∷◌, ◌++◌, map, append_assoc, append-nil}
 use native.Mathlib.Nat.{mul-suc, mul-zero, add_comm}
 use native.Mathlib.Numerals.{add-one}
 use native.Mathlib.Omega.{arith}
-use lib.ListN.{length, get_or, set, take, length-append, length-map, get_or-map}
-use lib.Seq.{take-suc, take_all, length-take-le}
+use Rattle.std.specs.Int.{from_bool}
+use lib.ListN.{length, get_or, set, take, length-append, length-map}
+use lib.Seq.{take-suc, length-take-le}
 use Rattle.laws.specs.Bytes.{overwrite}
 use Rattle.laws.specs.Little.{le}
-use Rattle.laws.proofs.Bytes.{over-cat, over-take, over-snoc, set-over}
-use Rattle.laws.proofs.Lists.{map-append, map-take}
-use Rattle.card.specs.Card.{packed}
+use Rattle.laws.proofs.Bytes.{over-cat, over-snoc, set-over}
+use Rattle.laws.proofs.Lists.{map-append}
+use Rattle.card.specs.Card.{packed, flag_byte}
 
 pub length-le : (k v : ℕ) → length (le k v) ≡ k
 length-le zero v = refl
@@ -57,15 +59,16 @@ module _ {A : Type 0} (g : A → ℕ) (o : List ℕ) (at : ℕ) (x : List A) (l 
       ∙ ap (overwrite o at) (sym (ap (packed k) (next d h) ∙ packed-append k (map g (take l x)) (g (get_or x l d) ∷ []) ∙ ap
       (λ (r : List ℕ). packed k (map g (take l x)) ++ r) (packed-one k (g (get_or x l d)))))
 
-  -- one byte each
-  pub byte-turn : (d : A) → g d ≡ 0 → l < length x → set (overwrite o at (map g (take l x))) (at + l) (g (get_or x l d)) ≡ overwrite o at
-      (map g (take (l + 1) x))
-  byte-turn d z h =
-      (λ j. set (overwrite o at (map-take g l x j)) (at + l) (sym (ap (get_or (map g x) l) (sym z) ∙ get_or-map g x l d) j))
-      ∙ over-take o at (map g x) l (omega (arith, length-map x g)) ∙ ap (overwrite o at) (sym (map-take g (l + 1) x))
+-- a flag is a byte
+pub flag-put : (o : List ℕ) (i : ℕ) (b : Bool) → set o i (from_bool b) ≡ overwrite o i ((flag_byte b % 256) ∷ [])
+flag-put o i true = set-over o i 1
+flag-put o i false = set-over o i 0
 
-  pub all-put : length x ≤ l → map g (take l x) ≡ map g x
-  all-put h = ap (map g) (take_all l x h)
+pub packed-flags : (bs : List Bool) → packed 1 (map flag_byte bs) ≡ map flag_byte bs
+unfolding packed
+packed-flags [] = refl
+packed-flags (true ∷ bs) = ap (λ (r : List ℕ). 1 ∷ r) (packed-flags bs)
+packed-flags (false ∷ bs) = ap (λ (r : List ℕ). 0 ∷ r) (packed-flags bs)
 
 -- three bytes and then a run
 pub small-run : (o : List ℕ) (at a b c : ℕ) (bs : List ℕ) → overwrite (set (set (set o at a) (at + 1) b) (at + 2) c) (at + 3) bs

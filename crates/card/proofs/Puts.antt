@@ -6,9 +6,10 @@ use lib.ListN.{length, set, length-append, length-map}
 use Rattle.laws.specs.Bytes.{overwrite}
 use Rattle.laws.specs.Little.{le}
 use Rattle.laws.proofs.Bytes.{set-over}
+use Rattle.laws.proofs.Lists.{map-id}
 use Rattle.card.specs.Card.{packed, section}
 use Rattle.card.specs.CardCode.{Puts}
-use Rattle.card.proofs.Pack.{length-packed, over-next, packed-one, packed-append}
+use Rattle.card.proofs.Pack.{length-packed, over-next, packed-append}
 
 module _ (o o' q : List ℕ) (i : ℕ) where
   -- a run, and a run right after it
@@ -31,16 +32,14 @@ module _ (o q : List ℕ) (i : ℕ) where
       (packed k (map g x)) (k * n)
   rowed g k x n h e = (e, length-packed k (map g x) ∙ ap (λ (m : ℕ). k * m) (length-map x g ∙ sym h))
 
-  pub numbered : (k : ℕ) (x : List ℕ) (n : ℕ) → n ≡ length x → q ≡ overwrite o i (packed k x) → Puts o q i (packed k x) (k * n)
-  numbered k x n h e = (e, length-packed k x ∙ ap (λ (m : ℕ). k * m) (sym h))
+  -- of numbers as they are
+  pub numbered : (k : ℕ) (x : List ℕ) (n : ℕ) → n ≡ length x → q ≡ overwrite o i (packed k (map (λ (v : ℕ). v) x)) → Puts o q i (packed k x) (k * n)
+  numbered k x n h e =
+      (e ∙ ap (λ (l : List ℕ). overwrite o i (packed k l)) (map-id x), length-packed k x ∙ ap (λ (m : ℕ). k * m) (sym h))
 
 -- one byte
 pub one_byte : (o : List ℕ) (i v : ℕ) → Puts o (set o i v) i (v ∷ []) 1
 one_byte o i v = (set-over o i v, refl)
-
--- a row of one
-pub single : (o q : List ℕ) (i k v n : ℕ) → Puts o q i (packed k (v ∷ [])) n → Puts o q i (le k v) n
-single o q i k v n e = rw (packed-one k v) at e
 
 -- two rows are one
 pub merged : (o q : List ℕ) (i k : ℕ) (xs ys : List ℕ) (n : ℕ) → Puts o q i (packed k xs ++ packed k ys) n → Puts o q i

@@ -1,19 +1,34 @@
 -- What the refusals say of a file: laws that the code's proofs cite. Assumes nothing.
-use Prim.Native.Nat.{ℕ, ◌+◌, ◌≤◌, ◌<◌}
-use mathlib.Core.Path.{◌≡◌, refl, sym}
-use mathlib.Core.Bool.{true, false, ◌||◌}
+use Prim.Native.Nat.{ℕ, zero, suc, ◌+◌, ◌≤◌, ◌<◌}
+use mathlib.Core.Path.{◌≡◌, refl, sym, ap, ◌∙◌}
+use mathlib.Core.Bool.{Bool, true, false, ◌||◌, ◌&&◌}
 use mathlib.Core.List.{List, [], ◌∷◌}
 use native.Mathlib.Omega.{arith}
 use borrow.Author.Tests.{eqb-true, leb-true, eq-eqb, ne_eqb, lt-ltb, le-ltb}
 use lib.Dec.{eqb, ltb, leb}
 use lib.ListN.{length, get_or}
-use Rattle.laws.specs.Bytes.{overwrite}
+use Rattle.std.specs.List.{list_all}
+use Rattle.laws.specs.Bytes.{overwrite, part}
+use Rattle.laws.specs.Span.{every, upto, from}
+use Rattle.laws.proofs.Bytes.{part-cons}
 use Rattle.laws.proofs.Tests.{all-at}
 use Rattle.laws.proofs.Picks.{test}
 use Rattle.config.specs.declared.Profile.{Profile}
 use Rattle.config.specs.Ranges.{in_range, in_order}
+use Rattle.card.specs.declared.Refusal.{Refusal}
+use Rattle.card.specs.declared.Refusal.TheVariants.{OutOfRange, ShortOverLong, BadVersion, BadLength, HarqStretch}
+use Rattle.card.specs.Card.{number_of}
 use Rattle.card.specs.Card.{at, version_bad, options_ok, counts_agree, file_refusal, content_refusal, read_refusal, read_of, options_in, stretch_place}
-use Rattle.card.specs.Card.{card_profile, card_of, write_refusal, write_of}
+use Rattle.card.specs.Card.{place_ok, places_ok, card_profile, card_of, write_refusal, write_of}
+
+-- ---- a refusal has a number
+
+pub number-some : (r : Refusal) → number_of r ≡ 0 → ⊥
+number-some OutOfRange e = omega arith
+number-some ShortOverLong e = omega arith
+number-some BadVersion e = omega arith
+number-some BadLength e = omega arith
+number-some HarqStretch e = omega arith
 
 -- ---- the version
 
@@ -43,6 +58,21 @@ counts-long b e =
 
 pub counts-short : (b : List ℕ) → length b < 751 → false ≡ counts_agree b
 counts-short b h = test (counts_agree b) (λ e. absurd (omega (arith, counts-long b e))) (λ e. sym e)
+
+-- ---- the places
+
+places-from : (os : List ℕ) (n i : ℕ) → 127 + i + n ≤ length os → every (place_ok os) (from i n) ≡ list_all (λ (v : ℕ). leb v 1) (part os (127 + i) n)
+unfolding every from
+places-from os zero i h = refl
+places-from os (suc n) i h =
+    let e : 127 + (i + 1) ≡ 127 + i + 1 = omega arith in
+    ap (λ (b : Bool). place_ok os i && b) (places-from os n (i + 1) (omega arith)
+    ∙ ap (λ (j : ℕ). list_all (λ (v : ℕ). leb v 1) (part os j n)) e)
+    ∙ sym (ap (list_all (λ (v : ℕ). leb v 1)) (part-cons os (127 + i) n (omega arith)))
+
+pub places-listed : (os : List ℕ) → 142 ≤ length os → list_all (λ (v : ℕ). leb v 1) (part os 127 15) ≡ places_ok os
+unfolding places_ok upto
+places-listed os h = sym (places-from os 15 0 h)
 
 -- ---- the file and then the profile
 

@@ -1,7 +1,7 @@
 -- A profile as a file (document 02, Change 3): "a one-byte version, then four sections in a fixed order, each after its two-byte count of
 -- bytes, low byte first: levels, waves, thresholds, options". Inside a section "each number low byte first and each float by its bits".
 -- Definitions only.
-use Rattle.std.specs.Prelude.{ℕ, zero, suc, ◌+◌, Bool, false, cond, not, ◌&&◌, ◌||◌, List, [], ◌∷◌, ◌++◌, map, leb, ltb, eqb, length, get_or, Float}
+use Rattle.std.specs.Prelude.{ℕ, zero, suc, ◌+◌, Bool, false, cond, not, ◌&&◌, ◌||◌, List, [], ◌∷◌, ◌++◌, map, leb, ltb, eqb, length, get_or, Float, Result, Ok, Err}
 use Rattle.std.specs.Float.{binary32, binary64}
 use Rattle.std.specs.Float.Ieee.{of_bits, to_bits, ne}
 use Rattle.laws.specs.Tests.{all}
@@ -17,6 +17,9 @@ use Rattle.config.specs.declared.MaybeLevel.{MaybeLevel}
 use Rattle.config.specs.declared.HoldTimes.{HoldTimes}
 use Rattle.config.specs.declared.Profile.{Profile}
 use Rattle.config.specs.Ranges.{in_range, in_order}
+use Rattle.card.specs.declared.Taken.{Taken}
+use Rattle.card.specs.declared.Refusal.{Refusal}
+use Rattle.card.specs.declared.Refusal.TheVariants.{OutOfRange, ShortOverLong, BadVersion, BadLength, HarqStretch}
 
 -- ---- numbers and floats
 
@@ -220,6 +223,19 @@ card_profile b = profile_in (levels_in b) (waves_in b) (thresholds_in b) (option
 
 -- ---- the refusals
 
+-- a refusal's number
+abbrev pub number_of : Refusal → ℕ
+number_of OutOfRange = 1
+number_of ShortOverLong = 2
+number_of BadVersion = 13
+number_of BadLength = 14
+number_of HarqStretch = 18
+
+-- 0, or the refusal's number
+abbrev pub told : {A : Type 0} → Result A Refusal → ℕ
+told (Ok a) = 0
+told (Err r) = number_of r
+
 -- 13: "a version byte of 0 or above 15"; an empty file has none
 unfoldable pub version_bad : List ℕ → Bool
 version_bad [] = false
@@ -266,6 +282,11 @@ unfoldable pub write_refusal : Profile → ℕ → ℕ
 write_refusal p n = cond (not (in_range p)) 1 (cond (not (in_order p)) 2 (cond (ltb n card_bytes) 14 0))
 
 -- ---- the calls
+
+-- what an answer says to one who has the profile `before`: the number, the profile, and whether harq_stretch was on
+abbrev pub answered : Result Taken Refusal → Profile → ℕ × Profile × Bool
+answered (Ok f) before = (0, f.profile, f.stretched)
+answered (Err r) before = (number_of r, before, false)
 
 -- the number; the profile: `before`, which was handed in, where the file is refused; and whether harq_stretch was on: "read with it off, and
 -- that reading alone says so" (Change 11)

@@ -1,11 +1,11 @@
 // A profile out of the four sections of a file, and what is wrong with the file.
 ghost use Rattle.std.specs.Prelude.{◌≡◌, ◌+◌, ◌≤◌, ◌<◌, eqb, length, get_or};
 ghost use Rattle.card.specs.Card.{at as value_at, card_flag, option_at, pin_in, air_in, marks_in, codes_in, lengths_in, holds_in, profile_in};
-ghost use Rattle.card.specs.Card.{version_bad, options_ok, counts_agree, file_refusal, places_ok, stretch_place, stretch_later, content_refusal};
+ghost use Rattle.card.specs.Card.{told, version_bad, options_ok, counts_agree, file_refusal, places_ok, stretch_place, stretch_later, content_refusal};
 
-use crate::CARD_BYTES;
-use crate::rows::{f32_at, f32s17, f64_at, f64s6, f64s17, u32_at, u32s6, u32s17};
-use byte_copy::{load16, load64};
+use crate::rows::{Placed, row};
+use crate::{CARD_BYTES, Refusal};
+use byte_copy::Little;
 use config::ranges::{in_order, in_range};
 use config::{Air, HoldTimes, Lengths, Marks, MaybeDb, MaybeLevel, Profile};
 use harq::Harq;
@@ -17,26 +17,13 @@ fn flag(os: &[u8], i: usize) -> bool
     os[127 + i] == 1
 }
 
-fn wide(n: u8) -> usize
-    ensures { result ≡ n }
-{
-    n as usize
-}
-
-fn whole(os: &[u8], i: usize) -> usize
-    requires { i < length os.now }
-    ensures { result ≡ get_or os.now i 0 }
-{
-    wide(os[i])
-}
-
 fn maybe_db(os: &[u8], i: usize, at: usize) -> MaybeDb
     requires { (127 + i < length os.now) × (at + 4 ≤ length os.now) }
     ensures { result ≡ option_at os.now i at }
 {
     MaybeDb {
         set: flag(os, i),
-        db: f32_at(os, at),
+        db: f32::read(os, at),
     }
 }
 
@@ -46,7 +33,7 @@ fn pin(os: &[u8]) -> MaybeLevel
 {
     MaybeLevel {
         set: flag(os, 2),
-        level: load64(os, 119) as usize,
+        level: u64::load(os, 119) as usize,
     }
 }
 
@@ -55,12 +42,12 @@ fn air(ls: &[u8], ws: &[u8], os: &[u8]) -> Air
     ensures { result ≡ air_in ls.now ws.now os.now }
 {
     Air {
-        slot_bits: u32s17(ls, 0),
-        pre_s: f64s17(ls, 68),
-        rate: f64s17(ls, 204),
-        max_bits: u32s17(ls, 340),
-        ack_s: f64s6(ws, 0),
-        cue_s: f64_at(os, 0),
+        slot_bits: row(ls, 0),
+        pre_s: row(ls, 68),
+        rate: row(ls, 204),
+        max_bits: row(ls, 340),
+        ack_s: row(ws, 0),
+        cue_s: f64::read(os, 0),
     }
 }
 
@@ -69,8 +56,8 @@ fn marks(ts: &[u8], i: usize) -> Marks
     ensures { result ≡ marks_in ts.now i }
 {
     Marks {
-        thresholds_db: f32s17(ts, i),
-        margin_db: f32_at(ts, i + 68),
+        thresholds_db: row(ts, i),
+        margin_db: f32::read(ts, i + 68),
     }
 }
 
@@ -79,8 +66,8 @@ fn codes(os: &[u8]) -> Harq
     ensures { result ≡ codes_in os.now }
 {
     Harq {
-        mother: u32_at(os, 72),
-        ends: u32s6(os, 76),
+        mother: u32::read(os, 72),
+        ends: row(os, 76),
     }
 }
 
@@ -89,12 +76,12 @@ fn lengths(os: &[u8]) -> Lengths
     ensures { result ≡ lengths_in os.now }
 {
     Lengths {
-        max_burst_s: f64_at(os, 8),
-        max_burst_long_s: f64_at(os, 16),
-        burst_overhead: f64_at(os, 24),
-        turnaround_s: f64_at(os, 32),
+        max_burst_s: f64::read(os, 8),
+        max_burst_long_s: f64::read(os, 16),
+        burst_overhead: f64::read(os, 24),
+        turnaround_s: f64::read(os, 32),
         burst_adapt: flag(os, 3),
-        burst_steady_db: f32_at(os, 100),
+        burst_steady_db: f32::read(os, 100),
         burst_climb_db: maybe_db(os, 0, 104),
     }
 }
@@ -104,9 +91,9 @@ fn hold_times(os: &[u8]) -> HoldTimes
     ensures { result ≡ holds_in os.now }
 {
     HoldTimes {
-        fail_hold_s: f64_at(os, 40),
-        fail_hold_max_s: f64_at(os, 48),
-        loss_hold_s: f64_at(os, 56),
+        fail_hold_s: f64::read(os, 40),
+        fail_hold_max_s: f64::read(os, 48),
+        loss_hold_s: f64::read(os, 56),
     }
 }
 
@@ -116,18 +103,18 @@ pub(crate) fn profile(ls: &[u8], ws: &[u8], ts: &[u8], os: &[u8]) -> Profile
 {
     Profile {
         air: air(ls, ws, os),
-        short_bytes: u32_at(os, 64),
-        long_bytes: u32_at(os, 68),
+        short_bytes: u32::read(os, 64),
+        long_bytes: u32::read(os, 68),
         codes: codes(os),
         lengths: lengths(os),
         hold_times: hold_times(os),
         plain: marks(ts, 0),
         eff: marks(ts, 72),
         eff_snr: flag(os, 4),
-        cue_below_db: f32_at(os, 108),
+        cue_below_db: f32::read(os, 108),
         start_margin_db: maybe_db(os, 1, 112),
-        max_level: whole(os, 116),
-        skip_slices_from: whole(os, 117),
+        max_level: os[116] as usize,
+        skip_slices_from: os[117] as usize,
         pin_level: pin(os),
         goodput: flag(os, 5),
         power: os[118],
@@ -164,7 +151,7 @@ fn count(b: &[u8], at: usize) -> usize
     requires { at + 2 ≤ length b.now }
     ensures { (result ≡ value_at 2 b.now at) × (result < 65536) }
 {
-    load16(b, at) as usize
+    u16::load(b, at) as usize
 }
 
 fn counts_ok(b: &[u8]) -> bool
@@ -178,31 +165,24 @@ fn counts_ok(b: &[u8]) -> bool
     (count(b, 1) == 408) & ((count(b, 411) == 48) & ((count(b, 461) == 144) & last))
 }
 
-// 13 and 14. A file that passes has all four sections.
-pub(crate) fn file_refusal(b: &[u8]) -> u8
-    ensures { (result ≡ file_refusal b.now) × (result ≡ 0 → 751 ≤ length b.now) }
+// A file that passes has all four sections.
+pub(crate) fn check_file(b: &[u8]) -> Result<(), Refusal>
+    ensures { (told result ≡ file_refusal b.now) × (told result ≡ 0 → 751 ≤ length b.now) }
 {
     if version_bad(b) {
-        return 13;
+        return Err(Refusal::BadVersion);
     }
     if !counts_ok(b) {
-        return 14;
+        return Err(Refusal::BadLength);
     }
-    0
+    Ok(())
 }
 
 fn places_ok(os: &[u8]) -> bool
     requires { 142 ≤ length os.now }
     ensures { result ≡ places_ok os.now }
 {
-    let mut i: usize = 0;
-    while i < 15 {
-        if 1 < os[127 + i] {
-            return false;
-        }
-        i += 1;
-    }
-    true
+    os[127..142].iter().all(|place| *place <= 1)
 }
 
 // Whether harq_stretch is on.
@@ -220,22 +200,21 @@ fn stretch_later(version: u8, os: &[u8]) -> bool
     (1 < version) & (os[141] != 0)
 }
 
-// 18, 1 and 2.
-pub(crate) fn profile_refusal(version: u8, os: &[u8], p: Profile) -> u8
+pub(crate) fn check_profile(version: u8, os: &[u8], p: Profile) -> Result<(), Refusal>
     requires { 142 ≤ length os.now }
-    ensures { result ≡ content_refusal version os.now p }
+    ensures { told result ≡ content_refusal version os.now p }
 {
     if stretch_later(version, os) {
-        return 18;
+        return Err(Refusal::HarqStretch);
     }
     if !places_ok(os) {
-        return 1;
+        return Err(Refusal::OutOfRange);
     }
     if !in_range(p) {
-        return 1;
+        return Err(Refusal::OutOfRange);
     }
     if !in_order(p.short_bytes, p.long_bytes) {
-        return 2;
+        return Err(Refusal::ShortOverLong);
     }
-    0
+    Ok(())
 }

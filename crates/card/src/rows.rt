@@ -1,148 +1,124 @@
 // Rows of numbers in a section, low byte first, floats by their bits.
-ghost use Rattle.std.specs.Prelude.{◌≡◌, map, ◌+◌, ◌*◌, ◌≤◌, length};
+ghost use Rattle.std.specs.Prelude.{◌≡◌, ℕ, map, ◌+◌, ◌*◌, ◌≤◌, length, eqb};
 ghost use Rattle.std.specs.Float.{binary32, binary64};
 ghost use Rattle.std.specs.Float.Ieee.{of_bits};
 ghost use Rattle.laws.specs.Bytes.{overwrite};
-ghost use Rattle.card.specs.Card.{at as value_at, numbers_at, card_double, card_single, bits32, bits64, flag_byte, packed};
+ghost use Rattle.laws.specs.Little.{le};
+ghost use Rattle.card.specs.Card.{at as value_at, numbers_at, bits32, bits64, flag_byte, packed};
 
-use byte_copy::{load32, load64, store32, store64};
-use float_bits::{of_bits32, of_bits64, to_bits32, to_bits64};
+use byte_copy::Little;
+use float_bits::Pattern;
 
-pub(crate) fn u32_at(a: &[u8], at: usize) -> u32
-    requires { at + 4 ≤ length a.now }
-    ensures { result ≡ value_at 4 a.now at }
-{
-    load32(a, at)
+// What a place of a section holds: a number of BYTES bytes, low byte first, and what it stands for.
+pub(crate) trait Placed: Copy {
+    ghost BYTES: { ℕ };
+
+    // what a number stands for
+    ghost meant: { ℕ → Self };
+
+    // the number that is written
+    ghost number: { Self → ℕ };
+
+    const BYTES: usize;
+
+    fn read(a: &[u8], at: usize) -> Self
+        requires { at + BYTES ≤ length a.now }
+        ensures { result ≡ meant (value_at BYTES a.now at) };
+
+    fn put(self, out: &mut [u8], at: usize)
+        requires { at + BYTES ≤ length out.old }
+        ensures { out.new ≡ overwrite out.old at (le BYTES (number self)) };
 }
 
-pub(crate) fn f64_at(a: &[u8], at: usize) -> f64
-    requires { at + 8 ≤ length a.now }
-    ensures { result ≡ card_double a.now at }
-{
-    of_bits64(load64(a, at))
-}
+impl Placed for u32 {
+    ghost BYTES = { 4 };
 
-pub(crate) fn f32_at(a: &[u8], at: usize) -> f32
-    requires { at + 4 ≤ length a.now }
-    ensures { result ≡ card_single a.now at }
-{
-    of_bits32(load32(a, at))
-}
+    ghost meant = { λ n. n };
 
-pub(crate) fn u32s17(a: &[u8], at: usize) -> [u32; 17]
-    requires { at + 68 ≤ length a.now }
-    ensures { result ≡ numbers_at 4 17 a.now at }
-{
-    let mut x = [0u32; 17];
-    let mut l: usize = 0;
-    while l < 17 {
-        x[l] = u32_at(a, at + 4 * l);
-        l += 1;
+    ghost number = { λ n. n };
+
+    const BYTES: usize = 4;
+
+    fn read(a: &[u8], at: usize) -> u32 {
+        u32::load(a, at)
     }
-    x
-}
 
-pub(crate) fn u32s6(a: &[u8], at: usize) -> [u32; 6]
-    requires { at + 24 ≤ length a.now }
-    ensures { result ≡ numbers_at 4 6 a.now at }
-{
-    let mut x = [0u32; 6];
-    let mut l: usize = 0;
-    while l < 6 {
-        x[l] = u32_at(a, at + 4 * l);
-        l += 1;
-    }
-    x
-}
-
-pub(crate) fn f64s17(a: &[u8], at: usize) -> [f64; 17]
-    requires { at + 136 ≤ length a.now }
-    ensures { result ≡ map (of_bits binary64) (numbers_at 8 17 a.now at) }
-{
-    let mut x: [f64; 17] = [0.0; 17];
-    let mut l: usize = 0;
-    while l < 17 {
-        x[l] = f64_at(a, at + 8 * l);
-        l += 1;
-    }
-    x
-}
-
-pub(crate) fn f64s6(a: &[u8], at: usize) -> [f64; 6]
-    requires { at + 48 ≤ length a.now }
-    ensures { result ≡ map (of_bits binary64) (numbers_at 8 6 a.now at) }
-{
-    let mut x: [f64; 6] = [0.0; 6];
-    let mut l: usize = 0;
-    while l < 6 {
-        x[l] = f64_at(a, at + 8 * l);
-        l += 1;
-    }
-    x
-}
-
-pub(crate) fn f32s17(a: &[u8], at: usize) -> [f32; 17]
-    requires { at + 68 ≤ length a.now }
-    ensures { result ≡ map (of_bits binary32) (numbers_at 4 17 a.now at) }
-{
-    let mut x: [f32; 17] = [0.0; 17];
-    let mut l: usize = 0;
-    while l < 17 {
-        x[l] = f32_at(a, at + 4 * l);
-        l += 1;
-    }
-    x
-}
-
-pub(crate) fn put_u32s(out: &mut [u8], at: usize, x: &[u32])
-    requires { at + 4 * length x.now ≤ length out.old }
-    ensures { out.new ≡ overwrite out.old at (packed 4 x.now) }
-{
-    let mut l: usize = 0;
-    while l < x.len() {
-        store32(out, at + 4 * l, x[l]);
-        l += 1;
+    fn put(self, out: &mut [u8], at: usize) {
+        u32::store(out, at, self);
     }
 }
 
-pub(crate) fn put_f64s(out: &mut [u8], at: usize, x: &[f64])
-    requires { at + 8 * length x.now ≤ length out.old }
-    ensures { out.new ≡ overwrite out.old at (packed 8 (map bits64 x.now)) }
-{
-    let mut l: usize = 0;
-    while l < x.len() {
-        store64(out, at + 8 * l, to_bits64(x[l]));
-        l += 1;
+impl Placed for f64 {
+    ghost BYTES = { 8 };
+
+    ghost meant = { of_bits binary64 };
+
+    ghost number = { bits64 };
+
+    const BYTES: usize = 8;
+
+    fn read(a: &[u8], at: usize) -> f64 {
+        f64::of_bits(u64::load(a, at))
+    }
+
+    fn put(self, out: &mut [u8], at: usize) {
+        u64::store(out, at, self.pattern());
     }
 }
 
-pub(crate) fn put_f32s(out: &mut [u8], at: usize, x: &[f32])
-    requires { at + 4 * length x.now ≤ length out.old }
-    ensures { out.new ≡ overwrite out.old at (packed 4 (map bits32 x.now)) }
-{
-    let mut l: usize = 0;
-    while l < x.len() {
-        store32(out, at + 4 * l, to_bits32(x[l]));
-        l += 1;
+impl Placed for f32 {
+    ghost BYTES = { 4 };
+
+    ghost meant = { of_bits binary32 };
+
+    ghost number = { bits32 };
+
+    const BYTES: usize = 4;
+
+    fn read(a: &[u8], at: usize) -> f32 {
+        f32::of_bits(u32::load(a, at))
+    }
+
+    fn put(self, out: &mut [u8], at: usize) {
+        u32::store(out, at, self.pattern());
     }
 }
 
-fn bit_of(b: bool) -> u8
-    ensures { result ≡ flag_byte b }
-{
-    if b {
-        return 1;
+// On is 1; what is neither 0 nor 1 is refused before it is read.
+impl Placed for bool {
+    ghost BYTES = { 1 };
+
+    ghost meant = { λ n. eqb n 1 };
+
+    ghost number = { flag_byte };
+
+    const BYTES: usize = 1;
+
+    fn read(a: &[u8], at: usize) -> bool {
+        a[at] == 1
     }
-    0
+
+    fn put(self, out: &mut [u8], at: usize) {
+        out[at] = u8::from(self);
+    }
 }
 
-pub(crate) fn put_flags(out: &mut [u8], at: usize, x: &[bool])
-    requires { at + length x.now ≤ length out.old }
-    ensures { out.new ≡ overwrite out.old at (map flag_byte x.now) }
+pub(crate) fn row<T: Placed, const N: usize>(a: &[u8], at: usize) -> [T; N]
+    requires { at + T.BYTES * N ≤ length a.now }
+    ensures { result ≡ map T.meant (numbers_at T.BYTES N a.now at) }
 {
-    let mut l: usize = 0;
-    while l < x.len() {
-        out[at + l] = bit_of(x[l]);
-        l += 1;
+    std::array::from_fn(
+        |l: usize| -> T
+            requires { at + T.BYTES * (l + 1) ≤ length a.now }
+        { T::read(a, at + T::BYTES * l) },
+    )
+}
+
+pub(crate) fn put_row<T: Placed>(out: &mut [u8], at: usize, x: &[T])
+    requires { at + T.BYTES * length x.now ≤ length out.old }
+    ensures { out.new ≡ overwrite out.old at (packed T.BYTES (map T.number x.now)) }
+{
+    for (l, v) in x.iter().enumerate() {
+        v.put(out, at + T::BYTES * l);
     }
 }

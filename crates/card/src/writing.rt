@@ -4,8 +4,8 @@ ghost use Rattle.card.specs.Card.{bits32, bits64, flag_byte, packed, section, le
 ghost use Rattle.card.specs.Card.{smalls_of, on_off_places, options_of, card_of};
 ghost use Rattle.card.specs.CardCode.{Puts};
 
-use crate::rows::{put_f32s, put_f64s, put_flags, put_u32s};
-use byte_copy::{store16, store64};
+use crate::rows::{Placed, put_row};
+use byte_copy::Little;
 use config::{Air, Marks, Profile};
 use harq::Harq;
 
@@ -20,45 +20,36 @@ fn put_levels(out: &mut [u8], a: Air)
     requires { 411 ≤ length out.old }
     ensures { Puts out.old out.new 1 (section (levels_of a)) 410 }
 {
-    let slots = a.slot_bits;
-    let pre = a.pre_s;
-    let rate = a.rate;
-    let most = a.max_bits;
-    store16(out, 1, 408);
-    put_u32s(out, 3, &slots);
-    put_f64s(out, 71, &pre);
-    put_f64s(out, 207, &rate);
-    put_u32s(out, 343, &most);
+    u16::store(out, 1, 408);
+    put_row(out, 3, &a.slot_bits);
+    put_row(out, 71, &a.pre_s);
+    put_row(out, 207, &a.rate);
+    put_row(out, 343, &a.max_bits);
 }
 
 fn put_waves(out: &mut [u8], a: Air)
     requires { 461 ≤ length out.old }
     ensures { Puts out.old out.new 411 (section (waves_of a)) 50 }
 {
-    let acks = a.ack_s;
-    store16(out, 411, 48);
-    put_f64s(out, 413, &acks);
+    u16::store(out, 411, 48);
+    put_row(out, 413, &a.ack_s);
 }
 
 fn put_marks(out: &mut [u8], at: usize, m: Marks)
     requires { at + 72 ≤ length out.old }
     ensures { Puts out.old out.new at (marks_bytes m) 72 }
 {
-    let thresholds = m.thresholds_db;
-    let margin = [m.margin_db];
-    put_f32s(out, at, &thresholds);
-    put_f32s(out, at + 68, &margin);
+    put_row(out, at, &m.thresholds_db);
+    m.margin_db.put(out, at + 68);
 }
 
 fn put_thresholds(out: &mut [u8], p: Profile)
     requires { 607 ≤ length out.old }
     ensures { Puts out.old out.new 461 (section (thresholds_of p)) 146 }
 {
-    let plain = p.plain;
-    let eff = p.eff;
-    store16(out, 461, 144);
-    put_marks(out, 463, plain);
-    put_marks(out, 535, eff);
+    u16::store(out, 461, 144);
+    put_marks(out, 463, p.plain);
+    put_marks(out, 535, p.eff);
 }
 
 fn put_doubles(out: &mut [u8], p: Profile)
@@ -75,7 +66,7 @@ fn put_doubles(out: &mut [u8], p: Profile)
         p.hold_times.fail_hold_max_s,
         p.hold_times.loss_hold_s,
     ];
-    put_f64s(out, 609, &x);
+    put_row(out, 609, &x);
 }
 
 fn put_wholes(out: &mut [u8], short: u32, long: u32, q: Harq)
@@ -83,9 +74,8 @@ fn put_wholes(out: &mut [u8], short: u32, long: u32, q: Harq)
     ensures { Puts out.old out.new 673 (packed 4 (short ∷ long ∷ q.mother ∷ q.ends)) 36 }
 {
     let x = [short, long, q.mother];
-    let ends = q.ends;
-    put_u32s(out, 673, &x);
-    put_u32s(out, 685, &ends);
+    put_row(out, 673, &x);
+    put_row(out, 685, &q.ends);
 }
 
 fn put_singles(out: &mut [u8], p: Profile)
@@ -98,7 +88,7 @@ fn put_singles(out: &mut [u8], p: Profile)
         p.cue_below_db,
         p.start_margin_db.db,
     ];
-    put_f32s(out, 709, &x);
+    put_row(out, 709, &x);
 }
 
 fn put_smalls(out: &mut [u8], p: Profile)
@@ -108,7 +98,7 @@ fn put_smalls(out: &mut [u8], p: Profile)
     out[725] = p.max_level as u8;
     out[726] = p.skip_slices_from as u8;
     out[727] = p.power;
-    store64(out, 728, p.pin_level.level as u64);
+    u64::store(out, 728, p.pin_level.level as u64);
 }
 
 fn put_places(out: &mut [u8], p: Profile)
@@ -132,17 +122,16 @@ fn put_places(out: &mut [u8], p: Profile)
         p.harq_partial,
         false,
     ];
-    put_flags(out, 736, &x);
+    put_row(out, 736, &x);
 }
 
 fn put_options(out: &mut [u8], p: Profile)
     requires { (751 ≤ length out.old) × ((p.max_level ≤ 16) × (p.skip_slices_from ≤ 17)) }
     ensures { Puts out.old out.new 607 (section (options_of p)) 144 }
 {
-    let codes = p.codes;
-    store16(out, 607, 142);
+    u16::store(out, 607, 142);
     put_doubles(out, p);
-    put_wholes(out, p.short_bytes, p.long_bytes, codes);
+    put_wholes(out, p.short_bytes, p.long_bytes, p.codes);
     put_singles(out, p);
     put_smalls(out, p);
     put_places(out, p);
@@ -153,10 +142,9 @@ pub(crate) fn put_card(out: &mut [u8], p: Profile)
     requires { (751 ≤ length out.old) × ((p.max_level ≤ 16) × (p.skip_slices_from ≤ 17)) }
     ensures { Puts out.old out.new 0 (card_of p) 751 }
 {
-    let air = p.air;
     put_version(out);
-    put_levels(out, air);
-    put_waves(out, air);
+    put_levels(out, p.air);
+    put_waves(out, p.air);
     put_thresholds(out, p);
     put_options(out, p);
 }

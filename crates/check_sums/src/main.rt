@@ -8,7 +8,7 @@ ghost use Rattle.std.specs.Prelude.{◌≡◌, ◌+◌, ◌*◌, ◌≤◌, ◌<
 ghost use Rattle.frame.specs.Table.{table_of};
 ghost use Rattle.frame.specs.Frame.{max_payload};
 
-use byte_copy::load32;
+use byte_copy::Little;
 use frame::encode;
 use std::io;
 
@@ -22,10 +22,8 @@ fn add_generator(p: &mut [u8; 4128], at: usize)
     requires { at + 32 ≤ 4128 }
 {
     let g = GENERATOR;
-    let mut j = 0;
-    while j < 32 {
-        p[at + j] = p[at + j] ^ g[j];
-        j += 1;
+    for j in 0..32 {
+        p[at + j] ^= g[j];
     }
 }
 
@@ -33,12 +31,10 @@ fn add_generator(p: &mut [u8; 4128], at: usize)
 fn divide(p: &mut [u8; 4128], n: usize)
     requires { n + 32 ≤ 4128 }
 {
-    let mut i = 0;
-    while i < n {
+    for i in 0..n {
         if p[i] == 1 {
             add_generator(p, i + 1);
         }
-        i += 1;
     }
 }
 
@@ -47,11 +43,9 @@ fn put_byte(p: &mut [u8; 4128], at: usize, b: u8)
     requires { at + 8 ≤ 4128 }
 {
     let mut rest = b;
-    let mut j = 0;
-    while j < 8 {
+    for j in 0..8 {
         p[at + j] = rest % 2;
-        rest = rest / 2;
-        j += 1;
+        rest /= 2;
     }
 }
 
@@ -59,18 +53,9 @@ fn put_byte(p: &mut [u8; 4128], at: usize, b: u8)
 fn put_bytes(p: &mut [u8; 4128], bytes: &[u8])
     requires { length bytes.now ≤ 512 }
 {
-    let mut i = 0;
-    while i < bytes.len() {
-        put_byte(p, 8 * i, bytes[i]);
-        i += 1;
+    for (i, &b) in bytes.iter().enumerate() {
+        put_byte(p, 8 * i, b);
     }
-}
-
-// The complement of the sum of two coefficients.
-fn equal(a: u8, b: u8) -> u32
-    ensures { result < 2 }
-{
-    if a == b { 1 } else { 0 }
 }
 
 // The complement of the sum of two remainders as a number: the first coefficient is the lowest bit.
@@ -78,10 +63,8 @@ fn number(p: &[u8; 4128], q: &[u8; 4128], n: usize) -> u32
     requires { n + 32 ≤ 4128 }
 {
     let mut r: u32 = 0;
-    let mut j = 0;
-    while j < 32 {
-        r = r / 2 + 0x80000000 * equal(p[n + j], q[n + j]);
-        j += 1;
+    for j in 0..32 {
+        r = r / 2 + 0x80000000 * u32::from(p[n + j] == q[n + j]);
     }
     r
 }
@@ -92,10 +75,7 @@ fn by_rule(bytes: &[u8]) -> u32
 {
     let k = 8 * bytes.len();
     let mut ones = [0u8; 4128];
-    put_byte(&mut ones, 0, 255);
-    put_byte(&mut ones, 8, 255);
-    put_byte(&mut ones, 16, 255);
-    put_byte(&mut ones, 24, 255);
+    put_bytes(&mut ones, &[255; 4]);
     divide(&mut ones, k);
     let mut content = [0u8; 4128];
     put_bytes(&mut content, bytes);
@@ -112,12 +92,8 @@ fn pattern() -> [u8; 254]
     ensures { 254 ≡ length result }
 {
     let mut p = [0u8; 254];
-    let mut x: u32 = 3;
-    let mut i = 0;
-    while i < 254 {
-        p[i] = (x % 256) as u8;
-        x = (x + 7) % 256;
-        i += 1;
+    for i in 0..254 {
+        p[i] = ((7 * i + 3) % 256) as u8;
     }
     p
 }
@@ -130,7 +106,7 @@ fn print_sums(rt: &impl Print, name: &str, frame: &[u8]) -> io::Result<()>
     let body = &frame[..end];
     print(rt, name, by_rule(body))?;
     print(rt, ", crc32 ", frame::crc::crc32(body))?;
-    print(rt, ", in the frame ", load32(frame, end))?;
+    print(rt, ", in the frame ", u32::load(frame, end))?;
     println!(rt; "")
 }
 

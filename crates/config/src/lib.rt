@@ -10,6 +10,7 @@ use harq::Harq;
 pub mod ranges;
 
 // An optional dB value: a flag beside it.
+// kept: the C interface has no Option, here and in MaybeLevel.
 #[repr(C)]
 #[derive(Clone, Copy)]
 pub struct MaybeDb {
@@ -101,12 +102,6 @@ pub struct Profile {
     pub harq_partial: bool,
 }
 
-fn product(a: u32, b: u32) -> u64
-    ensures { result ≡ a * b }
-{
-    (a as u64) * (b as u64)
-}
-
 impl Air {
     // Level::coded_bits.
     pub fn slot(self, l: usize) -> u32
@@ -121,7 +116,7 @@ impl Air {
         requires { l < 17 }
         ensures { result ≡ frame_bits self l frames }
     {
-        product(frames, self.slot(l))
+        u64::from(frames) * u64::from(self.slot(l))
     }
 
     // Air::max_bits.

@@ -43,25 +43,18 @@ fn level_ok(slot: u32, pre_s: f64, rate: f64, most: u32) -> bool
 fn levels_of_air_ok(a: Air) -> bool
     ensures { result ≡ every (level_ok a) (upto 0 17) }
 {
-    let mut ok = true;
-    let mut l: usize = 0;
-    while l < 17 {
-        ok = ok & level_ok(a.slot_bits[l], a.pre_s[l], a.rate[l], a.max_bits[l]);
-        l += 1;
+    for l in 0..17 {
+        if !level_ok(a.slot_bits[l], a.pre_s[l], a.rate[l], a.max_bits[l]) {
+            return false;
+        }
     }
-    ok
+    true
 }
 
 fn acks_ok(a: Air) -> bool
     ensures { result ≡ every (ack_ok a) (upto 0 6) }
 {
-    let mut ok = true;
-    let mut w: usize = 0;
-    while w < 6 {
-        ok = ok & within(a.ack_s[w], 0.0, 60.0);
-        w += 1;
-    }
-    ok
+    a.ack_s.iter().all(|s| within(*s, 0.0, 60.0))
 }
 
 fn air_ok(a: Air) -> bool
@@ -73,13 +66,7 @@ fn air_ok(a: Air) -> bool
 fn ends_ok(q: Harq) -> bool
     ensures { result ≡ every (end_ok q) (upto 0 6) }
 {
-    let mut ok = true;
-    let mut i: usize = 0;
-    while i < 6 {
-        ok = ok & from_to(q.ends[i], 1, 16384);
-        i += 1;
-    }
-    ok
+    q.ends.iter().all(|end| from_to(*end, 1, 16384))
 }
 
 fn harq_ok(q: Harq) -> bool
@@ -107,13 +94,7 @@ fn holds_ok(h: HoldTimes) -> bool
 fn thresholds_ok(m: Marks) -> bool
     ensures { result ≡ every (threshold_ok m) (upto 0 17) }
 {
-    let mut ok = true;
-    let mut l: usize = 0;
-    while l < 17 {
-        ok = ok & db_ok(m.thresholds_db[l]);
-        l += 1;
-    }
-    ok
+    m.thresholds_db.iter().all(|db| db_ok(*db))
 }
 
 // Thresholds and margin in their range.

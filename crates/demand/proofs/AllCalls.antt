@@ -6,10 +6,11 @@ use mathlib.Core.List.{List, [], ◌∷◌}
 use mathlib.Core.Bool.{Bool, true, false, cond, false≢true}
 use Prim.Native.Nat.{ℕ, ◌≤◌}
 use lib.ListN.{length}
+use Rattle.std.proofs.Common.{Option}
 use Rattle.laws.specs.Bytes.{Bytes}
 use Rattle.laws.proofs.Picks.{test, by}
 use Rattle.report.specs.Ack.{info_of}
-use Rattle.report.specs.declared.ack.AckRead.{AckRead}
+use Rattle.report.specs.declared.ack.AckInfo.{AckInfo}
 use Rattle.config.specs.declared.Profile.{Profile}
 use Rattle.config.specs.Ranged.{Ranged}
 use Rattle.config.specs.Ranges.{in_range, in_order}
@@ -74,7 +75,7 @@ module _ (p : Profile) (rg : Ranged p) (io : in_order p ≡ true) (six : length 
       one-does : (f : Decoded) (c : State) → is_ack_read f ≡ true → Bytes f.payload → Good c → Takes p rg ir io h ok c
           → Does p rg io six (single h f) c (C.ack_move (long_ack (info_of f.payload).burst (info_of f.payload).bitmap) (keeps p c.0.sender.gear (flags_of f.flags).stored))
       one-does f c e b w k =
-          subst (λ (x : AckRead). Does p rg io six (single h f) c (long_call_of p rg io six c.0.sender (flags_of f.flags) x)) (read-info f.payload (read-long f e))
+          subst (λ (x : Option AckInfo). Does p rg io six (single h f) c (long_call_of p rg io six c.0.sender (flags_of f.flags) x)) (read-info f.payload (read-long f e))
           (does-hear p rg io six h c w (quiet c k) (LongAck (flags_of f.flags)) f.payload b (takes p rg ir io h ok c k f e))
 
       all-step : (fs : List Decoded) (c : State) → EachBytes fs → Good c → Takes p rg ir io h ok c

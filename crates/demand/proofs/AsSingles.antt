@@ -13,6 +13,7 @@ use lib.Ieee.{Float, le}
 use lib.Ieee.Bits.{is_true}
 use lib.ListN.{length, drop, get_or}
 use borrow.Author.Tests.{le-leb, le-ltb}
+use Rattle.std.proofs.Common.{Option}
 use Rattle.laws.specs.Bytes.{Bytes}
 use Rattle.laws.proofs.Little.{bytes_take, bytes_drop}
 use Rattle.laws.proofs.Picks.{test, by, by₂, either, and_yes, and_first, and_second}
@@ -20,8 +21,7 @@ use Rattle.ieee.specs.Range.{w64, inside}
 use Rattle.ieee.proofs.Tests.{yes}
 use Rattle.ieee.proofs.Value.{le_refl, le-no-nan}
 use Rattle.limits.specs.Limits.{max_taken}
-use Rattle.report.specs.Ack.{info_of, ack_of}
-use Rattle.report.specs.declared.ack.AckRead.{AckRead}
+use Rattle.report.specs.Ack.{info_of, ack_of, report_of}
 use Rattle.report.specs.declared.ack.AckInfo.{AckInfo}
 use Rattle.config.specs.declared.Profile.{Profile}
 use Rattle.config.specs.Ranged.{Ranged}
@@ -51,8 +51,8 @@ use Rattle.queuing.specs.declared.Station.{Station}
 use Rattle.invariant.proofs.Well.{Well}
 use Rattle.invariant.proofs.Replies.{long-well, info-in}
 use Rattle.refusals.specs.declared.Reply.TheVariants.{LongAck}
-use Rattle.refusals.specs.declared.Verdict.{Verdict}
-use Rattle.refusals.specs.declared.Verdict.TheVariants.{Accepted, BadTime, BadValue, ShortPayload}
+use Rattle.refusals.specs.Verdict.{Verdict}
+use Rattle.refusals.specs.Verdict.{Accepted, BadTime, BadValue, ShortPayload}
 use Rattle.refusals.specs.Refusals.{number_of, max_received, time_ok, heard_ok, reply_ok}
 use Rattle.verdicts.specs.Verdicts.{passed, station_ok, taken_by, standing, first_of, reply_verdict, hearing_verdict, frames_standing, receive_verdict, frames_verdict}
 use Rattle.verdicts.proofs.Passed.{stands, Receives, frames-passed}
@@ -201,7 +201,7 @@ module _ (p : Profile) (rg : Ranged p) (ir : in_range p ≡ true) (io : in_order
   unfolding long_acked view
   counted r i s a w =
       let k = ack_noted s.link h.time r.want_turn r.want_disc i.burst in
-      let q = with_link (with_gear s (with_class s.gear i.report.class)) (with_path k i.report.slot i.report.doppler_hz) in
+      let q = with_link (with_gear s (with_class s.gear (report_of i).class)) (with_path k (report_of i).slot (report_of i).doppler_hz) in
       let x = ack-counted (long_ack i.burst i.bitmap) r.stored (long_db p i) h.time q a in
       either (Counts s) s.link.awaiting (counted_ack p h (ack_in p (long_ack i.burst i.bitmap) r.stored (long_db p i) h.time q a)) (with_link s k, a)
       (x.0, x.1 ∙ waiting-length s a w) (refl, refl)
@@ -219,12 +219,12 @@ module _ (p : Profile) (rg : Ranged p) (ir : in_range p ≡ true) (io : in_order
       let x = long_read p h (flags_of f.flags) (ack_of f.payload) c.0.sender c.1 in
       (with_sender c.0 x.0, x.1)
 
-  abbrev read : Decoded → AckRead → State → State
+  abbrev read : Decoded → Option AckInfo → State → State
   read f i c = let x = long_read p h (flags_of f.flags) i c.0.sender c.1 in (with_sender c.0 x.0, x.1)
 
   pub after-takes : (f : Decoded) (c : State) → is_ack_read f ≡ true → Bytes f.payload → Takes c → Takes (after f c)
   after-takes f c e b k =
-      subst (λ (x : AckRead). Takes (read f x c)) (sym (read-info f.payload (read-long f e)))
+      subst (λ (x : Option AckInfo). Takes (read f x c)) (sym (read-info f.payload (read-long f e)))
       (let s = c.0.sender in
       let g = flags_of f.flags in
       let i = info_of f.payload in

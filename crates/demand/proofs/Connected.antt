@@ -6,12 +6,12 @@ use mathlib.Core.Bool.{Bool, true, false, cond, not, ◌&&◌, ◌||◌, false�
 use Prim.Native.Nat.{ℕ}
 use lib.Dec.{eqb}
 use lib.ListN.{length}
+use Rattle.std.proofs.Common.{Option, Some, None}
 use Rattle.laws.proofs.Picks.{test, by, either}
 use Rattle.config.specs.declared.Profile.{Profile}
 use Rattle.config.specs.Ranges.{in_range, in_order}
 use Rattle.report.specs.Ack.{ack_of}
-use Rattle.report.specs.declared.ack.AckRead.{AckRead}
-use Rattle.report.specs.declared.ack.AckRead.TheVariants.{TooShort, Info}
+use Rattle.report.specs.declared.ack.AckInfo.{AckInfo}
 use Rattle.record.specs.View.{store_link, store}
 use Rattle.record.specs.declared.Sender.{Sender}
 use Rattle.settle.specs.AckIn.{ack_in}
@@ -26,8 +26,8 @@ use Rattle.verdicts.proofs.Passed.{frames-passed}
 use Rattle.refusals.specs.Refusals.{kind_of}
 use Rattle.refusals.specs.declared.Reply.{Reply}
 use Rattle.refusals.specs.declared.Reply.TheVariants.{ConnAck, Ack, LongAck, Turn}
-use Rattle.refusals.specs.declared.Verdict.{Verdict}
-use Rattle.refusals.specs.declared.Verdict.TheVariants.{Accepted, ProfileOutOfRange, ShortOverLong, Unsound, OutOfTurn}
+use Rattle.refusals.specs.Verdict.{Verdict}
+use Rattle.refusals.specs.Verdict.{Accepted, ProfileOutOfRange, ShortOverLong, Unsound, OutOfTurn}
 use Rattle.queuing.specs.Station.{with_sender, store_station, queued_in}
 use Rattle.queuing.specs.declared.Station.{Station}
 use Rattle.verdicts.specs.Verdicts.{station_ok, passed, standing, first_of, queue_verdict, receive_verdict, frames_verdict, burst_verdict}
@@ -70,10 +70,10 @@ module _ (p : Profile) (t : Station) (a : List ℕ) where
   -- ---- replies
 
   module _ (h : Heard) where
-    long-on : (r : B.LongAck) (x : AckRead) → s.link.connected ≡ true → On (long_read p h r x s a)
+    long-on : (r : B.LongAck) (x : Option AckInfo) → s.link.connected ≡ true → On (long_read p h r x s a)
     unfolding long_acked ack_in store store_link
-    long-on r TooShort e = e
-    long-on r (Info i) e = either On s.link.awaiting _ _ e e
+    long-on r None e = e
+    long-on r (Some i) e = either On s.link.awaiting _ _ e e
 
     reply-on : (r : Reply) (b : List ℕ) → passed (standing p t a (eqb (kind_of r) 0)) ≡ true → On (accepted_reply p h r b s a)
     unfolding connected_to short_acked turned ack_in store store_link

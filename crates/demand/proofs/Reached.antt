@@ -28,7 +28,7 @@ use Rattle.soundness.specs.Soundness.{sound_ok}
 use Rattle.soundness.proofs.fields.Sound.{sound-test, profile-sizes}
 use Rattle.laws.specs.Bytes.{Bytes}
 use Rattle.invariant.proofs.Well.{fresh-well}
-use Rattle.refusals.specs.declared.Verdict.{Verdict}
+use Rattle.refusals.specs.Verdict.{Verdict}
 use Rattle.refusals.specs.Refusals.{kind_of}
 use Rattle.verdicts.specs.Verdicts.{passed, taken_by, standing, first_of, queue_verdict, receive_verdict, frames_verdict, burst_verdict}
 use Rattle.verdicts.proofs.Passed.{standing-three, frames-passed}

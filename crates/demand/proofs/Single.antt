@@ -12,6 +12,7 @@ use native.Mathlib.Omega.{arith}
 use lib.Dec.{ltb, leb, eqb}
 use lib.ListN.{length, replicate, length-replicate}
 use borrow.Author.Tests.{eqb-true, ne_eqb, le-ltb, leb-true, leb-false, le-leb}
+use Rattle.std.proofs.Common.{Option, Some, None}
 use Rattle.laws.proofs.Picks.{by, by₂, test, and_first, and_second, and_yes, or_right}
 use Rattle.laws.proofs.Tests.{all-at}
 use Rattle.limits.specs.Limits.{max_taken, max_class, max_messages}
@@ -41,13 +42,12 @@ use Rattle.soundness.specs.Soundness.{sound_ok}
 use Rattle.soundness.proofs.fields.Counts.{taken-few}
 use Rattle.soundness.proofs.fields.Sound.{sound-counted}
 use Rattle.replies.specs.declared.Heard.{Heard}
-use Rattle.refusals.specs.declared.Verdict.{Verdict}
-use Rattle.refusals.specs.declared.Verdict.TheVariants.{Accepted, QueueFull, AllTaken, BadClass, TooManyMessages}
+use Rattle.refusals.specs.Verdict.{Verdict}
+use Rattle.refusals.specs.Verdict.{Accepted, QueueFull, AllTaken, BadClass, TooManyMessages}
 use Rattle.refusals.specs.declared.Reply.{Reply}
 use Rattle.refusals.specs.declared.Reply.TheVariants.{ConnAck, Ack, LongAck, Turn}
 use Rattle.refusals.specs.Refusals.{number_of, kind_of}
-use Rattle.report.specs.declared.ack.AckRead.{AckRead}
-use Rattle.report.specs.declared.ack.AckRead.TheVariants.{TooShort, Info}
+use Rattle.report.specs.declared.ack.AckInfo.{AckInfo}
 use Rattle.report.specs.Ack.{ack_of}
 use Rattle.verdicts.specs.Verdicts.{passed, station_ok, taken_by, first_of, standing, room_verdict, reply_verdict, hearing_verdict, frames_standing, output_verdict}
 use Rattle.verdicts.specs.Verdicts.{queue_verdict, receive_verdict, frames_verdict, burst_verdict}
@@ -292,9 +292,9 @@ module _ (p : Profile) (rg : Ranged p) (io : in_order p ≡ true) (six : length 
   abbrev After : State → C.Move → Type 0
   After c m = AllOf k (C.queue_after m (shown c)).messages × (C.withdrawn_after m (shown c) ≡ 0)
 
-  long-plain : (c : State) (r : B.LongAck) (v : AckRead) → Plain (shown c) → After c (long_call_of p rg io six c.0.sender r v)
-  long-plain c r TooShort h = h
-  long-plain c r (Info i) h = h
+  long-plain : (c : State) (r : B.LongAck) (v : Option AckInfo) → Plain (shown c) → After c (long_call_of p rg io six c.0.sender r v)
+  long-plain c r None h = h
+  long-plain c r (Some i) h = h
 
   reply-plain : (c : State) (r : Reply) (b : List ℕ) → Plain (shown c) → After c (call_of p rg io six c.0.sender r b)
   reply-plain c (ConnAck r) b h = h

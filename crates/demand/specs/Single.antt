@@ -9,7 +9,7 @@ use Rattle.record.specs.Fresh.{fresh}
 use Rattle.record.specs.declared.Sender.{Sender}
 use Rattle.outgoing.specs.declared.Outgoing.{Outgoing}
 use Rattle.replies.specs.declared.Heard.{Heard}
-use Rattle.refusals.specs.declared.Verdict.{Verdict}
+use Rattle.refusals.specs.Verdict.{Verdict}
 use Rattle.refusals.specs.declared.Reply.{Reply}
 use Rattle.refusals.specs.Refusals.{number_of}
 use Rattle.reception.specs.declared.Reception.{Reception}

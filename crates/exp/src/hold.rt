@@ -7,5 +7,5 @@ pub fn hold(first: f64, n: u64, cap: f64) -> f64
     requires { n < 1024 }
     ensures { result ≡ hold_of first n cap }
 {
-    float::pick::min64(first * crate::power::power_at(n + 1023), cap)
+    float::pick::min(first * crate::power::power_at(n + 1023), cap)
 }

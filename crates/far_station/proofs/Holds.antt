@@ -17,6 +17,8 @@ use borrow.Author.Tests.{ne_eqb}
 use lib.Ieee.{Float, binary64, add, le}
 use lib.Ieee.Bits.{is_true}
 use lib.ListN.{length}
+use Rattle.std.proofs.Common as Std
+use Rattle.std.proofs.Common.{Some, None}
 use Rattle.laws.specs.Bytes.{Bytes}
 use Rattle.laws.proofs.Picks.{test, by, by₂, either, and_second}
 use Rattle.ieee.specs.Range.{w64, inside}
@@ -24,8 +26,6 @@ use Rattle.ieee.proofs.Tests.{yes}
 use Rattle.ieee.proofs.Value.{le_trans, le_refl, le-no-nan}
 use Rattle.report.specs.Ack.{info_of, ack_of}
 use Rattle.report.specs.declared.ack.AckInfo.{AckInfo}
-use Rattle.report.specs.declared.ack.AckRead.{AckRead}
-use Rattle.report.specs.declared.ack.AckRead.TheVariants.{TooShort, Info}
 use Rattle.config.specs.declared.Profile.{Profile}
 use Rattle.config.specs.Ranged.{Ranged}
 use Rattle.config.specs.Ranges.{in_range, in_order}
@@ -225,9 +225,9 @@ module _ (p : Profile) (rg : Ranged p) (io : in_order p ≡ true) (six : length 
     after-told : (b b' : Bool) (y : Sender) → b ≡ b' → Bounded (cond b' x j) y → Bounded (cond b x j) y
     after-told b b' y e k = subst (λ (v : Bool). Bounded (cond v x j) y) (sym e) k
 
-    long_after : (r : B.LongAck) (i : AckRead) → After (long_event i) (long_read p h r i s a)
-    long_after r TooShort = bd
-    long_after r (Info i) = after-told _ _ (long_acked p h r i s a).0 (ack-told (long_ack i.burst i.bitmap)) (long-bounded r i)
+    long_after : (r : B.LongAck) (i : Std.Option AckInfo) → After (long_event i) (long_read p h r i s a)
+    long_after r None = bd
+    long_after r (Some i) = after-told _ _ (long_acked p h r i s a).0 (ack-told (long_ack i.burst i.bitmap)) (long-bounded r i)
 
     reply-after : (r : Reply) (b : List ℕ) → After (reply_event r b) (accepted_reply p h r b s a)
     reply-after (ConnAck r) b = connect-bounded r

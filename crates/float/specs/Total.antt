@@ -8,9 +8,13 @@ sign nan = true
 sign (inf s) = s
 sign (fin s m e) = s
 
+-- x equals y, and is not +0 where y is -0
+abbrev pub level : Float → Float → Bool
+level x y = eq x y && (sign x || not (sign y))
+
 -- x is not after y: by size, -0 before +0. lib.Ieee has one NaN; it comes first, as one whose sign is set does
 unfoldable pub total_le : Float → Float → Bool
-total_le x y = is_nan x || (lt x y || (eq x y && (sign x || not (sign y))))
+total_le x y = is_nan x || (lt x y || level x y)
 
 -- x put before the first that it is not after
 unfoldable pub insert : Float → List Float → List Float

@@ -1,6 +1,7 @@
 // Rust's methods on f32 and f64 that pick, and the gear's own numbers.
 #![tactic(auto)]
 
+pub mod binary;
 pub mod order;
 pub mod whole;
 

@@ -2,42 +2,28 @@
 ghost use Rattle.std.specs.Prelude.{◌≡◌};
 ghost use Rattle.float.specs.Pick.{min_f, max_f, clamp_f, abs_f};
 
-pub fn min64(x: f64, y: f64) -> f64
-    ensures { result ≡ min_f x y }
+use crate::binary::Binary;
+
+// kept: the library's `min` and `max` leave open which of two zeros they give; these give the first.
+pub fn min<F: Binary>(x: F, y: F) -> F
+    ensures { F.value result ≡ min_f (F.value x) (F.value y) }
 {
-    if (x != x) | (y < x) {
+    if x.not_a_number() | y.below(x) {
         return y;
     }
     x
 }
 
-pub fn max64(x: f64, y: f64) -> f64
-    ensures { result ≡ max_f x y }
+pub fn max<F: Binary>(x: F, y: F) -> F
+    ensures { F.value result ≡ max_f (F.value x) (F.value y) }
 {
-    if (x != x) | (x < y) {
+    if x.not_a_number() | x.below(y) {
         return y;
     }
     x
 }
 
-pub fn min32(a: f32, b: f32) -> f32
-    ensures { result ≡ min_f a b }
-{
-    if (a != a) | (b < a) {
-        return b;
-    }
-    a
-}
-
-pub fn max32(a: f32, b: f32) -> f32
-    ensures { result ≡ max_f a b }
-{
-    if (a != a) | (a < b) {
-        return b;
-    }
-    a
-}
-
+// kept: the library's `clamp` asks that the low end is not above the high end.
 pub fn clamp64(x: f64, lo: f64, hi: f64) -> f64
     ensures { result ≡ clamp_f x lo hi }
 {
@@ -56,11 +42,5 @@ pub fn clamp64(x: f64, lo: f64, hi: f64) -> f64
 pub fn abs32(x: f32) -> f32
     ensures { result ≡ abs_f x }
 {
-    if x < 0.0 {
-        return -x;
-    }
-    if x == 0.0 {
-        return 0.0;
-    }
-    x
+    x.abs()
 }

@@ -3,34 +3,19 @@ ghost use Rattle.std.specs.Prelude.{◌<◌, ◌≤◌};
 
 use std::io;
 
-// The bits of a number.
-fn bits64(x: f64) -> u64 {
-    if x != x {
-        return 0;
-    }
-    f64::to_bits(x)
-}
-
-fn bits32(x: f32) -> u32 {
-    if x != x {
-        return 0;
-    }
-    f32::to_bits(x)
-}
-
 fn put64(rt: &impl Print, x: f64) -> io::Result<()> {
-    if x != x {
+    if x.is_nan() {
         return print!(rt; " nan");
     }
-    let bits = bits64(x);
+    let bits = x.to_bits();
     print!(rt; " {bits:016x}")
 }
 
 fn put32(rt: &impl Print, x: f32) -> io::Result<()> {
-    if x != x {
+    if x.is_nan() {
         return print!(rt; " nan");
     }
-    let bits = bits32(x);
+    let bits = x.to_bits();
     print!(rt; " {bits:08x}")
 }
 
@@ -73,9 +58,9 @@ pub(crate) fn two64(rt: &impl Print, x: f64, y: f64) -> io::Result<()> {
     print!(rt; "two64")?;
     put64(rt, x)?;
     put64(rt, y)?;
-    put64(rt, float::pick::min64(x, y))?;
-    put64(rt, float::pick::max64(x, y))?;
-    answer(rt, float::order::total_le64(x, y))?;
+    put64(rt, float::pick::min(x, y))?;
+    put64(rt, float::pick::max(x, y))?;
+    answer(rt, float::order::total_le(x, y))?;
     end(rt)
 }
 
@@ -84,9 +69,9 @@ pub(crate) fn two32(rt: &impl Print, x: f32, y: f32) -> io::Result<()> {
     print!(rt; "two32")?;
     put32(rt, x)?;
     put32(rt, y)?;
-    put32(rt, float::pick::min32(x, y))?;
-    put32(rt, float::pick::max32(x, y))?;
-    answer(rt, float::order::total_le32(x, y))?;
+    put32(rt, float::pick::min(x, y))?;
+    put32(rt, float::pick::max(x, y))?;
+    answer(rt, float::order::total_le(x, y))?;
     put32(rt, float::gear::share(x, y))?;
     end(rt)
 }
@@ -143,6 +128,6 @@ pub(crate) fn sum(rt: &impl Print, a: u64, b: u64) -> io::Result<()> {
     print!(rt; "sum")?;
     put(rt, a)?;
     put(rt, b)?;
-    put(rt, float::whole::capped_add(a, b))?;
+    put(rt, a.saturating_add(b))?;
     end(rt)
 }

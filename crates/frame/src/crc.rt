@@ -1,11 +1,11 @@
 // CRC-32 of ITU-T V.42: `crc32` of frame.rs, eight bytes a step by tables of half bytes.
-ghost use Rattle.std.specs.Prelude.{◌≡◌, ◌+◌, ◌*◌, ◌%◌, ◌≤◌, ◌<◌, length, drop};
+ghost use Rattle.std.specs.Prelude.{◌≡◌, ◌+◌, ◌*◌, ◌%◌, ◌<◌};
 ghost use Rattle.std.specs.Int.Bits.{bit_xor};
 ghost use Rattle.frame.specs.V42.{fcs, number};
 ghost use Rattle.frame.specs.Crc.{shifts, feed_bytes};
 ghost use Rattle.frame.specs.Table.{table_of};
 
-use byte_copy::load64;
+use byte_copy::Little;
 
 // Sixteen tables of 16, one after the other.
 const TABLE: [u32; 256] = [
@@ -91,16 +91,14 @@ fn one(t: &[u32; 256], c: u32, b: u8) -> u32
     byte(t, 0, x as u64) ^ (x / 256)
 }
 
-// The bytes from `from` on, one by one.
-fn rest(t: &[u32; 256], start: u32, bytes: &[u8], from: usize) -> u32
-    requires { (t.now ≡ table_of) × (from ≤ length bytes.now) }
-    ensures { result ≡ feed_bytes start (drop from bytes.now) }
+// The bytes, one by one.
+fn rest(t: &[u32; 256], start: u32, bytes: &[u8]) -> u32
+    requires { t.now ≡ table_of }
+    ensures { result ≡ feed_bytes start bytes.now }
 {
     let mut c = start;
-    let mut i = from;
-    while i < bytes.len() {
-        c = one(t, c, bytes[i]);
-        i += 1;
+    for &b in bytes {
+        c = one(t, c, b);
     }
     c
 }
@@ -111,12 +109,11 @@ pub fn crc32_by(t: &[u32; 256], bytes: &[u8]) -> u32
     ensures { result ≡ number (fcs bytes.now) }
 {
     let mut c: u32 = 0xFFFFFFFF;
-    let mut i = 0;
-    while 8 <= bytes.len() - i {
-        c = eight(t, (c as u64) ^ load64(bytes, i));
-        i += 8;
+    let eights = bytes.len() / 8;
+    for i in 0..eights {
+        c = eight(t, (c as u64) ^ u64::load(bytes, 8 * i));
     }
-    0xFFFFFFFF - rest(t, c, bytes, i)
+    0xFFFFFFFF - rest(t, c, &bytes[8 * eights..])
 }
 
 pub fn crc32(bytes: &[u8]) -> u32

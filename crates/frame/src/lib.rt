@@ -7,7 +7,7 @@ ghost use Rattle.frame.specs.Table.{table_of};
 ghost use Rattle.frame.specs.Frame.{max_payload, head_of, frame_of};
 
 use crate::crc::crc32_by;
-use byte_copy::{copy_in, fill, store32};
+use byte_copy::{Little, copy_in, fill};
 use limits::MAX_PAYLOAD;
 
 pub mod crc;
@@ -18,10 +18,7 @@ pub fn max_payload(size: usize) -> usize
     ensures { result ≡ max_payload size }
 {
     let room = size - 10;
-    if room < MAX_PAYLOAD {
-        return room;
-    }
-    MAX_PAYLOAD
+    room.min(MAX_PAYLOAD)
 }
 
 // The six bytes before a payload of n bytes.
@@ -29,9 +26,7 @@ fn head(off: u32, n: usize) -> [u8; 6]
     requires { n < 256 }
     ensures { result ≡ head_of off n }
 {
-    let low = (off % 256) as u8;
-    let middle = (off / 256 % 256) as u8;
-    let high = (off / 256 / 256 % 256) as u8;
+    let [low, middle, high, _] = off.to_le_bytes();
     [3, 0, low, middle, high, n as u8]
 }
 
@@ -47,5 +42,5 @@ pub fn encode(t: &[u32; 256], out: &mut [u8], at: usize, size: usize, off: u32, 
     copy_in(out, at + 6, payload);
     fill(out, at + 6 + n, size - 10 - n, 0);
     let c = crc32_by(t, &out[at..end]);
-    store32(out, end, c);
+    u32::store(out, end, c);
 }

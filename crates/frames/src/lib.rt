@@ -20,13 +20,11 @@ pub fn put_frames(t: &[u32; 256], out: &mut [u8], a: &[u8], s: Slots, size: usiz
 {
     let n = s.n;
     let mut at = 0;
-    let mut i = 0;
-    while i < n {
+    for i in 0..n {
         let off = s.off[i];
         let start = s.start[i] as usize;
         let end = start + s.len[i] as usize;
         encode(t, out, at, size, off, &a[start..end]);
-        at = at + size;
-        i += 1;
+        at += size;
     }
 }

@@ -1,5 +1,5 @@
 // The frames of a burst: which pieces go, and where their bytes lie (`slots` of `data_burst`, sender.rs).
-ghost use Rattle.std.specs.Prelude.{◌≡◌, ℕ, ◌+◌, ◌≤◌, ◌<◌, min, length, take, get_or};
+ghost use Rattle.std.specs.Prelude.{◌≡◌, ℕ, ◌+◌, ◌≤◌, ◌<◌, length, take, get_or};
 ghost use Rattle.harq.specs.Held.{increment_of};
 ghost use Rattle.area.specs.Layout.{area_bytes, stream_bytes};
 ghost use Rattle.area.specs.Table.{rows_from, total};
@@ -24,6 +24,7 @@ pub struct Slot {
 }
 
 // The frames of a burst; n of them.
+// kept: arrays with a count, since memory is fixed: no heap, and so no list that grows.
 #[derive(Clone, Copy)]
 pub struct Slots {
     pub off: [u32; MAX_SLOTS],
@@ -48,8 +49,7 @@ pub fn increments(
     ensures { result ≡ push_all given (increment_slots q slot (rows_from a.now 0 n) offs.now bits.now) }
 {
     let mut s = given;
-    let mut i = 0;
-    while i < offs.len() {
+    for i in 0..offs.len() {
         let off = offs[i];
         let h = bits[i];
         let more = q.increment(h, slot);
@@ -61,7 +61,6 @@ pub fn increments(
         s.start[k] = p.start as u32;
         s.len[k] = p.len as u32;
         s.n = k + 1;
-        i += 1;
     }
     s
 }
@@ -82,14 +81,13 @@ pub fn old_pieces(
     let mut s = given;
     let mut left = room;
     let mut start: u32 = 0;
-    let mut i = 0;
-    while (i < n) & (0 < left) {
+    for i in 0..n {
+        if left == 0 {
+            return s;
+        }
         let r = load_row(a, i);
         let len = r.len;
-        if contains_hashed(hashes, held, r.off) {
-            start = start + len;
-            i += 1;
-        } else {
+        if !contains_hashed(hashes, held, r.off) {
             let k = s.n;
             s.off[k] = r.off;
             s.bits[k] = bits;
@@ -97,21 +95,11 @@ pub fn old_pieces(
             s.start[k] = start;
             s.len[k] = len;
             s.n = k + 1;
-            left = left - 1;
-            start = start + len;
-            i += 1;
+            left -= 1;
         }
+        start += len;
     }
     s
-}
-
-fn smaller(a: u32, b: u32) -> u32
-    ensures { result ≡ min a b }
-{
-    if a < b {
-        return a;
-    }
-    b
 }
 
 // The slots with the new pieces, how many rows there are then, and how many waiting bytes went.
@@ -138,11 +126,16 @@ pub fn new_pieces(
     ensures { (result, a.new) ≡ added_pieces a.old n room max next at w bits given }
 {
     let mut s = given;
-    let mut left = room;
     let mut done: u32 = 0;
-    let mut i = n;
-    while (0 < left) & (done < w) {
-        let len = smaller(max, w - done);
+    for i in n..n + room {
+        if done == w {
+            return Added {
+                slots: s,
+                rows: i,
+                bytes: done as usize,
+            };
+        }
+        let len = max.min(w - done);
         let off = next + done;
         store_row(a, i, Row { off, len });
         let k = s.n;
@@ -152,13 +145,11 @@ pub fn new_pieces(
         s.start[k] = at + done;
         s.len[k] = len;
         s.n = k + 1;
-        done = done + len;
-        left = left - 1;
-        i += 1;
+        done += len;
     }
     Added {
         slots: s,
-        rows: i,
+        rows: n + room,
         bytes: done as usize,
     }
 }

@@ -1,5 +1,5 @@
 -- `Gear::Goodput`. Definitions only.
-use Rattle.std.specs.Prelude.{ℕ, ◌+◌, min, Bool, true, false, cond, not, ◌&&◌, ◌||◌, pos, ◌==◌, from_bits, nat_le, slice_index, slice_index_or, Float}
+use Rattle.std.specs.Prelude.{ℕ, ◌+◌, min, Bool, false, cond, not, Option, Some, None, option_map, unwrap_or, ◌&&◌, ◌||◌, pos, ◌==◌, from_bits, nat_le, slice_index, slice_index_or, Float}
 use Rattle.std.specs.Bool.{beq}
 use Rattle.std.specs.Float.{nan, inf, binary32, binary64}
 use Rattle.std.specs.Float.Ieee.{add, sub, mul, div, neg, le, lt}
@@ -73,20 +73,17 @@ unfoldable pub candidate : Profile → Gear → Float → ℕ → Bool
 candidate p g aim l = l == g.level || (family_ok (heeded p.pick_family g.peer_class) l && in_reach (marks_of p) p.power l aim)
 
 -- `max_by`: of two the later where it is not less, by total_cmp
-unfoldable pub over : Best → ℕ → Float → Best
-over b l w = cond (b.found && not (total_le b.worth w)) b (record { found = true; level = l; worth = w })
+unfoldable pub over : Option Best → ℕ → Float → Option Best
+over None l w = Some (record { level = l; worth = w })
+over (Some b) l w = cond (not (total_le b.worth w)) (Some b) (Some (record { level = l; worth = w }))
 
-abbrev pub no_best : Best
-no_best = record { found = false; level = 0; worth = from_bits binary64 0 }
-
-unfoldable pub weighed : Profile → Gear → Float → Float → Best → ℕ → Best
+unfoldable pub weighed : Profile → Gear → Float → Float → Option Best → ℕ → Option Best
 weighed p g aim now b l = cond (candidate p g aim l) (over b l (worth_of p g aim now l)) b
 
-abbrev pub best_of : Profile → Gear → Float → Float → Best
-best_of p g aim now = fold (weighed p g aim now) no_best (upto 0 (p.max_level + 1))
+abbrev pub best_of : Profile → Gear → Float → Float → Option Best
+best_of p g aim now = fold (weighed p g aim now) None (upto 0 (p.max_level + 1))
 
 -- `pick_by_goodput`
 unfoldable pub pick_by_goodput : Profile → Gear → Float → Float → ℕ
 pick_by_goodput p g aim now =
-    let b = best_of p g aim now in
-    cond b.found (usable_below g.holds (heeded p.pick_family g.peer_class) p.pin_level b.level (inf false)) 0
+    unwrap_or (option_map (λ b. usable_below g.holds (heeded p.pick_family g.peer_class) p.pin_level b.level (inf false)) (best_of p g aim now)) 0

@@ -1,5 +1,5 @@
 -- What is looked at of one level, and what Goodput.antt says of it, on the numbers of that level. Follows the code or serves proofs: nothing here has to be believed.
-use Rattle.std.specs.Prelude.{ℕ, ◌+◌, Bool, false, cond, not, ◌&&◌, ◌||◌, ◌==◌, nat_le, slice_index, slice_index_or, Float}
+use Rattle.std.specs.Prelude.{ℕ, ◌+◌, Bool, false, cond, not, Option, None, ◌&&◌, ◌||◌, ◌==◌, nat_le, slice_index, slice_index_or, Float}
 use Rattle.std.specs.Float.{nan, binary32, binary64}
 use Rattle.std.specs.Float.Ieee.{add, sub, mul, div, le, lt}
 use Rattle.ieee.specs.Range.{w32}
@@ -16,7 +16,7 @@ use Rattle.gear.specs.declared.Gear.{Gear}
 use Rattle.gear.specs.declared.goodput.Seen.{Seen}
 use Rattle.gear.specs.declared.goodput.Sight.{Sight}
 use Rattle.gear.specs.declared.goodput.View.{View}
-use Rattle.gear.specs.Goodput.{prior_of, remembered, marks_of, bar_of, over, no_best}
+use Rattle.gear.specs.Goodput.{prior_of, remembered, marks_of, bar_of, over}
 
 -- what is remembered of level l
 abbrev pub seen_at : Tries → ℕ → Seen
@@ -53,9 +53,9 @@ unfoldable pub view_candidate : View → ℕ → Sight → Bool
 view_candidate v l s = l == v.level || (family_ok v.class l && sight_reach s)
 
 -- `weighed`
-unfoldable pub view_weighed : View → Best → ℕ → Sight → Seen → Pace → Best
+unfoldable pub view_weighed : View → Option Best → ℕ → Sight → Seen → Pace → Option Best
 view_weighed v b l s t q = cond (view_candidate v l s) (over b l (view_worth v l s t q)) b
 
 -- `best_of`, by what every level is held against and what is remembered of each
-abbrev pub view_best : Profile → View → Tries → Float → Best
-view_best p v t aim = fold (λ b l. view_weighed v b l (sight_at (marks_of p) p.power l aim) (seen_at t l) (pace_at p l)) no_best (upto 0 (p.max_level + 1))
+abbrev pub view_best : Profile → View → Tries → Float → Option Best
+view_best p v t aim = fold (λ b l. view_weighed v b l (sight_at (marks_of p) p.power l aim) (seen_at t l) (pace_at p l)) None (upto 0 (p.max_level + 1))

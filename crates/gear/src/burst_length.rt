@@ -1,16 +1,8 @@
 // The length of bursts (gear.rs).
-ghost use Rattle.std.specs.Prelude.{◌≡◌, ◌<◌, false};
-ghost use Rattle.std.specs.Float.{inf};
+ghost use Rattle.std.specs.Prelude.{◌≡◌, ◌<◌};
 ghost use Rattle.gear.specs.BurstLength.{clean_burst, next_entry, steady, far};
 
 use config::{Marks, MaybeDb, Profile};
-
-// f32::INFINITY
-fn infinity() -> f32
-    ensures { result ≡ inf false }
-{
-    1.0 / 0.0
-}
 
 // The burst length at which a level's fixed cost per round trip is `burst_overhead` of the cycle.
 pub(crate) fn clean_burst_s(cfg: Profile, l: usize, cue: bool) -> f64
@@ -24,7 +16,7 @@ pub(crate) fn clean_burst_s(cfg: Profile, l: usize, cue: bool) -> f64
     float::pick::clamp64(
         (pre + ack + turn) / cfg.lengths.burst_overhead - ack - turn,
         lo,
-        float::pick::max64(cfg.lengths.max_burst_long_s, lo),
+        float::pick::max(cfg.lengths.max_burst_long_s, lo),
     )
 }
 
@@ -34,9 +26,9 @@ fn next_entry(marks: Marks, at: usize, top: usize) -> f32
     requires fact_2 { top < 17 }
     ensures { result ≡ next_entry marks at top }
 {
-    let mut least = infinity();
+    let mut least = f32::INFINITY;
     for k in at + 1..top + 1 {
-        least = float::pick::min32(least, marks.entry(k));
+        least = float::pick::min(least, marks.entry(k));
     }
     least
 }

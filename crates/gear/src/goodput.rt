@@ -1,24 +1,15 @@
 // Gear::Goodput of gear.rs: what a level is worth, and the level expected to move the most.
-ghost use Rattle.std.specs.Prelude.{◌≡◌, ◌<◌, false};
-ghost use Rattle.std.specs.Float.{inf};
+ghost use Rattle.std.specs.Prelude.{◌≡◌, ◌<◌};
 ghost use Rattle.config.specs.Ranged.{Ranged};
-ghost use Rattle.gear.specs.Goodput.{prior_of, memory_s, remembered, marks_of, bar_of, over, no_best};
-ghost use Rattle.gear.specs.Levels.{seen_chance, sight_room, sight_reach, view_candidate, view_worth, view_weighed, view_best};
+ghost use Rattle.gear.specs.Goodput.{prior_of, memory_s, remembered, marks_of, bar_of, over};
+ghost use Rattle.gear.specs.Levels.{seen_at, sight_at, seen_chance, sight_room, sight_reach, view_candidate, view_worth, view_weighed, view_best};
 ghost use Rattle.levels.specs.RatesCode.{Paced};
 
 use config::{Marks, Profile};
-use level::FLOOR;
 use levels::memory::Tries;
 use levels::rates::Pace;
 use levels::usable::{air_db, family_ok};
 use report::ChanClass;
-
-// f64::INFINITY
-pub(crate) fn infinity() -> f64
-    ensures { result ≡ inf false }
-{
-    1.0 / 0.0
-}
 
 // The chance of a burst by its distance from the level's threshold: 1 / (1 + e^(-(room + 0.5) / 0.25)).
 fn prior(room: f32) -> f32
@@ -31,16 +22,12 @@ fn prior(room: f32) -> f32
 fn memory_s(fails: u8) -> f64
     ensures { result ≡ memory_s fails }
 {
-    if fails == 0 {
-        180.0
-    } else if fails == 1 {
-        360.0
-    } else if fails == 2 {
-        720.0
-    } else if fails == 3 {
-        1440.0
-    } else {
-        2880.0
+    match fails {
+        0 => 180.0,
+        1 => 360.0,
+        2 => 720.0,
+        3 => 1440.0,
+        _ => 2880.0,
     }
 }
 
@@ -61,6 +48,19 @@ struct Seen {
 }
 
 impl Seen {
+    // What is remembered of level l.
+    fn at(tries: &Tries, l: usize) -> Seen
+        requires { l < 17 }
+        ensures { result ≡ seen_at tries.now l }
+    {
+        Seen {
+            tried: tries.tried[l],
+            success: tries.success[l],
+            at: tries.success_at[l],
+            fails: tries.fails[l],
+        }
+    }
+
     // The level's chance: what was observed, blended with the prior.
     fn chance(self, prior: f32, now: f64) -> f32
         ensures { result ≡ seen_chance self prior now }
@@ -89,6 +89,18 @@ struct Sight {
 }
 
 impl Sight {
+    // What level l would see of the SNR aimed by, and what it wants.
+    fn at(marks: &Marks, power: u8, l: usize, aim: f32) -> Sight
+        requires { l < 17 }
+        ensures { result ≡ sight_at marks.now power l aim }
+    {
+        Sight {
+            db: aim + air_db(power, l),
+            threshold_db: marks.thresholds_db[l],
+            margin_db: marks.margin_db,
+        }
+    }
+
     // How far the one is above the other.
     fn room(self) -> f32
         ensures { result ≡ sight_room self }
@@ -122,35 +134,17 @@ fn bar(l: usize, at: usize) -> f64
 // The best level so far.
 #[derive(Clone, Copy)]
 pub struct Best {
-    pub found: bool,
     pub level: usize,
     pub worth: f64,
 }
 
-// None yet.
-fn no_best() -> Best
-    ensures { result ≡ no_best }
+// max_by: the later one where it is not less.
+fn over(best: Option<Best>, l: usize, worth: f64) -> Option<Best>
+    ensures { result ≡ over best l worth }
 {
-    Best {
-        found: false,
-        level: FLOOR,
-        worth: 0.0,
-    }
-}
-
-impl Best {
-    // max_by: the later one where it is not less.
-    fn over(self, l: usize, worth: f64) -> Best
-        ensures { result ≡ over self l worth }
-    {
-        if self.found & !float::order::total_le64(self.worth, worth) {
-            return self;
-        }
-        Best {
-            found: true,
-            level: l,
-            worth: worth,
-        }
+    match best {
+        Some(b) if !float::order::total_le(b.worth, worth) => best,
+        _ => Some(Best { level: l, worth }),
     }
 }
 
@@ -187,50 +181,36 @@ impl View {
     }
 
     // One level held against the best so far.
-    fn weigh(self, best: Best, l: usize, sight: Sight, seen: Seen, pace: Pace) -> Best
+    fn weigh(
+        self,
+        best: Option<Best>,
+        l: usize,
+        sight: Sight,
+        seen: Seen,
+        pace: Pace,
+    ) -> Option<Best>
         requires fact_1 { l < 17 }
         requires fact_2 { self.level < 17 }
         requires fact_3 { Paced pace }
         ensures { result ≡ view_weighed self best l sight seen pace }
     {
         if self.candidate(l, sight) {
-            return best.over(l, self.worth(l, sight, seen, pace));
+            return over(best, l, self.worth(l, sight, seen, pace));
         }
         best
     }
 
-    // The best of the levels, by the thresholds, what is remembered of each, and the SNR aimed by. What the turns share, and the
-    // arrays that they read, are taken out before the loop.
-    pub(crate) fn best(self, cfg: Profile, tries: Tries, aim: f32) -> Best
+    // The best of the levels, by the thresholds, what is remembered of each, and the SNR aimed by.
+    pub(crate) fn best(self, cfg: Profile, tries: Tries, aim: f32) -> Option<Best>
         requires fact_1 { self.level < 17 }
         requires fact_2 { Ranged cfg }
         ensures { result ≡ view_best cfg self tries aim }
     {
         let marks = marks(cfg);
-        let air = cfg.air;
-        let mut best = no_best();
+        let mut best = None;
         for l in 0..cfg.max_level + 1 {
-            let sight = Sight {
-                db: aim + air_db(cfg.power, l),
-                threshold_db: marks.thresholds_db[l],
-                margin_db: marks.margin_db,
-            };
-            let seen = Seen {
-                tried: tries.tried[l],
-                success: tries.success[l],
-                at: tries.success_at[l],
-                fails: tries.fails[l],
-            };
-            let pace = Pace {
-                usual: cfg.lengths.max_burst_s,
-                pre_s: air.pre_s[l],
-                rate: air.rate[l],
-                cue_s: air.cue_s,
-                slot: air.slot_bits[l],
-                short_bytes: cfg.short_bytes,
-                long_bytes: cfg.long_bytes,
-            };
-            best = self.weigh(best, l, sight, seen, pace);
+            let sight = Sight::at(&marks, cfg.power, l, aim);
+            best = self.weigh(best, l, sight, Seen::at(&tries, l), Pace::at(&cfg, l));
         }
         best
     }

@@ -9,7 +9,6 @@ use levels::down::step_down;
 use levels::losses::{hold_until, others};
 use levels::memory::Tries;
 use levels::rates::level_rate;
-use levels::reach::larger;
 use levels::usable::{family_ok, heeded};
 
 // No level from `one` to `far` has failed.
@@ -64,19 +63,15 @@ impl Gear {
         if loss > 0.99 {
             let channel = blamed(cfg, at, snr_db);
             let end = now + self.fail_hold(cfg, at, channel, now);
-            let holds = hold_until(self.holds, at, end, !channel);
-            let tries = self.tries.fail(at);
-            self.holds = holds;
-            self.tries = tries;
+            self.holds = hold_until(self.holds, at, end, !channel);
+            self.tries = self.tries.fail(at);
             return self;
         }
         if loss > 0.3 {
-            let holds = hold_until(self.holds, at, now + cfg.hold_times.loss_hold_s, true);
-            self.holds = holds;
+            self.holds = hold_until(self.holds, at, now + cfg.hold_times.loss_hold_s, true);
             return self;
         }
-        let tries = self.tries.clear(at);
-        self.tries = tries;
+        self.tries = self.tries.clear(at);
         self
     }
 
@@ -93,7 +88,7 @@ impl Gear {
         let one = self.holds.climb_above(class, skip, at, 1, now);
         let far = self
             .holds
-            .climb_above(class, skip, at, larger((gap + 1) / 2, 2), now);
+            .climb_above(class, skip, at, ((gap + 1) / 2).max(2), now);
         if (gap >= 3) & spotless(self.tries, one, far) {
             far
         } else {
@@ -148,13 +143,11 @@ impl Gear {
         ensures { result ≡ by_ladder cfg at loss snr_db now self }
     {
         if (loss > 0.3) & self.worth_keeping(cfg, at, now) {
-            let l = self.capped(cfg, at, now);
-            self.level = l;
+            self.level = self.capped(cfg, at, now);
             return self;
         }
         self = self.hold(cfg, at, loss, snr_db, now);
-        let l = self.capped(cfg, self.next_allowed(cfg, at, loss, now), now);
-        self.level = l;
+        self.level = self.capped(cfg, self.next_allowed(cfg, at, loss, now), now);
         self
     }
 }

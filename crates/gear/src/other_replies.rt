@@ -7,7 +7,7 @@ use crate::goodput::marks;
 use crate::{Gear, Outcome};
 use config::{MaybeDb, Profile};
 use level::FLOOR;
-use levels::reach::{level_for, smaller};
+use levels::reach::level_for;
 use levels::usable::{air_db, heeded};
 use report::ChanClass;
 
@@ -50,13 +50,11 @@ impl Gear {
             cfg.max_level,
             aim,
         );
-        let some = MaybeDb { set: true, db: aim };
         self.cue = cue;
-        self.aim_db = some;
+        self.aim_db = MaybeDb { set: true, db: aim };
         self.peer_class = class;
         self.target = target;
-        let l = self.start_level(cfg, aim, now);
-        self.level = l;
+        self.level = self.start_level(cfg, aim, now);
         self
     }
 
@@ -64,8 +62,7 @@ impl Gear {
     fn turn(mut self, cfg: Profile, w: u8) -> Gear
         ensures { result ≡ at_turn cfg self w }
     {
-        let l = smaller(self.level, level::top_level_in(w));
-        self.level = l;
+        self.level = self.level.min(level::top_level_in(w));
         self.burst_s = cfg.lengths.max_burst_s;
         self
     }

@@ -9,7 +9,7 @@ mod same;
 ghost use Rattle.std.specs.Prelude.{◌<◌};
 ghost use Rattle.config.specs.Ranged.{Ranged};
 
-use byte_copy::load32;
+use byte_copy::Little;
 use config::{MaybeDb, Profile};
 use gear::{Gear, Outcome};
 use levels::memory::{Reports, Tries};
@@ -21,53 +21,45 @@ use same::differing;
 use std::io;
 use std::io::Read;
 
-// Counts: of profiles, of replies in goodput and in ladder, of each kind of reply from 3 on, and of differences.
+// The kinds of replies.
 #[derive(Clone, Copy)]
+pub enum Kind {
+    Connect,
+    // Acks with the burst's number, and with another.
+    Matched,
+    Unmatched,
+    // Acks of increments only, and of an empty burst.
+    Increments,
+    Empty,
+    // Turns with a burst outstanding, and without.
+    Turn,
+    QuietTurn,
+}
+
+// Counts: of profiles, of replies in goodput and in ladder, of each kind of reply, and of differences.
+#[derive(Clone, Copy, Default)]
 pub struct Counts {
-    pub of: [u64; 11],
+    pub profiles: u64,
+    pub goodput: u64,
+    pub ladder: u64,
+    pub connects: u64,
+    pub matched: u64,
+    pub unmatched: u64,
+    pub increments: u64,
+    pub empty: u64,
+    pub turns: u64,
+    pub quiet_turns: u64,
+    pub differences: u64,
 }
 
-const CONNECT: usize = 3;
-
-const MATCHED: usize = 4;
-
-const UNMATCHED: usize = 5;
-
-const INCREMENTS: usize = 6;
-
-const EMPTY: usize = 7;
-
-const TURN: usize = 8;
-
-const QUIET_TURN: usize = 9;
-
-fn wide(n: u8) -> usize {
-    n as usize
+// One more, up to a bound that no run reaches.
+fn more(n: u64) -> u64 {
+    n.saturating_add(1).min(1000000000000)
 }
 
-fn bump(n: u64) -> u64 {
-    if n < 1000000000000 { n + 1 } else { n }
-}
-
-impl Counts {
-    fn more(mut self, at: usize) -> Counts
-        requires { at < 11 }
-    {
-        let n = bump(self.of[at]);
-        self.of[at] = n;
-        self
-    }
-}
-
-// A reply, or zeros where the input ends.
-fn next_reply(input: &mut impl Read) -> io::Result<[u8; 60]> {
-    let mut a = [0u8; 60];
-    read_full(input, &mut a)?;
-    Ok(a)
-}
-
-fn next_level(input: &mut impl Read) -> io::Result<[u8; 24]> {
-    let mut a = [0u8; 24];
+// The next N bytes of the input, or zeros where it ends.
+fn next<const N: usize>(input: &mut impl Read) -> io::Result<[u8; N]> {
+    let mut a = [0u8; N];
     read_full(input, &mut a)?;
     Ok(a)
 }
@@ -172,8 +164,8 @@ fn wanted(mut want: Gear, a: &[u8; 60]) -> Gear {
     let last = db_of(a[15], f32_at(a, 40));
     let class = class_of(a[56], a[57]);
     let burst_s = f64_at(a, 28);
-    let level = wide(a[11]);
-    let target = wide(a[12]);
+    let level = usize::from(a[11]);
+    let target = usize::from(a[12]);
     let cue = a[58] == 1;
     want.level = level;
     want.target = target;
@@ -209,7 +201,7 @@ fn holds_at(mut h: Holds, k: usize, a: &[u8; 24]) -> Holds
 
 // A level that the reply changed.
 fn with_level(mut want: Gear, a: &[u8; 24]) -> Gear {
-    let k = wide(a[0]);
+    let k = usize::from(a[0]);
     if k < 17 {
         let t = tries_at(want.tries, k, a);
         let h = holds_at(want.holds, k, a);
@@ -222,48 +214,43 @@ fn with_level(mut want: Gear, a: &[u8; 24]) -> Gear {
 
 fn with_levels(input: &mut impl Read, want: Gear, n: u8) -> io::Result<Gear> {
     let mut out = want;
-    let mut i: u8 = 0;
-    while i < n {
-        let a = next_level(input)?;
+    for _ in 0..n {
+        let a = next::<24>(input)?;
         out = with_level(out, &a);
-        i += 1;
     }
     Ok(out)
 }
 
 // The kind of a reply.
-fn kind(tag: u8, empty: bool, fresh: bool, own: bool) -> usize
-    ensures { result < 11 }
-{
-    if tag == 1 {
-        CONNECT
-    } else if tag == 2 {
-        if empty {
-            EMPTY
-        } else if !own {
-            UNMATCHED
-        } else if fresh {
-            MATCHED
-        } else {
-            INCREMENTS
-        }
-    } else if empty {
-        QUIET_TURN
-    } else {
-        TURN
+fn kind_of(tag: u8, empty: bool, fresh: bool, own: bool) -> Kind {
+    match tag {
+        1 => Kind::Connect,
+        2 if empty => Kind::Empty,
+        2 if !own => Kind::Unmatched,
+        2 if fresh => Kind::Matched,
+        2 => Kind::Increments,
+        _ if empty => Kind::QuietTurn,
+        _ => Kind::Turn,
     }
 }
 
-fn mode(goodput: bool) -> usize
-    ensures { result < 11 }
-{
-    if goodput { 1 } else { 2 }
-}
-
 // One reply more, of its kind.
-fn counted(c: Counts, goodput: bool, a: &[u8; 60]) -> Counts {
-    let at = kind(a[0], a[4] == 1, a[5] == 1, a[6] == 1);
-    c.more(mode(goodput)).more(at)
+fn counted(mut c: Counts, goodput: bool, kind: Kind) -> Counts {
+    if goodput {
+        c.goodput = more(c.goodput);
+    } else {
+        c.ladder = more(c.ladder);
+    }
+    match kind {
+        Kind::Connect => c.connects = more(c.connects),
+        Kind::Matched => c.matched = more(c.matched),
+        Kind::Unmatched => c.unmatched = more(c.unmatched),
+        Kind::Increments => c.increments = more(c.increments),
+        Kind::Empty => c.empty = more(c.empty),
+        Kind::Turn => c.turns = more(c.turns),
+        Kind::QuietTurn => c.quiet_turns = more(c.quiet_turns),
+    }
+    c
 }
 
 fn say(rt: &impl Print, text: &str, n: u64) -> io::Result<()> {
@@ -271,13 +258,13 @@ fn say(rt: &impl Print, text: &str, n: u64) -> io::Result<()> {
 }
 
 // A difference is written: where it is, and the field.
-fn noted(rt: &impl Print, c: Counts, reply: u32, field: usize) -> io::Result<Counts> {
-    if field == 0 {
-        return Ok(c);
+fn noted(rt: &impl Print, mut c: Counts, reply: u32, field: Option<usize>) -> io::Result<Counts> {
+    if let Some(field) = field {
+        let profile = c.profiles;
+        println!(rt; "profile {profile}, reply {reply}: field {field} differs")?;
+        c.differences = more(c.differences);
     }
-    let profile = c.of[0];
-    println!(rt; "profile {profile}, reply {reply}: field {field} differs")?;
-    Ok(c.more(10))
+    Ok(c)
 }
 
 // The original's record, and the counts.
@@ -291,10 +278,11 @@ pub struct Run {
 fn reply(rt: &impl Print, input: &mut impl Read, cfg: Profile, run: Run, i: u32) -> io::Result<Run>
     requires { Ranged cfg }
 {
-    let a = next_reply(input)?;
+    let a = next::<60>(input)?;
     let g = step(cfg, run.want, &a);
     let want = with_levels(input, wanted(run.want, &a), a[10])?;
-    let counts = counted(run.counts, cfg.goodput, &a);
+    let kind = kind_of(a[0], a[4] == 1, a[5] == 1, a[6] == 1);
+    let counts = counted(run.counts, cfg.goodput, kind);
     let counts = noted(rt, counts, i, differing(g, want))?;
     Ok(Run { want, counts })
 }
@@ -313,26 +301,24 @@ fn replies(
         want: fresh(cfg),
         counts: c,
     };
-    let mut i: u32 = 0;
-    while i < n {
+    for i in 0..n {
         run = reply(rt, input, cfg, run, i)?;
-        i += 1;
     }
     Ok(run.counts)
 }
 
 fn print_counts(rt: &impl Print, c: Counts) -> io::Result<()> {
-    say(rt, "profiles: ", c.of[0])?;
-    say(rt, "\nreplies in goodput: ", c.of[1])?;
-    say(rt, "\nreplies in ladder: ", c.of[2])?;
-    say(rt, "\nconnect answers: ", c.of[CONNECT])?;
-    say(rt, "\nacks with the burst's number: ", c.of[MATCHED])?;
-    say(rt, "\nacks with another number: ", c.of[UNMATCHED])?;
-    say(rt, "\nacks of increments only: ", c.of[INCREMENTS])?;
-    say(rt, "\nacks of an empty burst: ", c.of[EMPTY])?;
-    say(rt, "\nturns with a burst outstanding: ", c.of[TURN])?;
-    say(rt, "\nturns without: ", c.of[QUIET_TURN])?;
-    say(rt, "\ndifferences: ", c.of[10])?;
+    say(rt, "profiles: ", c.profiles)?;
+    say(rt, "\nreplies in goodput: ", c.goodput)?;
+    say(rt, "\nreplies in ladder: ", c.ladder)?;
+    say(rt, "\nconnect answers: ", c.connects)?;
+    say(rt, "\nacks with the burst's number: ", c.matched)?;
+    say(rt, "\nacks with another number: ", c.unmatched)?;
+    say(rt, "\nacks of increments only: ", c.increments)?;
+    say(rt, "\nacks of an empty burst: ", c.empty)?;
+    say(rt, "\nturns with a burst outstanding: ", c.turns)?;
+    say(rt, "\nturns without: ", c.quiet_turns)?;
+    say(rt, "\ndifferences: ", c.differences)?;
     println!(rt; "")
 }
 
@@ -346,7 +332,7 @@ fn profile(
     let v = table_of(a);
     let cfg = profile_of(&v);
     if config::ranges::in_range(cfg) {
-        return replies(rt, input, cfg, c, load32(a, 1168));
+        return replies(rt, input, cfg, c, u32::load(a, 1168));
     }
     println!(rt; "a profile is out of range")?;
     Ok(c)
@@ -354,15 +340,14 @@ fn profile(
 
 fn main(rt: HostRuntime) -> io::Result<()> {
     let mut input = rt.stdin();
-    let mut c = Counts { of: [0; 11] };
-    let mut i: u32 = 0;
-    while i < 1000000 {
+    let mut c = Counts::default();
+    for _ in 0..1000000 {
         let mut a = [0u8; 1172];
         if read_full(&mut input, &mut a)? < 1172 {
             break;
         }
-        c = profile(&rt, &mut input, c.more(0), &a)?;
-        i += 1;
+        c.profiles = more(c.profiles);
+        c = profile(&rt, &mut input, c, &a)?;
     }
     print_counts(&rt, c)
 }

@@ -2,18 +2,19 @@
 ghost use Rattle.std.specs.Prelude.{◌<◌};
 
 use config::MaybeDb;
-use float_bits::{to_bits32, to_bits64};
+use float_bits::Pattern;
 use gear::Gear;
 use levels::memory::{Reports, Tries};
 use levels::usable::Holds;
 use report::ChanClass;
 
+// kept: a derived == compares floats by value, and these are compared by their bits.
 fn same64(x: f64, y: f64) -> bool {
-    (x == x) & (to_bits64(x) == to_bits64(y))
+    (x == x) & (x.pattern() == y.pattern())
 }
 
 fn same32(x: f32, y: f32) -> bool {
-    (x == x) & (to_bits32(x) == to_bits32(y))
+    (x == x) & (x.pattern() == y.pattern())
 }
 
 fn same_db(x: MaybeDb, y: MaybeDb) -> bool {
@@ -43,40 +44,35 @@ fn same_holds(x: Holds, y: Holds, k: usize) -> bool
     same64(x.blocked_until[k], y.blocked_until[k]) & (x.hold_all[k] == y.hold_all[k])
 }
 
-// The first level whose fields differ, or 17.
-fn levels(g: Gear, want: Gear) -> usize {
-    let mut k: usize = 0;
-    while k < 17 {
+// The first level whose fields differ: 10 + its number.
+fn level(g: Gear, want: Gear) -> Option<usize> {
+    for k in 0..17usize {
         if !same_tries(g.tries, want.tries, k) | !same_holds(g.holds, want.holds, k) {
-            return k;
+            return Some(10 + k);
         }
-        k += 1;
     }
-    17
+    None
 }
 
-// The first field that differs: 0 for none, else its place in the record, from 1 on, and 10 + k for the fields of level k.
-pub(crate) fn differing(g: Gear, want: Gear) -> usize {
-    let k = levels(g, want);
+// The first field that differs: its place in the record, from 1 on, and 10 + k for the fields of level k.
+pub(crate) fn differing(g: Gear, want: Gear) -> Option<usize> {
     if g.level != want.level {
-        1
+        Some(1)
     } else if g.target != want.target {
-        2
+        Some(2)
     } else if !same64(g.burst_s, want.burst_s) {
-        3
+        Some(3)
     } else if !same_db(g.aim_db, want.aim_db) {
-        4
+        Some(4)
     } else if !same_db(g.last_report_db, want.last_report_db) {
-        5
+        Some(5)
     } else if !same_reports(g.snr_reports, want.snr_reports) {
-        6
+        Some(6)
     } else if !same_class(g.peer_class, want.peer_class) {
-        7
+        Some(7)
     } else if g.cue != want.cue {
-        8
-    } else if k < 17 {
-        10 + k
+        Some(8)
     } else {
-        0
+        level(g, want)
     }
 }

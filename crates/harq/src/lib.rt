@@ -32,10 +32,8 @@ impl Harq {
         ensures { result ≡ increment_of self h slot }
     {
         let mut best: u32 = 0;
-        let mut i: usize = 0;
-        while i < 6 {
-            best = nearer(best, h, self.ends[i]);
-            i += 1;
+        for &e in &self.ends {
+            best = nearer(best, h, e);
         }
         if best == 0 {
             return slot;

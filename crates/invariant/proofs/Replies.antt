@@ -17,7 +17,8 @@ use Rattle.laws.specs.Bytes.{Bytes}
 use Rattle.laws.proofs.Picks.{either, test, and_first, and_second}
 use Rattle.report.specs.Report.{spread_of, report_at}
 use Rattle.report.specs.declared.ChanReport.{ChanReport}
-use Rattle.report.specs.Ack.{info_of, no_report}
+use Rattle.std.proofs.Common.{Option, Some, None, is_some, cond}
+use Rattle.report.specs.Ack.{info_of, no_report, ack_with, report_of}
 use Rattle.report.specs.declared.ack.AckInfo.{AckInfo}
 use Rattle.config.specs.declared.Profile.{Profile}
 use Rattle.config.specs.Ranged.{Ranged}
@@ -95,7 +96,7 @@ module _ (p : Profile) (rg : Ranged p) (io : in_order p ≡ true) where
       let k = noted-sound s.link h.time r.want_turn r.want_disc i.burst j.time j.burst w.sound.link in
       either (WellBoth p) s.link.awaiting _ _
       (airtime-well p _ _ _ (ack-well (long_ack i.burst i.bitmap) r.stored (long_db p i) h.time _ a j.db j.time
-      (given-well p s a _ _ w (class-well s.gear i.report.class (well-gear p s a w))
+      (given-well p s a _ _ w (class-well s.gear (report_of i).class (well-gear p s a w))
       (record { time = k.time; number = k.number; heard = k.heard; not_below = j.not_below; not_above = j.not_above }))))
       (given-well p s a s.gear _ w (well-gear p s a w) k)
 
@@ -167,10 +168,11 @@ none_in = (record { low = tt; high = tt }, refl, refl)
 
 pub info-in : (p : Profile) (h : Heard) (b : List ℕ) → Bytes b → TimeInRange h.time → LongAckIn p h (info_of b)
 info-in p h b by t =
-    let c = either ReportIn (leb 17 (length b)) _ _ (report-in b by 13) none_in in
+    let report : Option ChanReport = cond (leb 17 (length b)) (Some (report_at b 13)) None in
+    let c = either (λ (r : Option ChanReport). ReportIn (report_of (ack_with b r))) (leb 17 (length b)) (Some (report_at b 13)) None (report-in b by 13) none_in in
     record {
       time = t;
-      db = either DbInRange (leb 17 (length b) && p.eff_snr) _ _ c.0 (wide _ (snr-in (get_or b 9 0) (by 9)));
+      db = either DbInRange (is_some report && p.eff_snr) _ _ c.0 (wide _ (snr-in (get_or b 9 0) (by 9)));
       burst = omega arith;
       not_below = c.1;
       not_above = c.2;

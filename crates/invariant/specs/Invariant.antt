@@ -6,6 +6,7 @@ use Rattle.ieee.specs.Range.{w32}
 use Rattle.config.specs.declared.Profile.{Profile}
 use Rattle.gear.specs.declared.Gear.{Gear}
 use Rattle.gear_laws.specs.Sound.{DbInRange, TimeInRange}
+use Rattle.report.specs.Ack.{report_of}
 use Rattle.report.specs.declared.ack.AckInfo.{AckInfo}
 use Rattle.replies.specs.declared.Heard.{Heard}
 use Rattle.replies.specs.declared.ConnAck.{ConnAck}
@@ -31,8 +32,8 @@ pub record LongAckIn (p : Profile) (h : Heard) (i : AckInfo) : Type 0 where
   pub time : TimeInRange h.time
   pub db : DbInRange (long_db p i)
   pub burst : i.burst ≤ max_number
-  pub not_below : lt i.report.doppler_hz (w32 0) ≡ false
-  pub not_above : lt (of_bits binary32 0x427e_0000) i.report.doppler_hz ≡ false
+  pub not_below : lt (report_of i).doppler_hz (w32 0) ≡ false
+  pub not_above : lt (of_bits binary32 0x427e_0000) (report_of i).doppler_hz ≡ false
 
 pub record TurnIn (h : Heard) (r : Turn) : Type 0 where
   pub time : TimeInRange h.time

@@ -1,5 +1,6 @@
 // level.rs: the speed ladder, as constant tables by level number, and what gear.rs and station.rs read from it.
 // A wave is its `wave_rank`: 0 lifeline, 1 MFSK R0, 2 MFSK R1, 3 OFDM slice, 4 OFDM long, 5 OFDM normal.
+// kept: the C interface bears waves and levels as numbers, and a rate is only compared with 1/4.
 #![tactic(auto)]
 
 ghost use Rattle.std.specs.Prelude.{◌≡◌, ◌<◌};
@@ -97,13 +98,11 @@ pub fn air_mean_td_db(l: usize) -> f32
 pub fn guard_ms(w: u8) -> u8
     ensures { result ≡ guard_ms w }
 {
-    if 3 <= w {
-        if w == 4 {
-            return 10;
-        }
-        return 4;
+    match w {
+        0..=2 => 0,
+        4 => 10,
+        _ => 4,
     }
-    0
 }
 
 // `step` of climb_above: a slice level, or MFSK at a rate other than 1/4.
@@ -112,16 +111,14 @@ pub fn is_step(l: usize) -> bool
     ensures { result ≡ is_step l }
 {
     let w = wave_rank(l);
-    (w == 3) | (!(3 <= w) & !(rate(l) == 0))
+    (w == 3) | ((w < 3) & (rate(l) != 0))
 }
 
 // The highest level whose wave is no faster than w.
 pub fn top_level_in(w: u8) -> usize
     ensures { result ≡ top_level_in w }
 {
-    let mut k: usize = 17;
-    while 0 < k {
-        k = k - 1;
+    for k in (0..LEVELS).rev() {
         if wave_rank(k) <= w {
             return k;
         }

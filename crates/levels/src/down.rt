@@ -2,7 +2,6 @@
 ghost use Rattle.std.specs.Prelude.{◌≡◌, ◌<◌};
 ghost use Rattle.levels.specs.Usable.{allowed_below, lowest_long, nth_below, step_down};
 
-use crate::reach::larger;
 use crate::usable::family_ok;
 use level::FLOOR;
 use report::ChanClass;
@@ -12,9 +11,7 @@ fn allowed_below(class: ChanClass, at: usize) -> usize
     requires { at < 17 }
     ensures { result ≡ allowed_below class at }
 {
-    let mut k = at;
-    while k > 0 {
-        k -= 1;
+    for k in (0..at).rev() {
         if family_ok(class, k) {
             return k;
         }
@@ -55,7 +52,7 @@ pub fn step_down(class: ChanClass, at: usize, second: bool) -> usize
 {
     let to = nth_below(class, at, second);
     if level::long_frame(at) {
-        larger(to, lowest_long(class, at))
+        to.max(lowest_long(class, at))
     } else {
         to
     }

@@ -6,6 +6,7 @@ ghost use Rattle.levels.specs.Memory.{holding, others, held_until};
 use crate::usable::Holds;
 
 // 1 - got / sent
+// kept: float::gear::loss asks that got be at most sent and sent at most 64, and this asks nothing.
 pub fn loss(got: u8, sent: u8) -> f32
     ensures { result ≡ loss_of got sent }
 {
@@ -30,13 +31,9 @@ pub fn others(h: Holds, at: usize, now: f64) -> u64
     ensures { result ≡ others h at now }
 {
     let mut n: u64 = 0;
-    let mut k: usize = 0;
-    while k < 17 {
+    for k in 0..17usize {
         if holding(h, at, now, k) {
             n += 1;
-            k += 1;
-        } else {
-            k += 1;
         }
     }
     n
@@ -48,7 +45,7 @@ pub fn hold_until(h: Holds, k: usize, end: f64, all: bool) -> Holds
     ensures { result ≡ held_until h k end all }
 {
     let mut out = h;
-    let until = float::pick::max64(h.blocked_until[k], end);
+    let until = float::pick::max(h.blocked_until[k], end);
     out.blocked_until[k] = until;
     out.hold_all[k] = all;
     out

@@ -14,6 +14,7 @@ pub struct Tries {
 }
 
 // The last three reports: how many there are; c is the newest, b the one before it, a the oldest.
+// kept: the C interface, as the parallel arrays of Tries and Holds.
 #[repr(C)]
 #[derive(Clone, Copy)]
 pub struct Reports {
@@ -23,26 +24,13 @@ pub struct Reports {
     pub c: f32,
 }
 
-// Saturating: a count stops at 255.
-fn bump(n: u8) -> u8
-    ensures { result ≡ min (n + 1) 255 }
-{
-    if n < 255 { n + 1 } else { 255 }
-}
-
-fn up_to_three(n: u8) -> u8
-    ensures { result ≡ min (n + 1) 3 }
-{
-    if n < 3 { n + 1 } else { 3 }
-}
-
 impl Reports {
     // The newest report pushes out the oldest of three.
     pub fn push(self, db: f32) -> Reports
         ensures { result ≡ pushed self db }
     {
         Reports {
-            count: up_to_three(self.count),
+            count: self.count.saturating_add(1).min(3),
             a: self.b,
             b: self.c,
             c: db,
@@ -54,7 +42,7 @@ impl Reports {
         ensures { result ≡ aim_of self smooth }
     {
         if smooth & (self.count >= 3) {
-            return float::pick::min32(self.c, float::order::median32(self.a, self.b, self.c));
+            return float::pick::min(self.c, float::order::median32(self.a, self.b, self.c));
         }
         self.c
     }
@@ -93,7 +81,7 @@ impl Tries {
         requires { k < 17 }
         ensures { result ≡ min (slice_index self.fails k + 1) 255 }
     {
-        bump(self.fails[k])
+        self.fails[k].saturating_add(1)
     }
 
     // One more burst lost whole at level k.
@@ -101,8 +89,7 @@ impl Tries {
         requires { k < 17 }
         ensures { result ≡ failed self k }
     {
-        let n = bump(self.fails[k]);
-        self.fails[k] = n;
+        self.fails[k] = self.fails[k].saturating_add(1);
         self
     }
 
@@ -126,8 +113,7 @@ impl Tries {
             self.tried[k] = true;
             self.success[k] = share;
             self.success_at[k] = now;
-            let n = bump(self.fails[k]);
-            self.fails[k] = n;
+            self.fails[k] = self.fails[k].saturating_add(1);
             return self;
         }
         self

@@ -1,7 +1,7 @@
 // What a level is worth (gear.rs, level_rate).
 ghost use Rattle.std.specs.Prelude.{◌≡◌, ◌<◌};
 ghost use Rattle.config.specs.Ranged.{Ranged};
-ghost use Rattle.levels.specs.Rates.{frames_per_burst, payload_bits, pace_rate, level_rate};
+ghost use Rattle.levels.specs.Rates.{frames_per_burst, pace_at, payload_bits, pace_rate, level_rate};
 ghost use Rattle.levels.specs.RatesCode.{Paced};
 
 use config::Profile;
@@ -25,19 +25,35 @@ fn frames_of(usual: f64, one: f64, two: f64) -> f64
 {
     let frame = two - one;
     let fixed = one - frame;
-    (usual - fixed) / float::pick::max64(frame, 1e-3)
+    (usual - fixed) / float::pick::max(frame, 1e-3)
 }
 
 impl Pace {
+    // What a profile says of level l.
+    pub fn at(cfg: &Profile, l: usize) -> Pace
+        requires { l < 17 }
+        ensures { result ≡ pace_at cfg.now l }
+    {
+        Pace {
+            usual: cfg.lengths.max_burst_s,
+            pre_s: cfg.air.pre_s[l],
+            rate: cfg.air.rate[l],
+            cue_s: cfg.air.cue_s,
+            slot: cfg.air.slot_bits[l],
+            short_bytes: cfg.short_bytes,
+            long_bytes: cfg.long_bytes,
+        }
+    }
+
     // Level l's payload bits a frame.
     fn payload_bits(self, l: usize) -> u64
         requires { l < 17 }
         ensures { result ≡ payload_bits self l }
     {
         if level::long_frame(l) {
-            (self.long_bytes as u64) * 8
+            u64::from(self.long_bytes) * 8
         } else {
-            (self.short_bytes as u64) * 8
+            u64::from(self.short_bytes) * 8
         }
     }
 
@@ -47,7 +63,7 @@ impl Pace {
         requires fact_2 { Paced self }
         ensures { result ≡ pace_rate self l cue }
     {
-        let slot = self.slot as u64;
+        let slot = u64::from(self.slot);
         let lead = float::gear::cue_s(cue, self.cue_s);
         let one = float::gear::data_s(self.pre_s, self.rate, slot, lead);
         let two = float::gear::data_s(self.pre_s, self.rate, 2 * slot, lead);
@@ -55,8 +71,7 @@ impl Pace {
         let most = float::whole::count_of(frames) * slot;
         let burst = float::gear::data_s(self.pre_s, self.rate, most, lead);
         let bits = std::num::nearest_u64_to_f64(self.payload_bits(l));
-        float::pick::max64(float::whole::floor64(frames), 1.0) * bits
-            / float::pick::max64(burst, 1e-3)
+        float::pick::max(float::whole::floor64(frames), 1.0) * bits / float::pick::max(burst, 1e-3)
     }
 }
 
@@ -66,15 +81,5 @@ pub fn level_rate(cfg: Profile, l: usize, cue: bool) -> f64
     requires fact_2 { Ranged cfg }
     ensures { result ≡ level_rate cfg l cue }
 {
-    let air = cfg.air;
-    let pace = Pace {
-        usual: cfg.lengths.max_burst_s,
-        pre_s: air.pre_s[l],
-        rate: air.rate[l],
-        cue_s: air.cue_s,
-        slot: air.slot_bits[l],
-        short_bytes: cfg.short_bytes,
-        long_bytes: cfg.long_bytes,
-    };
-    pace.payload_rate(l, cue)
+    Pace::at(&cfg, l).payload_rate(l, cue)
 }

@@ -1,5 +1,5 @@
-// The highest level that an SNR allows (gear.rs, level_for), and the larger and the smaller of two levels.
-ghost use Rattle.std.specs.Prelude.{◌≡◌, ◌<◌, min, max};
+// The highest level that an SNR allows (gear.rs, level_for).
+ghost use Rattle.std.specs.Prelude.{◌≡◌, ◌<◌};
 ghost use Rattle.levels.specs.Usable.{enough, level_for};
 
 use crate::usable::{air_db, family_ok};
@@ -20,24 +20,10 @@ pub fn level_for(marks: Marks, power: u8, class: ChanClass, top: usize, snr_db: 
     requires { top < 17 }
     ensures { result ≡ level_for marks power class top snr_db }
 {
-    let mut l = top + 1;
-    while l > 0 {
-        l -= 1;
+    for l in (0..top + 1).rev() {
         if enough(marks, power, class, l, snr_db) {
             return l;
         }
     }
     FLOOR
-}
-
-pub fn larger(a: usize, b: usize) -> usize
-    ensures { result ≡ max a b }
-{
-    if a < b { b } else { a }
-}
-
-pub fn smaller(a: usize, b: usize) -> usize
-    ensures { result ≡ min a b }
-{
-    if b < a { b } else { a }
 }

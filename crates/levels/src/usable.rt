@@ -19,12 +19,10 @@ pub fn air_db(power: u8, l: usize) -> f32
     requires { l < 17 }
     ensures { result ≡ air_db power l }
 {
-    if power == 1 {
-        level::air_mean_db(l)
-    } else if power == 2 {
-        level::air_mean_td_db(l)
-    } else {
-        0.0
+    match power {
+        1 => level::air_mean_db(l),
+        2 => level::air_mean_td_db(l),
+        _ => 0.0,
     }
 }
 
@@ -47,13 +45,10 @@ pub fn family_ok(class: ChanClass, l: usize) -> bool
     requires { l < 17 }
     ensures { result ≡ family_ok class l }
 {
-    let w = level::wave_rank(l);
-    if w < 3 {
-        true
-    } else if w == 4 {
-        !class.doppler
-    } else {
-        !class.doppler & !class.echo
+    match level::wave_rank(l) {
+        0..=2 => true,
+        4 => !class.doppler,
+        _ => !class.doppler & !class.echo,
     }
 }
 
@@ -95,9 +90,7 @@ impl Holds {
         if pin.set {
             return pin.level;
         }
-        let mut k = l + 1;
-        while k > 0 {
-            k -= 1;
+        for k in (0..l + 1).rev() {
             if self.usable(class, k, now) {
                 return k;
             }
@@ -120,17 +113,13 @@ impl Holds {
     {
         let mut to = at;
         let mut left = n;
-        let mut k = at + 1;
-        while k < 17 {
+        for k in at + 1..17 {
             if left == 0 {
                 return to;
             }
             if self.climbs(class, skip, now, k) {
                 to = k;
                 left -= 1;
-                k += 1;
-            } else {
-                k += 1;
             }
         }
         to

@@ -13,7 +13,8 @@ use Rattle.box_calls.specs.declared.Box.{Box}
 use Rattle.box_calls.specs.declared.BoxLeft.{BoxLeft}
 use Rattle.run_lines.specs.declared.Run.{Run}
 use Rattle.run_lines.specs.declared.Told.{Told}
-use Rattle.run_lines.specs.RunLines.{RunLeft, todo_asks, looked_at, left_by, to_ask, quiet_line}
+use Rattle.run_lines.specs.declared.Todo.TheVariants.{Asks}
+use Rattle.run_lines.specs.RunLines.{RunLeft, looked_at, left_by, to_ask, quiet_line}
 use Rattle.line_steps.specs.declared.RunAndBox.{RunAndBox}
 use Rattle.line_steps.specs.LineSteps.{run_and_box, box_standing, burst_noted, box_before, reply_as_long, listened_step, BoxStepLeft}
 use Rattle.line_steps.specs.LineSteps.{with_line, box_asked, box_or_not, box_step, LineLeft, line_step}
@@ -46,12 +47,12 @@ listened-by run {q = q} {x = x} e f = ap (λ (r : Run). (run_and_box r q.next, x
 -- one that is the box's: the answer of `reply`, if it has one
 module _ (chars : List ℕ) (run : Run) (b : Box) (w h sent t : List ℕ) where
   abbrev long : ℕ × List ℕ → BoxStepLeft
-  long k = (run_and_box (to_ask run todo_asks k.0) b, (w, (h, (t, k.1))))
+  long k = (run_and_box (to_ask run Asks k.0) b, (w, (h, (t, k.1))))
 
   abbrev either : ℕ × List ℕ → BoxStepLeft
   either k = cond (ltb 0 k.0) (long k) (with_line k.1 (listened_step chars run b w h sent t))
 
-  pub long-by : (l : List ℕ) {k : ℕ} {l₁ : List ℕ} {r : Run} → (k, l₁) ≡ reply_as_long chars b l → ltb 0 k ≡ true → r ≡ to_ask run todo_asks k
+  pub long-by : (l : List ℕ) {k : ℕ} {l₁ : List ℕ} {r : Run} → (k, l₁) ≡ reply_as_long chars b l → ltb 0 k ≡ true → r ≡ to_ask run Asks k
       → (run_and_box r b, (w, (h, (t, l₁)))) ≡ box_asked chars run b w h sent t l
   unfolding box_asked
   long-by l {k} {l₁} e f g =

@@ -10,7 +10,8 @@ use Rattle.box_calls.specs.declared.BoxLeft.{BoxLeft}
 use Rattle.box_calls.specs.BoxCalls.{fresh_box, burst_sent, long_ack_line, listen_said}
 use Rattle.run_lines.specs.declared.Run.{Run}
 use Rattle.run_lines.specs.declared.Told.{Told}
-use Rattle.run_lines.specs.RunLines.{RunLeft, zeros, todo_asks, looked_at, left_by, to_ask, is_box, quiet_line}
+use Rattle.run_lines.specs.declared.Todo.TheVariants.{Asks, Shows}
+use Rattle.run_lines.specs.RunLines.{RunLeft, zeros, looked_at, left_by, to_ask, is_box, quiet_line}
 use Rattle.line_steps.specs.declared.RunAndBox.{RunAndBox}
 
 -- the run and the box
@@ -57,7 +58,7 @@ with_line l q = (q.0, (q.1.0, (q.1.1.0, (q.1.1.1, l))))
 unfoldable pub box_asked : List ℕ → Run → Box → List ℕ → List ℕ → List ℕ → List ℕ → List ℕ → BoxStepLeft
 box_asked chars run b w h sent t l =
     let k : ℕ × List ℕ = reply_as_long chars b l in
-    cond (ltb 0 k.0) (run_and_box (to_ask run todo_asks k.0) b, (w, (h, (t, k.1))))
+    cond (ltb 0 k.0) (run_and_box (to_ask run Asks k.0) b, (w, (h, (t, k.1))))
     (with_line k.1 (listened_step chars run b w h sent t))
 
 -- a line that is not the box's leaves all as it was

@@ -9,7 +9,7 @@ ghost use Rattle.line_steps.specs.LineSteps.{box_standing, burst_noted, box_befo
 ghost use Rattle.line_steps.specs.LineSteps.{box_step, line_step};
 
 use box_calls::{Box, burst_sent, listen, reply_line};
-use run_lines::{ASKS, Run, Told, is_box, left, looked_at, quiet, to_ask};
+use run_lines::{Run, Todo, Told, is_box, left, looked_at, quiet, to_ask};
 use words::word;
 
 // The run and the box after a line.
@@ -23,11 +23,7 @@ pub struct RunAndBox {
 fn clear(w: &mut [u16])
     ensures { w.new ≡ zeros w.old }
 {
-    let mut i: usize = 0;
-    while i < w.len() {
-        w[i] = 0;
-        i += 1;
-    }
+    w.fill(0);
 }
 
 // The box, or a fresh one, where one is to start.
@@ -107,7 +103,7 @@ fn box_asked(
 {
     let k = replied(line, b, l);
     if 0 < k {
-        let run = to_ask(run, ASKS, k);
+        let run = to_ask(run, Todo::Asks, k);
         return RunAndBox { run, next: b };
     }
     listened(line, run, b, w, h, sent, t)

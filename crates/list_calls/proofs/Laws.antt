@@ -8,17 +8,9 @@ use Rattle.sender.specs.declared.LeftBurst.{LeftBurst}
 use Rattle.queuing.specs.declared.Station.{Station}
 use Rattle.text.specs.Buffer.{appended}
 use Rattle.words.specs.declared.Read.{Read}
-use Rattle.list_calls.specs.declared.AskLine.{AskLine}
 use Rattle.list_calls.specs.declared.answers.Said.{Said}
 use Rattle.list_calls.specs.declared.answers.Wrote.{Wrote}
 use Rattle.list_calls.specs.Answers.{said, told, burst_text, sent, answered, replied, keeping, keeping_all}
-
--- bytes that stay as they are
-abbrev beside : List ℕ → AskLine → AskLine × List ℕ
-beside bytes q = (q, bytes)
-
-pub read-alone : {q m : AskLine} {bytes : List ℕ} → q ≡ m → beside bytes q ≡ beside bytes m
-read-alone {bytes = bytes} e = ap (beside bytes) e
 
 pub told_of : {ok : Bool} {s : Station} {k : ℕ} {t₁ : List ℕ} {t : ℕ × List ℕ} → (k, t₁) ≡ t → (said ok s k, t₁) ≡ told ok s t
 told_of {ok} {s} e = ap (told ok s) e

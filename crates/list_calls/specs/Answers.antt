@@ -1,6 +1,6 @@
 -- What a call of a list that asks the sender answers and leaves (docs/CALLS.md, Calls). Definitions only. `a` is the work area, `out` the
 -- output, `t` the transcript's buffer and what is used of it, `chars` are the line's characters, `r` how far it was read.
-use Rattle.std.specs.Prelude.{Bool, true, false, cond, ◌&&◌, List, ℕ, ◌%◌, eqb, ltb, take}
+use Rattle.std.specs.Prelude.{Bool, true, false, cond, ◌&&◌, List, ℕ, ◌%◌, eqb, ltb, take, Option, Some, None, is_some}
 use Rattle.laws.specs.Text.{text}
 use Rattle.config.specs.Durations.{frame_bytes}
 use Rattle.config.specs.declared.Profile.{Profile}
@@ -18,6 +18,8 @@ use Rattle.words.specs.Words.{decimal_of}
 use Rattle.words.specs.Lines.{read_as, is_done}
 use Rattle.call_lines.specs.CallLines.{hex_room}
 use Rattle.call_lines.specs.declared.names.Named.{Named}
+use Rattle.call_lines.specs.declared.names.Call.{Call}
+use Rattle.call_lines.specs.declared.names.Call.TheVariants as C
 use Rattle.list_calls.specs.declared.AskLine.{AskLine}
 use Rattle.list_calls.specs.declared.answers.Said.{Said}
 use Rattle.list_calls.specs.declared.answers.Wrote.{Wrote}
@@ -75,11 +77,16 @@ replied chars r ok t left =
     let q : Said × List ℕ = told ok left.0.next (answered ok left.0.refusal chars r t) in
     (q.0, (left.1, q.1))
 
+-- how many bytes go with a line
+abbrev pub bytes_with : Option AskLine → ℕ
+bytes_with None = 0
+bytes_with (Some q) = q.len
+
 -- a queuing, a reply or a reception; any other line breaks the rules
 unfoldable pub ask_said : Profile → Station → List ℕ → List ℕ → Named → ℕ × List ℕ → Said × (List ℕ × List ℕ)
 ask_said p s a chars n t =
-    let q : AskLine × List ℕ = ask_line hex_room chars n in
-    replied chars n.read q.0.ok t (made p s a q.0 (take q.0.len q.1))
+    let q : Option AskLine × List ℕ = ask_line hex_room chars n in
+    replied chars n.read (is_some q.0) t (made p s a q.0 (take (bytes_with q.0) q.1))
 
 -- the output stays as it is; so do the record and the work area
 abbrev pub keeping : List ℕ → Said × (List ℕ × List ℕ) → Said × (List ℕ × (List ℕ × List ℕ))
@@ -88,9 +95,19 @@ keeping out q = (q.0, (q.1.0, (out, q.1.1)))
 abbrev pub keeping_all : Station → List ℕ → List ℕ → Wrote × List ℕ → Said × (List ℕ × (List ℕ × List ℕ))
 keeping_all s a out q = (said q.0.ok s q.0.text, (a, (out, q.1)))
 
--- by the call's number (Names.antt of `call_lines`). `burst` has no other word
+-- the question for a piece, where r says how far the line was read, or a line that asks the sender
+abbrev pub said_by : Option Call → Profile → Station → List ℕ → List ℕ → List ℕ → Named → ℕ × List ℕ
+    → Said × (List ℕ × (List ℕ × List ℕ))
+said_by (Some C.Piece) p s a out chars n t = keeping_all s a out (piece_wrote p s a chars n.read t)
+said_by _ p s a out chars n t = keeping out (ask_said p s a chars n t)
+
+-- `burst` has no other word
+abbrev pub is_burst : Option Call → Bool
+is_burst (Some C.Burst) = true
+is_burst _ = false
+
+-- by the call
 unfoldable pub said_of : Profile → Station → List ℕ → List ℕ → List ℕ → Named → ℕ × List ℕ
     → Said × (List ℕ × (List ℕ × List ℕ))
 said_of p s a out chars n t =
-    cond (eqb n.call 6 && is_done chars n.read) (burst_said p s a out t)
-    (cond (eqb n.call 7) (keeping_all s a out (piece_wrote p s a chars n.read t)) (keeping out (ask_said p s a chars n t)))
+    cond (is_burst n.call && is_done chars n.read) (burst_said p s a out t) (said_by n.call p s a out chars n t)

@@ -2,11 +2,11 @@
 ghost use Rattle.std.specs.Prelude.{◌≡◌, true};
 ghost use Rattle.text.specs.Buffer.{appended};
 ghost use Rattle.list_calls.specs.Answers.{told, frame_size, burst_text, burst_said, piece_answer};
-ghost use Rattle.list_calls.specs.Answers.{piece_told, piece_wrote, answered, ask_said, said_of};
+ghost use Rattle.list_calls.specs.Answers.{piece_told, piece_wrote, bytes_with, answered, ask_said, said_of};
 
-use crate::{ask_line, made};
+use crate::{AskLine, ask_line, made};
 use byte_copy::least;
-use call_lines::names::{BURST, Named, PIECE};
+use call_lines::names::{Call, Named};
 use config::Profile;
 use queuing::Station;
 use sender::{Burst, Left, LeftBurst, Place};
@@ -129,6 +129,17 @@ fn replied(line: &[u8], r: Read, ok: bool, t: &mut [u8], n: usize, left: Left) -
     Said { ok, text, next }
 }
 
+// How many bytes go with a line.
+fn bytes_with(q: Option<AskLine>) -> usize
+    ensures { result ≡ bytes_with q }
+{
+    match q {
+        Some(q) => q.len,
+        None => 0,
+    }
+}
+
+#[tactic(auto, unfolding(crate::specs::Answers::ask_said))]
 fn asked(
     call: Named,
     line: &[u8],
@@ -143,11 +154,11 @@ fn asked(
 {
     let mut bytes = [0u8; BYTES];
     let q = ask_line(call, line, &mut bytes);
-    let len = least(q.len, &bytes);
+    let len = least(bytes_with(q), &bytes);
     replied(
         line,
         call.read,
-        q.ok,
+        q.is_some(),
         t,
         n,
         made(q, p, s, area, &bytes[..len]),
@@ -155,6 +166,7 @@ fn asked(
 }
 
 // A burst, the question for a piece, a queuing or a reply. `burst` has no other word.
+#[tactic(auto, unfolding(crate::specs::Answers::said_of))]
 pub fn say(
     call: Named,
     line: &[u8],
@@ -168,10 +180,10 @@ pub fn say(
     ensures { (result, (area.new, (out.new, t.new)))
         ≡ said_of p s area.old out.old line.now call (n, t.old) }
 {
-    if (call.call == BURST) & done(line, call.read) {
+    if matches!(call.call, Some(Call::Burst)) & done(line, call.read) {
         return burst(p, s, area, out, t, n);
     }
-    if call.call == PIECE {
+    if let Some(Call::Piece) = call.call {
         let q = piece(line, call.read, p, s, area, t, n);
         return Said {
             ok: q.ok,

@@ -3,183 +3,144 @@
 #![tactic(auto)]
 
 ghost use Rattle.std.specs.Prelude.{◌≡◌};
-ghost use Rattle.list_calls.specs.Asked.{no_line, reply_line, connect_asks, short_asks, turn_asks, long_asks};
-ghost use Rattle.list_calls.specs.Asked.{frames_asks, queue_asks, ask_line, made};
+ghost use Rattle.list_calls.specs.Asked.{if_right, connect_asks, short_asks, turn_asks, long_asks};
+ghost use Rattle.list_calls.specs.Asked.{frames_asks, queue_asks, ask_line, requested, made};
+ghost use Rattle.sender.specs.Numbered.{answer_number};
 
-use call_lines::names::{CONNECT, FRAMES, LONG, NO_CALL, Named, QUEUE, SHORT, TURN};
+use call_lines::names::{Call, Named};
 use call_lines::{connect_words, frames_words, long_words, queue_words, short_words, turn_words};
 use config::Profile;
 use queuing::Station;
 use reception::Reception;
-use refusals::{MAX_RECEIVED, Reply};
-use replies::{Heard, LongAck};
+use refusals::Reply;
+use replies::Heard;
 use sender::{Left, Message, answered, queued};
 use words::Read;
 
 pub mod answers;
 
-// A line that asks the sender, read: whether it was right, and what it asks. `kind`: QUEUE, FRAMES, or 0 for a reply. `len`: how many bytes
-// go with it. What the line's kind does not have is as in `no_line`.
+// What a line asks of the sender: a reply is taken in, a reception, or a message is queued.
+#[derive(Clone, Copy)]
+pub enum Ask {
+    Reply(Heard, Reply),
+    Reception(Heard, Reception),
+    Message(Message),
+}
+
+// A line that asks the sender, read: what it asks, and how many bytes go with it.
 #[derive(Clone, Copy)]
 pub struct AskLine {
-    pub ok: bool,
-    pub kind: u8,
-    pub heard: Heard,
-    pub reply: Reply,
-    pub reception: Reception,
-    pub message: Message,
+    pub ask: Ask,
     pub len: usize,
 }
 
-fn no_line() -> AskLine
-    ensures { result ≡ no_line }
+// A line that asks so, if it is right.
+fn if_right(ok: bool, ask: Ask, len: usize) -> Option<AskLine>
+    ensures { result ≡ if_right ok ask len }
 {
-    AskLine {
-        ok: false,
-        kind: NO_CALL,
-        heard: Heard {
-            time: 0.0,
-            wave: 0,
-            snr_db: 0.0,
-        },
-        reply: Reply::LongAck(LongAck {
-            want_turn: false,
-            want_disc: false,
-            stored: false,
-        }),
-        reception: Reception {
-            n: 0,
-            kind: [0; MAX_RECEIVED],
-            flags: [0; MAX_RECEIVED],
-            len: [0; MAX_RECEIVED],
-        },
-        message: Message { class: 0, label: 0 },
-        len: 0,
-    }
+    if ok { Some(AskLine { ask, len }) } else { None }
 }
 
-fn reply_line(ok: bool, heard: Heard, reply: Reply, len: usize) -> AskLine
-    ensures { result ≡ reply_line ok heard reply len }
-{
-    let q = no_line();
-    let reception = q.reception;
-    let message = q.message;
-    AskLine {
-        ok,
-        kind: NO_CALL,
-        heard,
-        reply,
-        reception,
-        message,
-        len,
-    }
-}
-
-fn connect(line: &[u8], r: Read) -> AskLine
+#[tactic(auto, unfolding(crate::specs::Asked::connect_asks))]
+fn connect(line: &[u8], r: Read) -> Option<AskLine>
     ensures { result ≡ connect_asks line.now r }
 {
     let q = connect_words(line, r);
-    let reply = q.reply;
-    reply_line(q.ok, q.heard, Reply::ConnAck(reply), 0)
+    if_right(q.ok, Ask::Reply(q.heard, Reply::ConnAck(q.reply)), 0)
 }
 
-fn short(line: &[u8], r: Read) -> AskLine
+#[tactic(auto, unfolding(crate::specs::Asked::short_asks))]
+fn short(line: &[u8], r: Read) -> Option<AskLine>
     ensures { result ≡ short_asks line.now r }
 {
     let q = short_words(line, r);
-    let reply = q.reply;
-    reply_line(q.ok, q.heard, Reply::Ack(reply), 0)
+    if_right(q.ok, Ask::Reply(q.heard, Reply::Ack(q.reply)), 0)
 }
 
-fn turn(line: &[u8], r: Read) -> AskLine
+#[tactic(auto, unfolding(crate::specs::Asked::turn_asks))]
+fn turn(line: &[u8], r: Read) -> Option<AskLine>
     ensures { result ≡ turn_asks line.now r }
 {
     let q = turn_words(line, r);
-    let reply = q.reply;
-    reply_line(q.ok, q.heard, Reply::Turn(reply), 0)
+    if_right(q.ok, Ask::Reply(q.heard, Reply::Turn(q.reply)), 0)
 }
 
 // The payload is put at the start of `bytes`, and so are the payloads of a reception and the bytes of a message.
-fn long(line: &[u8], r: Read, bytes: &mut [u8]) -> AskLine
+#[tactic(auto, unfolding(crate::specs::Asked::long_asks))]
+fn long(line: &[u8], r: Read, bytes: &mut [u8]) -> Option<AskLine>
     ensures { (result, bytes.new) ≡ long_asks bytes.old line.now r }
 {
     let q = long_words(line, r, bytes);
-    let reply = q.reply;
-    reply_line(q.ok, q.heard, Reply::LongAck(reply), q.payload)
+    if_right(
+        q.ok,
+        Ask::Reply(q.heard, Reply::LongAck(q.reply)),
+        q.payload,
+    )
 }
 
-fn frames(line: &[u8], r: Read, bytes: &mut [u8]) -> AskLine
+#[tactic(auto, unfolding(crate::specs::Asked::frames_asks))]
+fn frames(line: &[u8], r: Read, bytes: &mut [u8]) -> Option<AskLine>
     ensures { (result, bytes.new) ≡ frames_asks bytes.old line.now r }
 {
     let q = frames_words(line, r, bytes);
-    let heard = q.heard;
-    let reception = q.reception;
-    let mut a = no_line();
-    a.ok = q.ok;
-    a.kind = FRAMES;
-    a.heard = heard;
-    a.reception = reception;
-    a.len = q.used;
-    a
+    if_right(q.ok, Ask::Reception(q.heard, q.reception), q.used)
 }
 
-fn queue(line: &[u8], r: Read, bytes: &mut [u8]) -> AskLine
+#[tactic(auto, unfolding(crate::specs::Asked::queue_asks))]
+fn queue(line: &[u8], r: Read, bytes: &mut [u8]) -> Option<AskLine>
     ensures { (result, bytes.new) ≡ queue_asks bytes.old line.now r }
 {
     let q = queue_words(line, r, bytes);
-    let mut a = no_line();
-    a.ok = q.ok;
-    a.kind = QUEUE;
-    a.message.class = q.class;
-    a.message.label = q.label;
-    a.len = q.len;
-    a
+    let message = Message {
+        class: q.class,
+        label: q.label,
+    };
+    if_right(q.ok, Ask::Message(message), q.len)
 }
 
-// By the call's number. A line of another call breaks the rules.
-pub(crate) fn ask_line(n: Named, line: &[u8], bytes: &mut [u8]) -> AskLine
+// By the call. A line of another call breaks the rules.
+#[tactic(auto, unfolding(crate::specs::Asked::ask_line))]
+pub(crate) fn ask_line(n: Named, line: &[u8], bytes: &mut [u8]) -> Option<AskLine>
     ensures { (result, bytes.new) ≡ ask_line bytes.old line.now n }
 {
-    if n.call == SHORT {
-        return short(line, n.read);
+    match n.call {
+        Some(Call::Short) => short(line, n.read),
+        Some(Call::Long) => long(line, n.read, bytes),
+        Some(Call::Turn) => turn(line, n.read),
+        Some(Call::Connect) => connect(line, n.read),
+        Some(Call::Frames) => frames(line, n.read, bytes),
+        Some(Call::Queue) => queue(line, n.read, bytes),
+        _ => None,
     }
-    if n.call == LONG {
-        return long(line, n.read, bytes);
-    }
-    if n.call == TURN {
-        return turn(line, n.read);
-    }
-    if n.call == CONNECT {
-        return connect(line, n.read);
-    }
-    if n.call == FRAMES {
-        return frames(line, n.read, bytes);
-    }
-    if n.call == QUEUE {
-        return queue(line, n.read, bytes);
-    }
-    no_line()
 }
 
-// The call that the line q asks for, with its bytes; none where the line breaks the rules.
-pub(crate) fn made(q: AskLine, p: Profile, s: Station, area: &mut [u8], bytes: &[u8]) -> Left
+// The call that is asked for, with its bytes.
+fn requested(ask: Ask, p: Profile, s: Station, area: &mut [u8], bytes: &[u8]) -> Left
+    ensures { (result, area.new) ≡ answer_number (requested p s area.old ask bytes.now) }
+{
+    match ask {
+        Ask::Message(m) => queued(s, sender::queue(p, s, area, m, bytes)),
+        Ask::Reception(h, q) => answered(s, sender::frames_rx(p, s, area, h, q, bytes)),
+        Ask::Reply(h, q) => answered(s, sender::sender_rx(p, s, area, h, q, bytes)),
+    }
+}
+
+// The call that the line q asks for; none where the line breaks the rules.
+#[tactic(auto, unfolding(crate::specs::Asked::made))]
+pub(crate) fn made(
+    q: Option<AskLine>,
+    p: Profile,
+    s: Station,
+    area: &mut [u8],
+    bytes: &[u8],
+) -> Left
     ensures { (result, area.new) ≡ made p s area.old q bytes.now }
 {
-    if !q.ok {
-        return Left {
+    match q {
+        Some(q) => requested(q.ask, p, s, area, bytes),
+        None => Left {
             refusal: 0,
             next: s,
-        };
+        },
     }
-    if q.kind == QUEUE {
-        let left = sender::queue(p, s, area, q.message, bytes);
-        return queued(s, left);
-    }
-    if q.kind == FRAMES {
-        let left = sender::frames_rx(p, s, area, q.heard, q.reception, bytes);
-        return answered(s, left);
-    }
-    let reply = q.reply;
-    let left = sender::sender_rx(p, s, area, q.heard, reply, bytes);
-    answered(s, left)
 }

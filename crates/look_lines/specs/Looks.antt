@@ -1,7 +1,7 @@
 -- What a line of a call list answers that changes neither the record nor the work area, and the file that a line hands in (docs/CALLS.md,
 -- Calls). Definitions only. `a` is the work area, `out` the output, `t` the transcript's buffer and what is used of it, `chars` are the
 -- line's characters, `r` how far it was read.
-use Rattle.std.specs.Prelude.{Bool, true, false, cond, List, ℕ, ◌%◌, eqb, Float, length, take}
+use Rattle.std.specs.Prelude.{Bool, true, false, cond, List, ℕ, ◌%◌, eqb, Float, length, take, Option, Some}
 use Rattle.laws.specs.Text.{text}
 use Rattle.text.specs.Buffer.{appended}
 use Rattle.words.specs.declared.Read.{Read}
@@ -11,6 +11,8 @@ use Rattle.call_lines.specs.CallLines.{hex_room, bytes_in, log_line_read, range_
 use Rattle.call_lines.specs.declared.LinkLine.{LinkLine}
 use Rattle.call_lines.specs.declared.RangeLine.{RangeLine}
 use Rattle.call_lines.specs.declared.names.Named.{Named}
+use Rattle.call_lines.specs.declared.names.Call.{Call}
+use Rattle.call_lines.specs.declared.names.Call.TheVariants as C
 use Rattle.transcript.specs.Answers.{answer_line, log_line, card_line, levels_line}
 use Rattle.state_lines.specs.State.{state_lines}
 use Rattle.state_lines.specs.Queue.{messages_line}
@@ -83,13 +85,16 @@ log_shown out chars r t =
 abbrev pub output_kept : List ℕ → Shown × List ℕ → Shown × (List ℕ × List ℕ)
 output_kept out q = (q.0, (out, q.1))
 
--- by the call's number (Names.antt of `call_lines`)
+-- by the call, where r says how far the line was read
+abbrev pub shown_by : Option Call → Profile → Station → List ℕ → List ℕ → List ℕ → Read → ℕ × List ℕ → Shown × (List ℕ × List ℕ)
+shown_by (Some C.State) p s a out chars r t = output_kept out (state_shown p.lengths.max_burst_s s a chars r t)
+shown_by (Some C.Messages) p s a out chars r t = output_kept out (messages_shown s.messages chars r t)
+shown_by (Some C.Levels) p s a out chars r t = output_kept out (levels_shown p chars r t)
+shown_by (Some C.Card) p s a out chars r t = card_shown p out chars r t
+shown_by _ p s a out chars r t = log_shown out chars r t
+
 unfoldable pub look_shown : Profile → Station → List ℕ → List ℕ → List ℕ → Named → ℕ × List ℕ → Shown × (List ℕ × List ℕ)
-look_shown p s a out chars n t =
-    cond (eqb n.call 9) (output_kept out (state_shown p.lengths.max_burst_s s a chars n.read t))
-    (cond (eqb n.call 13) (output_kept out (messages_shown s.messages chars n.read t))
-    (cond (eqb n.call 12) (output_kept out (levels_shown p chars n.read t))
-    (cond (eqb n.call 14) (card_shown p out chars n.read t) (log_shown out chars n.read t))))
+look_shown p s a out chars n t = shown_by n.call p s a out chars n.read t
 
 -- `load HEX`: the file is put into the bytes lent
 abbrev pub loading : List ℕ → Read

@@ -8,7 +8,7 @@ ghost use Rattle.look_lines.specs.Looks.{line_left, state_shown, messages_shown,
 
 use adif::{Logged, log_link};
 use byte_copy::least;
-use call_lines::names::{CARD, LEVELS, MESSAGES, Named, STATE};
+use call_lines::names::{Call, Named};
 use call_lines::{link_words, range_words};
 use card::CARD_BYTES;
 use config::Profile;
@@ -130,6 +130,7 @@ fn log(line: &[u8], r: Read, out: &mut [u8], t: &mut [u8], n: usize) -> Shown
 }
 
 // A line that shows the record, the messages or the levels, or writes a card or a link's record into the output.
+#[tactic(auto, unfolding(crate::specs::Looks::look_shown))]
 pub fn look(
     call: Named,
     line: &[u8],
@@ -143,20 +144,14 @@ pub fn look(
     ensures { (result, (out.new, t.new))
         ≡ look_shown p s area.now out.old line.now call (n, t.old) }
 {
-    if call.call == STATE {
-        let usual = p.lengths.max_burst_s;
-        return state(line, call.read, usual, s, area, t, n);
+    let r = call.read;
+    match call.call {
+        Some(Call::State) => state(line, r, p.lengths.max_burst_s, s, area, t, n),
+        Some(Call::Messages) => messages(line, r, s.messages, t, n),
+        Some(Call::Levels) => levels(line, r, p, t, n),
+        Some(Call::Card) => card(line, r, p, out, t, n),
+        _ => log(line, r, out, t, n),
     }
-    if call.call == MESSAGES {
-        return messages(line, call.read, s.messages, t, n);
-    }
-    if call.call == LEVELS {
-        return levels(line, call.read, p, t, n);
-    }
-    if call.call == CARD {
-        return card(line, call.read, p, out, t, n);
-    }
-    log(line, call.read, out, t, n)
 }
 
 // A line that hands in a file: whether it was right, how many bytes the file has, the refusal of reading it, and whether harq_stretch was on.

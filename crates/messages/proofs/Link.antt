@@ -1,6 +1,6 @@
 -- The queue that the record and the waiting bytes show takes the ledger's steps: what the code stores is what `enqueue` and `flies` leave.
 -- Assumes nothing.
-use Prim.Native.Nat.{ℕ, zero, suc, ◌+◌, ◌-◌, ◌≤◌, ◌<◌}
+use Prim.Native.Nat.{ℕ, zero, suc, ◌+◌, ◌-◌, ◌≤◌}
 use mathlib.Core.Path.{◌≡◌, refl, sym, ap, ap₂, ◌∙◌}
 use mathlib.Core.Bool.{Bool, true, false, not, ◌&&◌, false≢true}
 use mathlib.Core.List.{List, [], ◌∷◌, ◌++◌, map, append_assoc}
@@ -15,7 +15,7 @@ use Rattle.laws.proofs.Bytes.{over-over}
 use Rattle.laws.proofs.Picks.{by, by₂, and_second}
 use Rattle.limits.specs.Limits.{max_messages}
 use Rattle.ledger.specs.Queue.{Message, Queue, message_bytes, goes, insert_by_class, first_if_begun, behind, those, withdraws, withdrawn_by, enqueue, superseded, flies_from, flies}
-use Rattle.ledger.proofs.Queue.{Ready, goes-flies, ready-enqueue, ready-flies}
+use Rattle.ledger.proofs.Queue.{Ready, goes-flies, ready-flies}
 use Rattle.messages.specs.declared.Messages.{Messages}
 use Rattle.messages.specs.declared.Position.{Position}
 use Rattle.messages.specs.Messages.{Entry, entry_of, entries_in, store_entries, with_withdrawn, total_left, begun_in, withdrawn_in, messages_of, queue_in, entries_of, store_queue}

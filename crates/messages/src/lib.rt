@@ -11,6 +11,7 @@ use limits::{MAX_CLASS, MAX_MESSAGES};
 
 // n messages, each with its class, its label, 0 for none, and the bytes of it that wait. `withdrawn`: bytes of messages withdrawn, in all.
 // `begun`: bytes of the first have begun to fly; with no message it says nothing.
+// kept: arrays side by side with a count, since it is part of the record that C programs hold, of a fixed size and with no heap.
 #[repr(C)]
 #[derive(Clone, Copy)]
 pub struct Messages {
@@ -58,12 +59,6 @@ struct Gone {
     begun: bool,
 }
 
-fn wide(x: u16) -> u32
-    ensures { (result ≡ x) × (result ≤ 65535) }
-{
-    x as u32
-}
-
 // The sound record's clauses about messages.
 pub fn messages_ok(m: Messages, waiting: u32) -> bool
     ensures { result ≡ messages_ok waiting m }
@@ -73,8 +68,7 @@ pub fn messages_ok(m: Messages, waiting: u32) -> bool
     }
     let n = m.n;
     let mut sum: u32 = 0;
-    let mut i = 0;
-    while i < n {
+    for i in 0..n {
         let l = m.left[i];
         let c = m.class[i];
         if l == 0 {
@@ -83,8 +77,7 @@ pub fn messages_ok(m: Messages, waiting: u32) -> bool
         if MAX_CLASS < c {
             return false;
         }
-        sum = sum + wide(l);
-        i += 1;
+        sum += u32::from(l);
     }
     sum == waiting
 }
@@ -97,17 +90,15 @@ pub fn place(m: Messages, class: u8) -> Position
     let n = m.n;
     let mut begun = m.begun;
     let mut bytes: usize = 0;
-    let mut row = 0;
-    while row < n {
+    for row in 0..n {
         let c = m.class[row];
         if !begun & (class < c) {
             return Position { row, bytes };
         }
         begun = false;
-        bytes = bytes + wide(m.left[row]) as usize;
-        row += 1;
+        bytes += usize::from(m.left[row]);
     }
-    Position { row, bytes }
+    Position { row: n, bytes }
 }
 
 // A message put in at a row; those from there on move up.
@@ -117,16 +108,9 @@ pub fn insert(m: Messages, row: usize, left: u16, class: u8, label: u16) -> Mess
 {
     let n = m.n;
     let mut out = m;
-    let mut i = row;
-    while i < n {
-        let l = m.left[i];
-        let c = m.class[i];
-        let b = m.label[i];
-        out.left[i + 1] = l;
-        out.class[i + 1] = c;
-        out.label[i + 1] = b;
-        i += 1;
-    }
+    out.left.copy_within(row..n, row + 1);
+    out.class.copy_within(row..n, row + 1);
+    out.label.copy_within(row..n, row + 1);
     out.left[row] = left;
     out.class[row] = class;
     out.label[row] = label;
@@ -154,15 +138,13 @@ pub fn superseded(m: Messages, label: u16, n: usize) -> Withdrawal
     let mut gone = 0;
     let mut bytes: u32 = 0;
     let mut begun = m.begun;
-    let mut i = 0;
-    while i < rows {
+    for i in 0..rows {
         let of = m.label[i];
         if !begun & withdraws(label, of) {
-            gone = gone + 1;
-            bytes = bytes + wide(m.left[i]);
+            gone += 1;
+            bytes += u32::from(m.left[i]);
         }
         begun = false;
-        i += 1;
     }
     Withdrawal { n: gone, bytes }
 }
@@ -176,13 +158,12 @@ pub fn withdraw(m: Messages, label: u16) -> Messages
     let mut out = m;
     let mut begun = m.begun;
     let mut to = 0;
-    let mut i = 0;
-    while i < rows {
+    for i in 0..rows {
         let l = m.left[i];
         let c = m.class[i];
         let b = m.label[i];
         if !begun & withdraws(label, b) {
-            out.withdrawn = out.withdrawn + wide(l);
+            out.withdrawn += u32::from(l);
         } else {
             out.left[to] = l;
             out.class[to] = c;
@@ -190,7 +171,6 @@ pub fn withdraw(m: Messages, label: u16) -> Messages
             to += 1;
         }
         begun = false;
-        i += 1;
     }
     out.n = to;
     out.begun = m.begun & (0 < rows);
@@ -205,25 +185,23 @@ fn rows_gone(m: Messages, k: u32) -> Gone
     let n = m.n;
     let mut begun = m.begun;
     let mut k = k;
-    let mut rows = 0;
-    while rows < n {
+    for rows in 0..n {
         let left = m.left[rows];
         if k == 0 {
             return Gone { rows, left, begun };
         }
-        if k < wide(left) {
+        if k < u32::from(left) {
             return Gone {
                 rows,
                 left: left - k as u16,
                 begun: true,
             };
         }
-        k = k - wide(left);
+        k -= u32::from(left);
         begun = false;
-        rows += 1;
     }
     Gone {
-        rows,
+        rows: n,
         left: 0,
         begun: false,
     }
@@ -236,16 +214,9 @@ fn cut_to(m: Messages, rows: usize, left: u16, begun: bool) -> Messages
 {
     let n = m.n;
     let mut out = m;
-    let mut i = rows;
-    while i < n {
-        let l = m.left[i];
-        let c = m.class[i];
-        let b = m.label[i];
-        out.left[i - rows] = l;
-        out.class[i - rows] = c;
-        out.label[i - rows] = b;
-        i += 1;
-    }
+    out.left.copy_within(rows..n, 0);
+    out.class.copy_within(rows..n, 0);
+    out.label.copy_within(rows..n, 0);
     if rows < n {
         out.left[0] = left;
     }

@@ -19,8 +19,7 @@ pub fn frames_out(q: Harq, s: Slots) -> Frames
     let mut start: [u32; MAX_SLOTS] = [0; MAX_SLOTS];
     let mut bits: [u32; MAX_SLOTS] = [0; MAX_SLOTS];
     let n = s.n;
-    let mut i = 0;
-    while i < n {
+    for i in 0..n {
         let held = s.held[i];
         let more = s.bits[i];
         let before = held - more;
@@ -28,7 +27,6 @@ pub fn frames_out(q: Harq, s: Slots) -> Frames
         len[i] = s.len[i];
         start[i] = q.start(before);
         bits[i] = more;
-        i += 1;
     }
     Frames {
         off,

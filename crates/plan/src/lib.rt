@@ -69,10 +69,8 @@ fn parity_bits(q: Harq, c: Choice, bits: &[u32]) -> u32
 {
     let slot = c.slot;
     let mut sum: u32 = 0;
-    let mut i = 0;
-    while i < bits.len() {
-        sum = sum + q.increment(bits[i], slot);
-        i += 1;
+    for &held in bits {
+        sum = sum + q.increment(held, slot);
     }
     sum
 }
@@ -83,14 +81,12 @@ fn pop(q: Harq, c: Choice, bits: &[u32]) -> usize
     ensures { result ≡ popped_from q c bits.now (length bits.now) }
 {
     let slot = c.slot;
-    let mut n = bits.len();
     let mut sum = parity_bits(q, c, bits);
-    while 0 < n {
+    for n in (1..=bits.len()).rev() {
         if !((PARTIAL_MAX < n) | c.too_big(n, sum)) {
             return n;
         }
-        n = n - 1;
-        sum = sum - q.increment(bits[n], slot);
+        sum = sum - q.increment(bits[n - 1], slot);
     }
     0
 }
@@ -119,15 +115,7 @@ fn most(c: Choice, n: usize, stored: usize) -> usize
     requires { stored ≤ max_slots }
     ensures { (result ≡ most_of c n stored) × (result ≤ max_slots) }
 {
-    let cap = c.cap();
-    let left = MAX_SLOTS - stored;
-    if cap <= n {
-        return 0;
-    }
-    if cap - n < left {
-        return cap - n;
-    }
-    left
+    c.cap().saturating_sub(n).min(MAX_SLOTS - stored)
 }
 
 // Whether r whole pieces fit beside increments of `bits` bits.
@@ -144,12 +132,11 @@ fn room(c: Choice, n: usize, stored: usize, bits: u32) -> usize
     requires { AirRange c × (c.slot ≤ max_bits) × (stored ≤ max_slots) × (bits ≤ max_burst_bits) }
     ensures { (result ≡ room_counted c n stored bits max_slots 0) × (result ≤ max_slots) }
 {
-    let mut r = most(c, n, stored);
-    while 0 < r {
+    let most = most(c, n, stored);
+    for r in (1..=most).rev() {
         if fits_with(c, bits, r) {
             return r;
         }
-        r = r - 1;
     }
     0
 }
@@ -161,8 +148,7 @@ pub fn plan(q: Harq, c: Choice, bits: &[u32]) -> Planned
 {
     let n = parity(q, c, bits);
     if n == 0 {
-        let r = room(c, 0, 0, 0);
-        let at_least = if r == 0 { 1 } else { r };
+        let at_least = room(c, 0, 0, 0).max(1);
         return Planned {
             parity: 0,
             parity_bits: 0,

@@ -7,7 +7,7 @@ ghost use Rattle.profile_table.specs.Table.{maybe_level_at};
 ghost use Rattle.profile_table.specs.Table.{air_of, codes_of, lengths_of, hold_times_of, marks_from, profile_of};
 
 use config::{Air, HoldTimes, Lengths, Marks, MaybeDb, MaybeLevel, Profile};
-use float_bits::{of_bits32, of_bits64};
+use float_bits::Pattern;
 use harq::Harq;
 
 pub mod listed;
@@ -31,42 +31,35 @@ fn at(v: &[u64; 146], k: usize) -> u64
 fn narrowed(n: u64, most: u32) -> u32
     ensures { result ≡ or_most most n }
 {
-    if n < 4294967296 {
-        return n as u32;
-    }
-    most
+    u32::try_from(n).unwrap_or(most)
 }
 
 fn u32_at(v: &[u64; 146], k: usize) -> u32
     requires { k < 146 }
     ensures { result ≡ u32_at v.now k }
 {
-    narrowed(at(v, k), 4294967295)
+    narrowed(at(v, k), u32::MAX)
 }
 
 fn u8_at(v: &[u64; 146], k: usize) -> u8
     requires { k < 146 }
     ensures { result ≡ u8_at v.now k }
 {
-    let n = at(v, k);
-    if n < 256 {
-        return n as u8;
-    }
-    255
+    u8::try_from(at(v, k)).unwrap_or(u8::MAX)
 }
 
 fn f64_at(v: &[u64; 146], k: usize) -> f64
     requires { k < 146 }
     ensures { result ≡ double_at v.now k }
 {
-    of_bits64(at(v, k))
+    f64::of_bits(at(v, k))
 }
 
 // The f32 of a pattern, the low 32 bits of a number.
 pub fn single_of(n: u64) -> f32
     ensures { result ≡ single_of n }
 {
-    of_bits32((n % 4294967296) as u32)
+    f32::of_bits((n % 4294967296) as u32)
 }
 
 fn f32_at(v: &[u64; 146], k: usize) -> f32
@@ -122,10 +115,8 @@ fn u32s(v: &[u64; 146], from: usize, most: u32) -> [u32; 17]
     ensures { result ≡ row_of (λ (l : ℕ). or_most most (get_or v.now (from + 4 * l) 0)) 17 }
 {
     let mut x = [0u32; 17];
-    let mut l: usize = 0;
-    while l < 17 {
+    for l in 0..17 {
         x[l] = narrowed(at(v, from + 4 * l), most);
-        l += 1;
     }
     x
 }
@@ -135,10 +126,8 @@ fn f64s(v: &[u64; 146], from: usize) -> [f64; 17]
     ensures { result ≡ row_of (λ (l : ℕ). double_at v.now (from + 4 * l)) 17 }
 {
     let mut x: [f64; 17] = [0.0; 17];
-    let mut l: usize = 0;
-    while l < 17 {
+    for l in 0..17 {
         x[l] = f64_at(v, from + 4 * l);
-        l += 1;
     }
     x
 }
@@ -149,10 +138,8 @@ fn f32s(v: &[u64; 146], from: usize) -> [f32; 17]
     ensures { result ≡ row_of (λ (l : ℕ). single_at v.now (from + l)) 17 }
 {
     let mut x: [f32; 17] = [0.0; 17];
-    let mut l: usize = 0;
-    while l < 17 {
+    for l in 0..17 {
         x[l] = f32_at(v, from + l);
-        l += 1;
     }
     x
 }
@@ -175,7 +162,7 @@ fn air(v: &[u64; 146]) -> Air
     ensures { result ≡ air_of v.now }
 {
     Air {
-        slot_bits: u32s(v, 0, 4294967295),
+        slot_bits: u32s(v, 0, u32::MAX),
         pre_s: f64s(v, 1),
         rate: f64s(v, 2),
         max_bits: u32s(v, 3, 0),

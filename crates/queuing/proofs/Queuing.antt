@@ -1,7 +1,7 @@
 -- A queuing is a withdrawal and then one insertion among the waiting bytes and one among the messages, and the ledger's.
 -- Assumes nothing.
 use mathlib.Core.Path.{◌≡◌, refl, sym, ap, ap₂, subst, ◌∙◌}
-use mathlib.Core.List.{List, [], ◌∷◌, ◌++◌, append_assoc}
+use mathlib.Core.List.{List, [], ◌∷◌, ◌++◌}
 use Prim.Native.Nat.{ℕ, ◌+◌, ◌-◌, ◌≤◌, ◌<◌}
 use native.Mathlib.Nat.{zero-add, add-zero}
 use native.Mathlib.Omega.{arith}
@@ -13,7 +13,7 @@ use Rattle.laws.specs.Bytes.{overwrite, part, Bytes}
 use Rattle.laws.proofs.Bytes.{over-part, over-keep, over-cat, over-over, over-comm, length_over, length_part, part-inside}
 use Rattle.laws.proofs.Picks.{by as by-test, or_right}
 use Rattle.limits.specs.Limits.{max_class, max_waiting, max_messages}
-use Rattle.ledger.specs.Ledger.{bytes_of, requeue}
+use Rattle.ledger.specs.Ledger.{requeue}
 use Rattle.ledger.specs.Queue.{Message, Queue, message_bytes, goes, enqueue, superseded, withdrawn_by}
 use Rattle.ledger.specs.Station.{take_in}
 use Rattle.area.specs.Layout.{place, stream_bytes}
@@ -30,7 +30,7 @@ use Rattle.record.specs.declared.Link.{Link}
 use Rattle.record.specs.declared.Sender.{Sender}
 use Rattle.record.proofs.View.{Arrays, Counted, bytes-pieces, rows-pieces, counts-kept, held_kept, sent-kept}
 use Rattle.messages.specs.Messages.{Entry, entry_of, entries_in, store_entries, with_withdrawn, total_left, begun_in, queue_in, store_queue}
-use Rattle.messages.specs.MessagesCode.{insert_row, go_in, stay_in, withdrawn, stay_queue, put_queue}
+use Rattle.messages.specs.MessagesCode.{insert_row, stay_in, withdrawn, stay_queue, put_queue}
 use Rattle.messages.specs.SoundCode.{SoundMessages, Sized}
 use Rattle.messages.specs.declared.Messages.{Messages}
 use Rattle.messages.proofs.Placed.{place-within}

@@ -46,17 +46,15 @@ fn close_gaps(m: Messages, a: &mut [u8], first: usize, label: u16) -> usize
     let mut begun = m.begun;
     let mut to = first;
     let mut from = first;
-    let mut i = 0;
-    while i < n {
+    for i in 0..n {
         let l = m.left[i] as usize;
         let b = m.label[i];
         if begun | !withdraws(label, b) {
             shift_left(a, from, to, l);
-            to = to + l;
+            to += l;
         }
-        from = from + l;
+        from += l;
         begun = false;
-        i += 1;
     }
     to - first
 }

@@ -1,11 +1,11 @@
 -- What each refusal is by its tests, and what is known where there is none. Assumes nothing.
 use Prim.Native.Nat.{ℕ, ◌≤◌, ◌<◌}
 use mathlib.Core.Path.{◌≡◌, refl, sym, ◌∙◌}
-use mathlib.Core.Bool.{Bool, true, false, not, ◌&&◌}
+use mathlib.Core.Bool.{Bool, true, false, not}
 use mathlib.Core.List.{List, [], ◌∷◌}
 use native.Mathlib.Omega.{arith}
 use lib.Dec.{leb, ltb}
-use borrow.Author.Tests.{ltb-false, leb-true, ne_eqb}
+use borrow.Author.Tests.{ltb-false, leb-true, le-leb, lt-leb, ne_eqb}
 use Rattle.laws.specs.Tests.{all}
 use Rattle.laws.proofs.Picks.{test}
 use Rattle.laws.proofs.Tests.{all-at}
@@ -17,19 +17,30 @@ use Rattle.report.specs.declared.ChanClass.{ChanClass}
 use Rattle.levels.specs.Usable.{heeded}
 use Rattle.gear.specs.Goodput.{marks_of}
 use Rattle.reachable.specs.Reachable.{Reached, chosen_by, chosen_under, reachable}
-use Rattle.reachable.specs.Reachable.{listing, listing_unless_refused, order_refusal, range_refusal, profile_refusal}
+use Rattle.reachable.specs.declared.Refusal.{Refusal}
+use Rattle.reachable.specs.declared.Refusal.TheVariants.{OutOfRange, ShortOverLong, LowOverHigh}
+use Rattle.reachable.specs.Reachable.{number_of, listing, listing_unless_refused, order_refusal, range_refusal, profile_refusal}
 use Rattle.reachable.specs.declared.Listing.{Listing}
 
 -- ---- `level_for`'s own arguments
 
 module _ (m : Marks) (power top low high : ℕ) (r : Bool) (e : r ≡ marks_ok m) where
-  pub range-good : (x : ℕ) → (r && (leb power 2 && leb top 16)) ≡ true → x ≡ order_refusal low high → x ≡ range_refusal m power top low high
+  pub range-bad : r ≡ false → 1 ≡ range_refusal m power top low high
   unfolding range_refusal all
-  range-good x h k = rw (rw e at h) k
+  range-bad h = rw (sym e ∙ h) refl
 
-  pub range-bad : (r && (leb power 2 && leb top 16)) ≡ false → 1 ≡ range_refusal m power top low high
-  unfolding range_refusal all
-  range-bad h = rw (rw e at h) refl
+  module _ (h : r ≡ true) where
+    pub range-power : 2 < power → 1 ≡ range_refusal m power top low high
+    unfolding range_refusal all
+    range-power a = rw (sym e ∙ h, lt-leb power 2 a) refl
+
+    pub range-top : power ≤ 2 → 16 < top → 1 ≡ range_refusal m power top low high
+    unfolding range_refusal all
+    range-top a b = rw (sym e ∙ h, le-leb power 2 a, lt-leb top 16 b) refl
+
+    pub range-good : (x : ℕ) → power ≤ 2 → top ≤ 16 → x ≡ order_refusal low high → x ≡ range_refusal m power top low high
+    unfolding range_refusal all
+    range-good x a b k = rw (sym e ∙ h, le-leb power 2 a, le-leb top 16 b) k
 
 -- ---- a whole profile
 
@@ -68,6 +79,13 @@ profile-none p low high h =
     (λ s. (omega (arith, (ranged p t).top), order-none low high (rw s at (rw t at h))))
     (λ s. absurd (omega (arith, rw s at (rw t at h)))))
     (λ t. absurd (omega (arith, rw t at h)))
+
+-- ---- a refusal has a number
+
+pub number-some : (r : Refusal) → number_of r ≡ 0 → ⊥
+number-some OutOfRange e = omega arith
+number-some ShortOverLong e = omega arith
+number-some LowOverHigh e = omega arith
 
 -- ---- the answer, with n for the refusal k
 

@@ -10,6 +10,8 @@ use Rattle.config.specs.Ranges.{marks_ok, in_range, in_order}
 use Rattle.levels.specs.Usable.{level_for, heeded}
 use Rattle.gear.specs.Goodput.{marks_of}
 use Rattle.reachable.specs.declared.Listing.{Listing}
+use Rattle.reachable.specs.declared.Refusal.{Refusal}
+use Rattle.reachable.specs.declared.Refusal.TheVariants.{OutOfRange, ShortOverLong, LowOverHigh}
 
 -- "a byte q meaning q - 24 dB": what `level_for` chooses for it
 abbrev pub chosen_by : Marks → ℕ → ChanClass → ℕ → ℕ → ℕ
@@ -51,6 +53,12 @@ listing refusal xs =
 -- nothing is listed where the call is refused
 unfoldable pub listing_unless_refused : ℕ → List Reached → Listing
 listing_unless_refused refusal xs = listing refusal (cond (eqb refusal 0) xs [])
+
+-- a refusal's number
+abbrev pub number_of : Refusal → ℕ
+number_of OutOfRange = 1
+number_of ShortOverLong = 2
+number_of LowOverHigh = 19
 
 -- "It refuses a lowest q above the highest with 19"
 unfoldable pub order_refusal : ℕ → ℕ → ℕ

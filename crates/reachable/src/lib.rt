@@ -4,7 +4,8 @@
 ghost use Rattle.std.specs.Prelude.{◌≡◌, [], map, ◌<◌, ◌≤◌, get_or};
 ghost use Rattle.laws.specs.Span.{upto};
 ghost use Rattle.reachable.specs.Reachable.{chosen_by, lowest_of, given, reachable, listing};
-ghost use Rattle.reachable.specs.Reachable.{order_refusal, range_refusal, profile_refusal, listing_by, listing_under};
+ghost use Rattle.reachable.specs.Reachable.{number_of, order_refusal, range_refusal, profile_refusal, listing_by, listing_under};
+ghost use Rattle.reachable.specs.ReachableCode.{told};
 
 use config::ranges::{in_order, in_range, marks_ok};
 use config::{Marks, Profile};
@@ -13,7 +14,29 @@ use levels::reach::level_for;
 use levels::usable::heeded;
 use report::{ChanClass, snr_from_q};
 
+// Why nothing is listed: a value out of its range, frame sizes out of order, a lowest q above the highest.
+#[derive(Clone, Copy, Debug, PartialEq, Eq)]
+pub enum Refusal {
+    OutOfRange,
+    ShortOverLong,
+    LowOverHigh,
+}
+
+impl Refusal {
+    // The papers' number.
+    pub fn number(self) -> u8
+        ensures { result ≡ number_of self }
+    {
+        match self {
+            Refusal::OutOfRange => 1,
+            Refusal::ShortOverLong => 2,
+            Refusal::LowOverHigh => 19,
+        }
+    }
+}
+
 // The answer: 0 and n levels, each once, ascending, with the lowest q that gives it; or the refusal and no level. The places behind are 0.
+// kept: the refusal as a number, and a count beside two arrays: C interface.
 #[repr(C)]
 #[derive(Clone, Copy)]
 pub struct Listing {
@@ -24,6 +47,7 @@ pub struct Listing {
 }
 
 // No byte: what stands for a level that no q gives.
+// kept: a number and no Option, as the definition of the lowest q has it.
 const NO_Q: u16 = 256;
 
 // For each level the lowest q that gives it: the range is gone through downwards, so that the last q noted is the lowest.
@@ -32,10 +56,9 @@ fn lowest_q(marks: Marks, power: u8, class: ChanClass, top: usize, low: u8, high
     ensures { result ≡ map (lowest_of (chosen_by marks power class top) low high) (upto 0 17) }
 {
     let mut lowest: [u16; 17] = [NO_Q; 17];
-    let end = low as u16;
-    let mut q = high as u16 + 1;
-    while q > end {
-        q -= 1;
+    let start = low as u16;
+    let end = high as u16 + 1;
+    for q in (start..end).rev() {
         let l = level_for(marks, power, class, top, snr_from_q(q as u8));
         lowest[l] = q;
     }
@@ -49,21 +72,19 @@ fn list(lowest: [u16; 17]) -> Listing
     let mut level: [u8; 17] = [0; 17];
     let mut q: [u8; 17] = [0; 17];
     let mut n: usize = 0;
-    let mut l: usize = 0;
-    while l < 17 {
+    for l in 0..17 {
         let k = lowest[l];
         if k < NO_Q {
             level[n] = l as u8;
             q[n] = k as u8;
             n += 1;
         }
-        l += 1;
     }
     Listing {
         refusal: 0,
-        n: n,
-        level: level,
-        q: q,
+        n,
+        level,
+        q,
     }
 }
 
@@ -74,43 +95,45 @@ fn listed(marks: Marks, power: u8, class: ChanClass, top: usize, low: u8, high: 
     list(lowest_q(marks, power, class, top, low, high))
 }
 
-fn refused(refusal: u8) -> Listing
-    ensures { result ≡ listing refusal [] }
+fn refused(refusal: Refusal) -> Listing
+    ensures { result ≡ listing (number_of refusal) [] }
 {
     Listing {
-        refusal: refusal,
+        refusal: refusal.number(),
         n: 0,
         level: [0; 17],
         q: [0; 17],
     }
 }
 
-fn order_refusal(low: u8, high: u8) -> u8
-    ensures { result ≡ order_refusal low high }
+fn check_order(low: u8, high: u8) -> Result<(), Refusal>
+    ensures { told result ≡ order_refusal low high }
 {
-    if high < low { 19 } else { 0 }
-}
-
-fn range_refusal(marks: Marks, power: u8, top: usize, low: u8, high: u8) -> u8
-    ensures { result ≡ range_refusal marks power top low high }
-{
-    if marks_ok(marks) & ((power <= 2) & (top <= 16)) {
-        order_refusal(low, high)
-    } else {
-        1
+    if high < low {
+        return Err(Refusal::LowOverHigh);
     }
+    Ok(())
 }
 
-fn profile_refusal(cfg: Profile, low: u8, high: u8) -> u8
-    ensures { result ≡ profile_refusal cfg low high }
+fn check_range(marks: Marks, power: u8, top: usize, low: u8, high: u8) -> Result<(), Refusal>
+    ensures { told result ≡ range_refusal marks power top low high }
+{
+    if !marks_ok(marks) || 2 < power || 16 < top {
+        return Err(Refusal::OutOfRange);
+    }
+    check_order(low, high)
+}
+
+fn check_profile(cfg: Profile, low: u8, high: u8) -> Result<(), Refusal>
+    ensures { told result ≡ profile_refusal cfg low high }
 {
     if !in_range(cfg) {
-        return 1;
+        return Err(Refusal::OutOfRange);
     }
     if !in_order(cfg.short_bytes, cfg.long_bytes) {
-        return 2;
+        return Err(Refusal::ShortOverLong);
     }
-    order_refusal(low, high)
+    check_order(low, high)
 }
 
 // On what `level_for` takes, the class as it is: refused by 1, then 19.
@@ -124,21 +147,21 @@ pub fn levels_by(
 ) -> Listing
     ensures { result ≡ listing_by marks power class top low high }
 {
-    let n = range_refusal(marks, power, top, low, high);
-    if n == 0 {
-        return listed(marks, power, class, top, low, high);
+    match check_range(marks, power, top, low, high) {
+        Ok(()) => listed(marks, power, class, top, low, high),
+        Err(refusal) => refused(refusal),
     }
-    refused(n)
 }
 
 // On a whole profile, as a sender under it would choose: refused by 1, 2, then 19.
 pub fn levels_under(cfg: Profile, class: ChanClass, low: u8, high: u8) -> Listing
     ensures { result ≡ listing_under cfg class low high }
 {
-    let n = profile_refusal(cfg, low, high);
-    if n == 0 {
-        let heard = heeded(class, cfg.pick_family);
-        return listed(marks(cfg), cfg.power, heard, cfg.max_level, low, high);
+    match check_profile(cfg, low, high) {
+        Ok(()) => {
+            let heard = heeded(class, cfg.pick_family);
+            listed(marks(cfg), cfg.power, heard, cfg.max_level, low, high)
+        }
+        Err(refusal) => refused(refusal),
     }
-    refused(n)
 }

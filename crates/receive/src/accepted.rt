@@ -11,7 +11,7 @@ use config::Profile;
 use record::Sender;
 use refusals::Reply;
 use replies::{Heard, LongAck};
-use report::ack::{AckInfo, AckRead};
+use report::ack::AckInfo;
 
 // A long ack, by what AckInfo::from_bytes reads of its payload.
 pub fn hear_payload(
@@ -26,10 +26,9 @@ pub fn hear_payload(
     requires fact_2 { ReplyReady p s a.old × (h.wave ≤ 5) }
     ensures { (result, a.new) ≡ long_read p h r (ack_of payload.now) s a.old }
 {
-    let i = AckInfo::from_bytes(payload);
-    match i {
-        AckRead::TooShort => s,
-        AckRead::Info(i) => hear_long(p, s, a, h, r, i),
+    match AckInfo::from_bytes(payload) {
+        None => s,
+        Some(i) => hear_long(p, s, a, h, r, i),
     }
 }
 

@@ -8,7 +8,7 @@ ghost use Rattle.replies.specs.RepliesCode.{ReplyReady};
 
 use crate::awaited::ack_in;
 use config::Profile;
-use float::whole::{capped_add, to_millis};
+use float::whole::to_millis;
 use record::{Link, Sender};
 use replies::{Ack, Heard, LongAck};
 use report::ack::AckInfo;
@@ -30,11 +30,10 @@ pub fn note(k: Link, time: f64, turn: bool, disc: bool, number: u8) -> Link
 fn long_db(p: Profile, i: AckInfo) -> f32
     ensures { result ≡ long_db p i }
 {
-    let c = i.report;
-    if i.reported & p.eff_snr {
-        return c.eff_snr_db;
+    match i.report {
+        Some(c) if p.eff_snr => c.eff_snr_db,
+        _ => i.snr_db,
     }
-    i.snr_db
 }
 
 // The milliseconds on the air, once an awaited ack has come in this wave.
@@ -42,7 +41,7 @@ fn ack_airtime(p: Profile, wave: u8, ms: u64) -> u64
     requires { wave ≤ 5 }
     ensures { result ≡ air_added ms (ack_at p.air wave) }
 {
-    capped_add(ms, to_millis(p.air.ack(wave)))
+    ms.saturating_add(to_millis(p.air.ack(wave)))
 }
 
 // A short ack. One that is not awaited leaves only its wishes, its number and its time.
@@ -87,7 +86,7 @@ pub fn hear_long(p: Profile, s: Sender, a: &mut [u8], h: Heard, r: LongAck, i: A
     if !k.awaiting {
         return q;
     }
-    let c = i.report;
+    let c = i.report_or_none();
     let g = s.gear.with_class(c.class);
     q.gear = g;
     q.link.peer_slot = c.slot;

@@ -1,5 +1,5 @@
 -- A data frame as the receiver reads it: `Frame::decode` of frame.rs, with refusals 16 and 17. Definitions only.
-use Rattle.std.specs.Prelude.{ℕ, ◌+◌, ◌-◌, Bool, ◌&&◌, ◌||◌, List, [], ◌∷◌, leb, ltb, eqb, length, get_or, take, drop}
+use Rattle.std.specs.Prelude.{ℕ, ◌+◌, ◌-◌, Bool, ◌&&◌, List, [], ◌∷◌, leb, eqb, length, get_or, take, drop}
 use Rattle.laws.specs.Tests.{all}
 use Rattle.laws.specs.Bytes.{part}
 use Rattle.laws.specs.Little.{num}

@@ -1,5 +1,5 @@
 -- The receiver's call: the refusals, and what it answers and leaves. Definitions only.
-use Rattle.std.specs.Prelude.{ℕ, ◌+◌, ◌-◌, Bool, not, cond, ◌&&◌, List, [], ◌∷◌, ◌++◌, leb, ltb, eqb, length, take, get_or, replicate}
+use Rattle.std.specs.Prelude.{ℕ, ◌+◌, ◌-◌, Bool, not, cond, List, [], ◌∷◌, ◌++◌, leb, ltb, eqb, length, take, get_or, replicate}
 use Rattle.laws.specs.Tests.{all}
 use Rattle.laws.specs.Span.{every, upto}
 use Rattle.laws.specs.Bytes.{overwrite}

@@ -8,7 +8,7 @@ ghost use Rattle.receiver.specs.Taking.{none_taken, left_out, too_far, took_slot
 ghost use Rattle.receiver.specs.TakingCode.{InBounds};
 ghost use Rattle.receiver.specs.Receiving.{empty_from, receiver_sound, receive_refusal, ack_bytes, no_answer, accepted, reception_of, fresh_receiver};
 
-use byte_copy::load32;
+use byte_copy::Little;
 use frame::crc::{crc32_by, table};
 use window::{copy_out, keep_from, move_on};
 
@@ -25,6 +25,7 @@ pub struct Receiver {
 }
 
 // What a call answers: the refusal, or 0; the payload of the long ack; how many bytes it handed on; the frames left out under 16 and 17.
+// kept: the refusal as a number: C interface.
 #[repr(C)]
 #[derive(Clone, Copy)]
 pub struct Received {
@@ -50,18 +51,12 @@ pub struct Taking {
     pub beyond: usize,
 }
 
-fn wide(x: u8) -> u32
-    ensures { (result ≡ x) × (result < 256) }
-{
-    x as u32
-}
-
 // The offset of a frame.
 fn offset(f: &[u8]) -> u32
     requires { 5 ≤ length f.now }
     ensures { (result ≡ off_of f.now) × (result < 16777216) }
 {
-    wide(f[2]) + 256 * (wide(f[3]) + 256 * wide(f[4]))
+    u32::from(f[2]) + 256 * (u32::from(f[3]) + 256 * u32::from(f[4]))
 }
 
 // Size, kind and length byte.
@@ -72,7 +67,7 @@ fn head_ok(f: &[u8]) -> bool
     if n < 18 {
         return false;
     }
-    let len = wide(f[5]) as usize;
+    let len = usize::from(f[5]);
     (n <= 512) & ((f[0] == 3) & ((1 <= len) & ((len <= 254) & (len + 10 <= n))))
 }
 
@@ -83,7 +78,7 @@ fn sum_ok(t: &[u32; 256], f: &[u8]) -> bool
 {
     let end = f.len() - 4;
     let sum = crc32_by(t, &f[..end]);
-    sum == load32(f, end)
+    sum == u32::load(f, end)
 }
 
 // The cheap tests come before the check sum.
@@ -110,10 +105,8 @@ fn left_out(k: Taking) -> Taking
     ensures { result ≡ left_out k }
 {
     Taking {
-        least: k.least,
-        bitmap: k.bitmap,
         wrong: k.wrong + 1,
-        beyond: k.beyond,
+        ..k
     }
 }
 
@@ -122,10 +115,8 @@ fn too_far(k: Taking) -> Taking
     ensures { result ≡ too_far k }
 {
     Taking {
-        least: k.least,
-        bitmap: k.bitmap,
-        wrong: k.wrong,
         beyond: k.beyond + 1,
+        ..k
     }
 }
 
@@ -136,8 +127,7 @@ fn took_slot(k: Taking, s: u8) -> Taking
     Taking {
         least: s + 1,
         bitmap: k.bitmap + (1u64 << s),
-        wrong: k.wrong,
-        beyond: k.beyond,
+        ..k
     }
 }
 
@@ -154,7 +144,7 @@ fn take_one(t: &[u32; 256], w: &mut [u16], first: u32, slot: u8, f: &[u8], k: Ta
     }
     if frame_ok(t, f) {
         let off = offset(f);
-        let len = wide(f[5]);
+        let len = u32::from(f[5]);
         if first + 32768 < off + len {
             return too_far(k);
         }
@@ -169,24 +159,7 @@ fn take_one(t: &[u32; 256], w: &mut [u16], first: u32, slot: u8, f: &[u8], k: Ta
     }
 }
 
-// Where a frame of n bytes at `at` ends: there are `all` bytes.
-fn end_of(at: usize, n: u16, all: usize) -> usize
-    requires { at ≤ all }
-    ensures { result ≡ min (at + n) all }
-{
-    let room = all - at;
-    let want = n as usize;
-    if want < room { at + want } else { all }
-}
-
-// As many frames as the shorter list has.
-fn frame_count(sizes: usize, slots: usize) -> usize
-    ensures { result ≡ min sizes slots }
-{
-    if sizes < slots { sizes } else { slots }
-}
-
-// All frames of a burst.
+// All frames of a burst: as many as the shorter list has. A frame ends where the bytes do at the latest.
 fn take_all(
     t: &[u32; 256],
     w: &mut [u16],
@@ -198,16 +171,14 @@ fn take_all(
     requires { (t.now ≡ table_of) × (length w.old ≡ box_bytes) × (first ≤ offsets) }
     ensures { (result, w.new) ≡ all_taken first (slotted bytes.now sizes.now slots.now) (none_taken, w.old) }
 {
-    let n = frame_count(sizes.len(), slots.len());
+    let n = sizes.len().min(slots.len());
     let all = bytes.len();
     let mut k = begin();
-    let mut at = 0;
-    let mut i = 0;
-    while i < n {
-        let end = end_of(at, sizes[i], all);
+    let mut at: usize = 0;
+    for i in 0..n {
+        let end = at.saturating_add(usize::from(sizes[i])).min(all);
         k = take_one(t, w, first, slots[i], &bytes[at..end], k);
         at = end;
-        i += 1;
     }
     k
 }
@@ -217,12 +188,10 @@ fn empty_from(w: &[u16], from: usize) -> bool
     requires { box_bytes ≤ length w.now }
     ensures { result ≡ empty_from w.now from }
 {
-    let mut i = from;
-    while i < PLACES {
+    for i in from..PLACES {
         if 256 <= w[i] {
             return false;
         }
-        i += 1;
     }
     true
 }

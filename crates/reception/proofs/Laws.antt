@@ -7,11 +7,10 @@ use Prim.Native.Nat.{ℕ, ◌≤◌}
 use lib.Dec.{leb, eqb}
 use lib.ListN.{length}
 use borrow.Author.Tests.{leb-true, le-ltb}
+use Rattle.std.proofs.Common.{Option, Some, None}
 use Rattle.laws.proofs.Picks.{by, and_second}
 use Rattle.report.specs.Ack.{info_of, ack_of}
 use Rattle.report.specs.declared.ack.AckInfo.{AckInfo}
-use Rattle.report.specs.declared.ack.AckRead.{AckRead}
-use Rattle.report.specs.declared.ack.AckRead.TheVariants.{TooShort, Info}
 use Rattle.config.specs.declared.Profile.{Profile}
 use Rattle.ledger.proofs.Sentences.{ack-ends}
 use Rattle.record.specs.View.{store, store_link}
@@ -32,7 +31,7 @@ State = Sender × List ℕ
 pub read-long : (f : Decoded) → is_ack_read f ≡ true → 13 ≤ length f.payload
 read-long f e = leb-true 13 (length f.payload) (and_second (eqb f.kind 4) (leb 13 (length f.payload)) e)
 
-pub read-info : (b : List ℕ) → 13 ≤ length b → ack_of b ≡ Info (info_of b)
+pub read-info : (b : List ℕ) → 13 ≤ length b → ack_of b ≡ Some (info_of b)
 unfolding ack_of
 read-info b h = rw (le-ltb (length b) 13 h) refl
 
@@ -42,21 +41,21 @@ module _ (p : Profile) (h : Heard) where
   long-ends r i s a = by (λ (x : State). x.0.link.awaiting ≡ false) s.link.awaiting (λ e. ack-ends _ _ _ _) (λ e. e)
 
   -- one that is not awaited changes the link alone
-  pub long-quiet : (r : LongAck) (x : AckRead) (s : Sender) (a : List ℕ) → s.link.awaiting ≡ false
+  pub long-quiet : (r : LongAck) (x : Option AckInfo) (s : Sender) (a : List ℕ) → s.link.awaiting ≡ false
       → long_read p h r x s a ≡ (with_link s (read_noted s.link h.time r x), a)
   unfolding long_acked
-  long-quiet r TooShort s a e = refl
-  long-quiet r (Info i) s a e = rw e refl
+  long-quiet r None s a e = refl
+  long-quiet r (Some i) s a e = rw e refl
 
   pub read-ends : (f : Decoded) (s : Sender) (a : List ℕ) → is_ack_read f ≡ true
       → (long_read p h (flags_of f.flags) (ack_of f.payload) s a).0.link.awaiting ≡ false
   read-ends f s a e =
-      subst (λ (x : AckRead). (long_read p h (flags_of f.flags) x s a).0.link.awaiting ≡ false) (sym (read-info f.payload (read-long f e)))
+      subst (λ (x : Option AckInfo). (long_read p h (flags_of f.flags) x s a).0.link.awaiting ≡ false) (sym (read-info f.payload (read-long f e)))
       (long-ends (flags_of f.flags) (info_of f.payload) s a)
 
-  pub noted-quiet : (k : Link) (r : LongAck) (x : AckRead) → (read_noted k h.time r x).awaiting ≡ k.awaiting
-  noted-quiet k r TooShort = refl
-  noted-quiet k r (Info i) = refl
+  pub noted-quiet : (k : Link) (r : LongAck) (x : Option AckInfo) → (read_noted k h.time r x).awaiting ≡ k.awaiting
+  noted-quiet k r None = refl
+  noted-quiet k r (Some i) = refl
 
   -- where none is awaited the work area stays
   pub quiet-area : (fs : List Decoded) (c : State) → c.0.link.awaiting ≡ false → (frames_heard p h fs c).1 ≡ c.1

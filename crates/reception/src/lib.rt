@@ -16,10 +16,10 @@ use receive::acks::note;
 use record::{Link, Sender};
 use refusals::MAX_RECEIVED;
 use replies::{Heard, LongAck};
-use report::ack::{AckInfo, AckRead};
+use report::ack::AckInfo;
 
 // The decoded frames of one reception: n of them, each with its kind and flags as frame.rs numbers them and its payload's length. The
-// payloads travel beside it, back to back.
+// payloads travel beside it, back to back. kept: arrays side by side with a count: C interface.
 #[repr(C)]
 #[derive(Clone, Copy)]
 pub struct Reception {
@@ -42,20 +42,13 @@ fn flags_of(f: u8) -> LongAck
     }
 }
 
-fn wide(x: u32) -> usize
-    ensures { result ≡ x }
-{
-    x as usize
-}
-
 // A long ack that is not awaited.
 fn unasked(k: Link, time: f64, r: LongAck, payload: &[u8]) -> Link
     ensures { result ≡ read_noted k time r (ack_of payload.now) }
 {
-    let i = AckInfo::from_bytes(payload);
-    match i {
-        AckRead::TooShort => k,
-        AckRead::Info(i) => note(k, time, r.want_turn, r.want_disc, i.burst),
+    match AckInfo::from_bytes(payload) {
+        None => k,
+        Some(i) => note(k, time, r.want_turn, r.want_disc, i.burst),
     }
 }
 
@@ -76,9 +69,8 @@ pub fn hear_frames(
     let n = r.n;
     let mut q = s;
     let mut at = 0;
-    let mut i = 0;
-    while i < n {
-        let l = wide(r.len[i]);
+    for i in 0..n {
+        let l = r.len[i] as usize;
         let k = least(l, &payloads[at..]);
         let f = flags_of(r.flags[i]);
         if (r.kind[i] == 4) & (13 <= k) {
@@ -89,7 +81,6 @@ pub fn hear_frames(
             }
         }
         at = at + k;
-        i += 1;
     }
     q
 }

@@ -54,12 +54,10 @@ fn level_cases(rt: &impl Print) -> io::Result<()> {
         "P6 level 5, session 9, burst 2, check bits 1, user ",
         user_bits(5, 9, 6) as u64,
     )?;
-    say(rt, "P10 top_level_in 0, ", top_level_in(0) as u64)?;
-    say(rt, "P10 top_level_in 1, ", top_level_in(1) as u64)?;
-    say(rt, "P10 top_level_in 2, ", top_level_in(2) as u64)?;
-    say(rt, "P10 top_level_in 3, ", top_level_in(3) as u64)?;
-    say(rt, "P10 top_level_in 4, ", top_level_in(4) as u64)?;
-    say(rt, "P10 top_level_in 5, ", top_level_in(5) as u64)?;
+    for w in 0..6u8 {
+        let top = top_level_in(w);
+        println!(rt; "P10 top_level_in {w}, {top}")?;
+    }
     say(
         rt,
         "P12 number 3, last heard 0, next ",

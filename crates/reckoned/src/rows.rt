@@ -8,24 +8,15 @@ use area::splitting::split_table;
 use area::table::{Row, load_row, store_row};
 use std::io;
 
-fn four_at_most(n: usize) -> usize
-    ensures { result ≤ 4 }
-{
-    if n < 4 { n } else { 4 }
-}
-
 // The first n rows, and at most four, as the paper writes pieces: offset/length.
 fn say_rows(rt: &impl Print, a: &[u8], n: usize) -> io::Result<()>
     requires { area_bytes ≤ length a.now }
 {
-    let most = four_at_most(n);
-    let mut i: usize = 0;
-    while i < most {
+    for i in 0..n.min(4) {
         let r = load_row(a, i);
         let off = r.off;
         let len = r.len;
         print!(rt; " {off}/{len}")?;
-        i += 1;
     }
     println!(rt; "")
 }

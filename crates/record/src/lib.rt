@@ -47,6 +47,7 @@ pub struct Counts {
 }
 
 // at_peer: n held pieces; the last `rest` of them are at_peer_rest.
+// kept: arrays side by side with a count, here and in LastBurst: C interface.
 #[repr(C)]
 #[derive(Clone, Copy)]
 pub struct AtPeer {

@@ -1,31 +1,43 @@
 -- What a refusal is (document 01): the numbers, and the values that a reply may carry. Definitions only.
-use Rattle.std.specs.Prelude.{[], ◌∷◌, Bool, true, not, ◌&&◌, ◌||◌, ℕ, leb, Float}
+use Rattle.std.specs.Prelude.{Ok, Err, [], ◌∷◌, Bool, true, not, ◌&&◌, ◌||◌, ℕ, leb, Float}
 use Rattle.std.specs.Float.Ieee.{le, neg}
 use Rattle.laws.specs.Tests.{all}
 use Rattle.ieee.specs.Range.{w32, w64, inside}
+use Rattle.area.specs.declared.room.NoRoom.{NoRoom}
+use Rattle.area.specs.declared.room.NoRoom.TheVariants as N
 use Rattle.replies.specs.declared.Heard.{Heard}
-use Rattle.refusals.specs.declared.Verdict.{Verdict}
-use Rattle.refusals.specs.declared.Verdict.TheVariants.{Accepted, ProfileOutOfRange, ShortOverLong, Unsound, OutOfTurn, BadTime, BadValue, ShortPayload, QueueFull, AllTaken, ShortOutput, BadClass, TooManyMessages, TooManyFrames}
+use Rattle.refusals.specs.declared.Refusal.{Refusal}
+use Rattle.refusals.specs.declared.Refusal.TheVariants as E
+use Rattle.refusals.specs.Verdict.{Verdict}
 use Rattle.refusals.specs.declared.Reply.{Reply}
 use Rattle.refusals.specs.declared.Reply.TheVariants.{ConnAck, Ack, LongAck, Turn}
 use Rattle.limits.specs.Limits.{max_number, tiny_all}
 
--- the papers' number of each: 0 where the call is accepted
+-- the papers' number of each refusal
+abbrev pub refusal_number : Refusal → ℕ
+refusal_number E.ProfileOutOfRange = 1
+refusal_number E.ShortOverLong = 2
+refusal_number E.Unsound = 3
+refusal_number E.OutOfTurn = 4
+refusal_number E.BadTime = 5
+refusal_number E.BadValue = 6
+refusal_number E.ShortPayload = 7
+refusal_number E.QueueFull = 8
+refusal_number E.AllTaken = 9
+refusal_number E.ShortOutput = 10
+refusal_number E.BadClass = 11
+refusal_number E.TooManyMessages = 12
+refusal_number E.TooManyFrames = 15
+
+-- 8 or 9
+abbrev pub refusal_of : NoRoom → Refusal
+refusal_of N.QueueFull = E.QueueFull
+refusal_of N.AllTaken = E.AllTaken
+
+-- the number of what becomes of a call: 0 where it is accepted
 abbrev pub number_of : Verdict → ℕ
-number_of Accepted = 0
-number_of ProfileOutOfRange = 1
-number_of ShortOverLong = 2
-number_of Unsound = 3
-number_of OutOfTurn = 4
-number_of BadTime = 5
-number_of BadValue = 6
-number_of ShortPayload = 7
-number_of QueueFull = 8
-number_of AllTaken = 9
-number_of ShortOutput = 10
-number_of BadClass = 11
-number_of TooManyMessages = 12
-number_of TooManyFrames = 15
+number_of (Ok x) = 0
+number_of (Err r) = refusal_number r
 
 -- 15: "It refuses more than 16 frames" (document 02, Change 7)
 abbrev pub max_received : ℕ

@@ -2,27 +2,27 @@
 #![tactic(auto)]
 
 ghost use Rattle.std.specs.Prelude.{◌≡◌};
-ghost use Rattle.refusals.specs.Refusals.{number_of, kind_of, time_ok, report_ok, heard_ok, reply_ok};
+ghost use Rattle.refusals.specs.Refusals.{refusal_number, refusal_of, number_of, time_ok, report_ok, heard_ok, reply_ok};
 
+use area::room::NoRoom;
 use replies::{Ack, ConnAck, Heard, LongAck, Turn};
 
-// What becomes of a call: the papers' refusals, each by its name: document 01's 1 to 10, and 11, 12 and 15 of document 02.
-#[derive(Clone, Copy)]
-pub enum Verdict {
-    Accepted,
-    ProfileOutOfRange,
-    ShortOverLong,
-    Unsound,
-    OutOfTurn,
-    BadTime,
-    BadValue,
-    ShortPayload,
-    QueueFull,
-    AllTaken,
-    ShortOutput,
-    BadClass,
-    TooManyMessages,
-    TooManyFrames,
+// Why a call is refused, by the papers' numbers: document 01's 1 to 10, and 11, 12 and 15 of document 02.
+#[derive(Clone, Copy, PartialEq, Eq)]
+pub enum Refusal {
+    ProfileOutOfRange = 1,
+    ShortOverLong = 2,
+    Unsound = 3,
+    OutOfTurn = 4,
+    BadTime = 5,
+    BadValue = 6,
+    ShortPayload = 7,
+    QueueFull = 8,
+    AllTaken = 9,
+    ShortOutput = 10,
+    BadClass = 11,
+    TooManyMessages = 12,
+    TooManyFrames = 15,
 }
 
 // Decoded frames of one reception at most.
@@ -37,25 +37,32 @@ pub enum Reply {
     Turn(Turn),
 }
 
-// The papers' number: 0 where the call is accepted.
-pub fn number(v: Verdict) -> u8
+impl From<Refusal> for u8 {
+    ghost from_gives = { λ r n. n ≡ refusal_number r };
+
+    fn from(refusal: Refusal) -> u8 {
+        refusal as u8
+    }
+}
+
+impl From<NoRoom> for Refusal {
+    ghost from_gives = { λ why r. r ≡ refusal_of why };
+
+    fn from(why: NoRoom) -> Refusal {
+        match why {
+            NoRoom::QueueFull => Refusal::QueueFull,
+            NoRoom::AllTaken => Refusal::AllTaken,
+        }
+    }
+}
+
+// The papers' number of what becomes of a call: 0 where it is accepted.
+pub fn number(v: Result<(), Refusal>) -> u8
     ensures { result ≡ number_of v }
 {
     match v {
-        Verdict::Accepted => 0,
-        Verdict::ProfileOutOfRange => 1,
-        Verdict::ShortOverLong => 2,
-        Verdict::Unsound => 3,
-        Verdict::OutOfTurn => 4,
-        Verdict::BadTime => 5,
-        Verdict::BadValue => 6,
-        Verdict::ShortPayload => 7,
-        Verdict::QueueFull => 8,
-        Verdict::AllTaken => 9,
-        Verdict::ShortOutput => 10,
-        Verdict::BadClass => 11,
-        Verdict::TooManyMessages => 12,
-        Verdict::TooManyFrames => 15,
+        Ok(()) => 0,
+        Err(refusal) => u8::from(refusal),
     }
 }
 
@@ -88,17 +95,5 @@ pub fn reply_ok(r: Reply) -> bool
             & ((c.bitmap <= 63) & (report_ok(c.snr_db) & (c.slot <= 2))),
         Reply::LongAck(_) => true,
         Reply::Turn(c) => !c.report.set | report_ok(c.report.db),
-    }
-}
-
-// Which reply it is.
-pub fn kind(r: Reply) -> u8
-    ensures { result ≡ kind_of r }
-{
-    match r {
-        Reply::ConnAck(_) => 0,
-        Reply::Ack(_) => 1,
-        Reply::LongAck(_) => 2,
-        Reply::Turn(_) => 3,
     }
 }

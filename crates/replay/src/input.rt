@@ -2,7 +2,7 @@
 use std::io;
 use std::io::Read;
 use words::Input;
-use words::taken::{MORE, stand, take};
+use words::taken::{Taken, stand, take};
 
 // More of the input, where all that was read is used.
 fn refill(input: &mut impl Read, chunk: &mut [u8], i: Input) -> io::Result<Input> {
@@ -25,15 +25,13 @@ pub(crate) fn next_line(
     line: &mut [u8],
     i: Input,
 ) -> io::Result<Input> {
-    let mut q = stand(i, i.at, 0, MORE);
-    let mut n: usize = 0;
-    while n < 65537 {
+    let mut q = stand(i, i.at, 0, Taken::More);
+    for _ in 0..65537 {
         q = refill(input, chunk, q)?;
         q = take(chunk, line, q);
-        if q.kind != MORE {
+        if q.kind != Taken::More {
             break;
         }
-        n += 1;
     }
     Ok(q)
 }

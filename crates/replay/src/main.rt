@@ -20,7 +20,7 @@ use sender::fresh;
 use std::io;
 use std::io::Read;
 use words::Input;
-use words::taken::{END, WHOLE};
+use words::taken::Taken;
 
 // What the other lines tell of the sender.
 fn told_of(x: State) -> Told {
@@ -55,7 +55,7 @@ fn no_input() -> Input {
         at: 0,
         end: 0,
         len: 0,
-        kind: WHOLE,
+        kind: Taken::Whole,
     }
 }
 
@@ -64,7 +64,7 @@ fn line_length(i: Input, line: &[u8]) -> usize
     ensures upper_bound { result ≤ length line.now }
     ensures value { result ≡ length (take result line.now) }
 {
-    if i.kind == WHOLE {
+    if i.kind == Taken::Whole {
         return least(i.len, line);
     }
     0
@@ -73,11 +73,11 @@ fn line_length(i: Input, line: &[u8]) -> usize
 // Room for the answer to the next line, if there is one; else the list has ended, or its line breaks the rules.
 fn ready(rt: &impl Print, x: State, i: Input, t: &[u8]) -> io::Result<Run> {
     let mut after = run_after(x);
-    if i.kind == WHOLE {
+    if i.kind == Taken::Whole {
         after.text = room(rt, t, after.text)?;
         return Ok(after);
     }
-    after.ok = i.kind == END;
+    after.ok = i.kind == Taken::End;
     Ok(after)
 }
 
@@ -151,7 +151,7 @@ fn run_after(x: State) -> Run {
 
 // Whether another line is to be read: the list has not ended, and no line broke the rules.
 fn goes_on(i: Input, x: State) -> bool {
-    (i.kind != END) & x.said.ok
+    (i.kind != Taken::End) & x.said.ok
 }
 
 fn before() -> State {
@@ -180,9 +180,7 @@ fn replay(
     let mut v = [0u64; 146];
     let mut i = no_input();
     let mut x = before();
-    let mut more = true;
-    let mut n: u64 = 0;
-    while more & (n < 18446744073709551615) {
+    for n in 0..u64::MAX {
         i = next_line(input, chunk, line, i)?;
         let run = ready(rt, x, i, t)?;
         let len = line_length(i, line);
@@ -200,10 +198,11 @@ fn replay(
             h,
             sent,
         );
-        more = goes_on(i, x);
-        n += 1;
+        if !goes_on(i, x) {
+            return finish(rt, x, n + 1, t);
+        }
     }
-    finish(rt, x, n, t)
+    finish(rt, x, u64::MAX, t)
 }
 
 fn main(rt: HostRuntime) -> io::Result<()> {

@@ -1,5 +1,6 @@
 -- The ConnAck, Ack and Turn arms of `sender_rx` and its frame loop (sender.rs; document 01, module 5), for replies that are not refused. Definitions only.
-use Rattle.std.specs.Prelude.{List, Bool, false, cond, ◌&&◌, ℕ, ◌+◌, ◌%◌, Float}
+use Rattle.std.specs.Prelude.{List, Bool, false, cond, ◌&&◌, ℕ, ◌+◌, ◌%◌, Float, is_some}
+use Rattle.report.specs.Ack.{report_of}
 use Rattle.report.specs.declared.ack.AckInfo.{AckInfo}
 use Rattle.config.specs.Durations.{ack_at}
 use Rattle.config.specs.declared.Profile.{Profile}
@@ -48,14 +49,14 @@ short_acked p h r s a =
 
 -- a long ack's dB: of its report, with eff_snr
 abbrev pub long_db : Profile → AckInfo → Float
-long_db p i = cond (i.reported && p.eff_snr) i.report.eff_snr_db i.snr_db
+long_db p i = cond (is_some i.report && p.eff_snr) (report_of i).eff_snr_db i.snr_db
 
 unfoldable pub long_acked : Profile → Heard → LongAck → AckInfo → Sender → List ℕ → Sender × List ℕ
 long_acked p h r i s a =
     let k = ack_noted s.link h.time r.want_turn r.want_disc i.burst in
     cond s.link.awaiting
     (counted_ack p h (ack_in p (long_ack i.burst i.bitmap) r.stored (long_db p i) h.time
-    (with_link (with_gear s (with_class s.gear i.report.class)) (with_path k i.report.slot i.report.doppler_hz)) a))
+    (with_link (with_gear s (with_class s.gear (report_of i).class)) (with_path k (report_of i).slot (report_of i).doppler_hz)) a))
     (with_link s k, a)
 
 -- ---- turn and connect answer

@@ -1,26 +1,18 @@
 // AckInfo of frame.rs: a long ack is read.
 ghost use Rattle.std.specs.Prelude.{◌≡◌, ◌≤◌, length};
-ghost use Rattle.report.specs.Ack.{no_report, ack_with, ack_of};
+ghost use Rattle.report.specs.Ack.{no_report, ack_with, ack_of, report_of};
 
 use crate::{ChanClass, ChanReport, snr_from_q};
-use byte_copy::{load32, load64};
+use byte_copy::Little;
 
-// A long ack. Where `reported` is false there is no report, and `report` stands for none.
+// A long ack.
 #[derive(Clone, Copy)]
 pub struct AckInfo {
     pub burst: u8,
     pub bitmap: u64,
     pub snr_db: f32,
     pub delivered: u32,
-    pub reported: bool,
-    pub report: ChanReport,
-}
-
-// What AckInfo::from_bytes answers.
-#[derive(Clone, Copy)]
-pub enum AckRead {
-    TooShort,
-    Info(AckInfo),
+    pub report: Option<ChanReport>,
 }
 
 // Stands where an ack has no report.
@@ -41,29 +33,36 @@ fn no_report() -> ChanReport
 
 impl AckInfo {
     // The first 13 bytes, with a report. The delivered offset, bytes 10 to 12, is the upper part of the four bytes from 9 on.
-    fn with(b: &[u8], reported: bool, report: ChanReport) -> AckInfo
+    fn with(b: &[u8], report: Option<ChanReport>) -> AckInfo
         requires { 13 ≤ length b.now }
-        ensures { result ≡ ack_with b.now reported report }
+        ensures { result ≡ ack_with b.now report }
     {
         AckInfo {
             burst: b[0] % 4,
-            bitmap: load64(b, 1),
+            bitmap: u64::load(b, 1),
             snr_db: snr_from_q(b[9]),
-            delivered: load32(b, 9) / 256,
-            reported,
+            delivered: u32::load(b, 9) / 256,
             report,
         }
     }
 
-    pub fn from_bytes(b: &[u8]) -> AckRead
+    // None under 13 bytes.
+    pub fn from_bytes(b: &[u8]) -> Option<AckInfo>
         ensures { result ≡ ack_of b.now }
     {
         if b.len() < 13 {
-            return AckRead::TooShort;
+            return None;
         }
         if b.len() < 17 {
-            return AckRead::Info(AckInfo::with(b, false, no_report()));
+            return Some(AckInfo::with(b, None));
         }
-        AckRead::Info(AckInfo::with(b, true, ChanReport::at(b, 13)))
+        Some(AckInfo::with(b, Some(ChanReport::at(b, 13))))
+    }
+
+    // The report, or what stands where there is none.
+    pub fn report_or_none(self) -> ChanReport
+        ensures { result ≡ report_of self }
+    {
+        self.report.unwrap_or(no_report())
     }
 }

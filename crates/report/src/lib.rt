@@ -1,8 +1,8 @@
 // report.rs: the channel class and the channel report of a long ack.
 #![tactic(auto)]
 
-ghost use Rattle.std.specs.Prelude.{◌≡◌, ◌+◌, ◌≤◌, ◌<◌, length};
-ghost use Rattle.report.specs.Report.{snr_from_q, bit, class_bits, class_from_bits, spread_of, slot_of, report_at};
+ghost use Rattle.std.specs.Prelude.{◌≡◌, ◌+◌, ◌≤◌, length};
+ghost use Rattle.report.specs.Report.{snr_from_q, class_bits, class_from_bits, spread_of, slot_of, report_at};
 
 pub mod ack;
 
@@ -26,17 +26,11 @@ pub struct ChanReport {
     pub slot: u8,
 }
 
-fn bit_of(b: bool) -> u8
-    ensures { (result ≡ bit b) × (result < 2) }
-{
-    if b { 1 } else { 0 }
-}
-
 impl ChanClass {
     pub fn bits(self) -> u8
         ensures { result ≡ class_bits self }
     {
-        bit_of(self.echo) + 2 * bit_of(self.doppler)
+        u8::from(self.echo) + 2 * u8::from(self.doppler)
     }
 
     pub fn from_bits(b: u8) -> ChanClass

@@ -4,12 +4,15 @@ use mathlib.Core.Bool.{Bool}
 use mathlib.Core.List.{List, [], ◌∷◌}
 use Prim.Native.Nat.{ℕ, ◌≤◌}
 use native.Mathlib.Omega.{arith}
-use lib.ListN.{length, take, replicate, length-take}
+use lib.ListN.{length, take, length-take}
 use Rattle.laws.specs.Bytes.{overwrite}
 use Rattle.run_lines.specs.declared.Run.{Run}
 use Rattle.run_lines.specs.declared.Told.{Told}
+use Rattle.std.specs.Prelude.{Option}
+use Rattle.call_lines.specs.declared.names.Call.{Call}
+use Rattle.run_lines.specs.declared.Todo.TheVariants.{Anew}
 use Rattle.run_lines.specs.RunLinesCode.{with_stage, with_file, with_todo, with_text}
-use Rattle.run_lines.specs.RunLines.{todo_anew, wrote_to, ended, profile_begun, zeros, loaded, file_taken, lent}
+use Rattle.run_lines.specs.RunLines.{wrote_to, ended, profile_begun, loaded, file_taken, lent}
 
 -- what there is no room for is left out
 pub over-cut : (l bs : List ℕ) → overwrite l 0 (take (length l) bs) ≡ overwrite l 0 bs
@@ -21,11 +24,6 @@ over-cut (x ∷ l) (b ∷ bs) = ap (λ (r : List ℕ). b ∷ r) (over-cut l bs)
 pub cut_fits : (l bs : List ℕ) → length (take (length l) bs) ≤ length l
 cut_fits l bs = simp length-take (omega arith)
 
-pub over_zeros : (l : List ℕ) → overwrite l 0 (replicate (length l) 0) ≡ zeros l
-unfolding overwrite
-over_zeros [] = refl
-over_zeros (x ∷ l) = ap (λ (r : List ℕ). 0 ∷ r) (over_zeros l)
-
 pub pair : {A B : Type 0} {x y : A} {z w : B} → x ≡ y → z ≡ w → ◌≡◌ {A = A × B} (x, z) (y, w)
 pair e f = ap₂ (λ x z. (x, z)) e f
 
@@ -33,7 +31,7 @@ pair e f = ap₂ (λ x z. (x, z)) e f
 
 -- `profile`
 abbrev beginning : Run → ℕ × List ℕ → Run × List ℕ
-beginning run u = (with_stage 0 (with_todo todo_anew (with_text u.0 run)), u.1)
+beginning run u = (with_stage 0 (with_todo Anew (with_text u.0 run)), u.1)
 
 pub begun-by : (run : Run) (s : Told) (t : List ℕ) {k : ℕ} {t₁ : List ℕ} → (k, t₁) ≡ ended run s t
     → beginning run (k, t₁) ≡ profile_begun run s t
@@ -42,7 +40,7 @@ begun-by run s t e = ap (beginning run) e
 
 -- a file of n bytes stands for the profile
 abbrev standing : ℕ → Run → List ℕ → ℕ × List ℕ → Run × (List ℕ × List ℕ)
-standing n r a u = (with_file n (with_todo todo_anew (with_text u.0 r)), (a, u.1))
+standing n r a u = (with_file n (with_todo Anew (with_text u.0 r)), (a, u.1))
 
 pub loaded-by : (n : ℕ) {r p : Run} {a₁ a t₁ : List ℕ} {k : ℕ} {u : ℕ × List ℕ} → r ≡ p → a₁ ≡ a → (k, t₁) ≡ u
     → standing n r a₁ (k, t₁) ≡ standing n p a u
@@ -57,10 +55,10 @@ pub refused-by : (run : Run) {k : ℕ} {area file t₁ : List ℕ} {u : ℕ × L
 refused-by run {k} {area} {file} e = ap (refused run area file) e
 
 -- `area` and `out`
-abbrev lending : ℕ → Run → ℕ → ℕ × List ℕ → Run × List ℕ
+abbrev lending : Option Call → Run → ℕ → ℕ × List ℕ → Run × List ℕ
 lending call run n u = (lent call (wrote_to run u.0) n, u.1)
 
-pub lent_by : (call : ℕ) (run : Run) (n : ℕ) {k : ℕ} {t₁ : List ℕ} {u : ℕ × List ℕ} → (k, t₁) ≡ u
+pub lent_by : (call : Option Call) (run : Run) (n : ℕ) {k : ℕ} {t₁ : List ℕ} {u : ℕ × List ℕ} → (k, t₁) ≡ u
     → lending call run n (k, t₁) ≡ lending call run n u
 lent_by call run n e = ap (lending call run n) e
 

@@ -1,11 +1,10 @@
 -- The run of a call list, and what its lines leave that ask neither the sender nor the box (docs/CALLS.md). Definitions only.
 -- `chars` are a line's characters, `s` is what is told of the sender, `area` the work area, `t` the transcript's buffer, of which
 -- `run.text` is used, `v` the numbers of the profile's lines, `file` the file that stands for them, `l` the line that is to ask.
-use Rattle.std.specs.Prelude.{Bool, true, false, cond, not, ◌&&◌, ◌||◌, List, ℕ, ◌+◌, ◌%◌, leb, ltb, eqb, length, get_or, take, replicate}
+use Rattle.std.specs.Prelude.{Bool, true, false, cond, not, ◌&&◌, ◌||◌, List, ℕ, ◌+◌, ◌%◌, leb, ltb, eqb, length, get_or, take, replicate, Option, Some, None, is_none}
 use Rattle.laws.specs.Bytes.{overwrite}
 use Rattle.laws.specs.Text.{text}
 use Rattle.text.specs.Buffer.{appended}
-use Rattle.words.specs.declared.Number.{Number}
 use Rattle.words.specs.declared.Read.{Read}
 use Rattle.words.specs.Words.{decimal_of}
 use Rattle.words.specs.Lines.{read_as, begun, is_done}
@@ -17,36 +16,42 @@ use Rattle.card.specs.Card.{read_of}
 use Rattle.call_lines.specs.CallLines.{hex_room}
 use Rattle.call_lines.specs.Names.{call_of}
 use Rattle.call_lines.specs.declared.names.Named.{Named}
+use Rattle.call_lines.specs.declared.names.Call.{Call}
+use Rattle.call_lines.specs.declared.names.Call.TheVariants as C
 use Rattle.look_lines.specs.Looks.{file_in, load_of}
 use Rattle.look_lines.specs.declared.LoadLine.{LoadLine}
 use Rattle.state_lines.specs.State.{end_line}
 use Rattle.transcript.specs.Answers.{answer_line, load_line}
 use Rattle.run_lines.specs.declared.Run.{Run}
 use Rattle.run_lines.specs.declared.Told.{Told}
+use Rattle.run_lines.specs.declared.Todo.{Todo}
+use Rattle.run_lines.specs.declared.Todo.TheVariants.{New, Done, Anew, Asks, Shows}
 use Rattle.run_lines.specs.RunLinesCode.{run_of, with_stage, with_file, with_ok, with_anew, with_todo, with_len, with_area, with_out}
 use Rattle.run_lines.specs.RunLinesCode.{with_text, with_last_number, with_size}
 
 -- ---- the run
 
--- what is to do about a line: it was not looked at
-abbrev pub todo_new : ℕ
-todo_new = 0
+-- a line was not looked at
+abbrev pub is_new : Todo → Bool
+is_new New = true
+is_new _ = false
 
--- it is done
-abbrev pub todo_done : ℕ
-todo_done = 1
+-- it is done, as is one that was not looked at: no call is to be made
+abbrev pub is_over : Todo → Bool
+is_over New = true
+is_over Done = true
+is_over Anew = true
+is_over _ = false
 
 -- it is done, and a fresh sender starts
-abbrev pub todo_anew : ℕ
-todo_anew = 2
-
--- it asks the sender
-abbrev pub todo_asks : ℕ
-todo_asks = 3
+abbrev pub starts_anew : Todo → Bool
+starts_anew Anew = true
+starts_anew _ = false
 
 -- it shows something
-abbrev pub todo_shows : ℕ
-todo_shows = 4
+abbrev pub shows : Todo → Bool
+shows Shows = true
+shows _ = false
 
 -- lines of a profile after its first
 abbrev pub profile_lines : ℕ
@@ -58,26 +63,26 @@ out_bytes = 32768
 
 -- before the first line: no profile was begun (its stage is past every line of one), and a fresh box starts
 abbrev pub none_yet : Run
-none_yet = run_of 1000 0 true true todo_done 0 0 0 0 0 0
+none_yet = run_of 1000 0 true true Done 0 0 0 0 0 0
 
 -- before a line: no box is to start any more, and the last burst's number is known
 abbrev pub looked_at : Run → ℕ → Run
-looked_at run number = with_anew false (with_last_number number (with_todo todo_new run))
+looked_at run number = with_anew false (with_last_number number (with_todo New run))
 
 -- after a line: whether it was right, and what is used of the transcript's buffer
 abbrev pub left_by : Run → Bool → ℕ → Run
-left_by run ok n = with_ok ok (with_text n (with_todo todo_done run))
+left_by run ok n = with_ok ok (with_text n (with_todo Done run))
 
 -- after a line that is right
 unfoldable pub wrote_to : Run → ℕ → Run
-wrote_to run n = with_text n (with_todo todo_done run)
+wrote_to run n = with_text n (with_todo Done run)
 
 -- after one that "breaks these rules"
 abbrev pub broken_run : Run → Run
-broken_run run = with_ok false (with_todo todo_done run)
+broken_run run = with_ok false (with_todo Done run)
 
 -- a line of n characters is to ask
-abbrev pub to_ask : Run → ℕ → ℕ → Run
+abbrev pub to_ask : Run → Todo → ℕ → Run
 to_ask run todo n = with_todo todo (with_len n run)
 
 -- ---- a line
@@ -100,7 +105,7 @@ is_load chars run = leb profile_lines run.stage && (begun chars (text "load")).o
 
 -- whether a line is the box's, or none that there is
 unfoldable pub is_box : List ℕ → Run → Bool
-is_box chars run = (is_call chars run && not (is_load chars run)) && eqb (call_of chars).call 0
+is_box chars run = (is_call chars run && not (is_load chars run)) && is_none (call_of chars).call
 
 -- ---- profiles
 
@@ -111,12 +116,12 @@ ended run s t = cond (eqb run.stage profile_lines) (appended (run.text, t) (end_
 
 -- `profile`: the sender before it ends, and a fresh one is there while the profile's lines follow
 unfoldable pub profile_begun : Run → Told → List ℕ → Run × List ℕ
-profile_begun run s t = let u : ℕ × List ℕ = ended run s t in (with_stage 0 (with_todo todo_anew (with_text u.0 run)), u.1)
+profile_begun run s t = let u : ℕ × List ℕ = ended run s t in (with_stage 0 (with_todo Anew (with_text u.0 run)), u.1)
 
 -- "`profile` starts a fresh sender, a work area of 65,536 zeros of which 49,152 are lent, and an output of 32,768 zeros, all lent":
 -- so it stands at the last of the profile's lines
 unfoldable pub started : Run → Run
-started run = with_stage profile_lines (with_file 0 (with_anew true (with_todo todo_done (with_area area_bytes (with_out out_bytes run)))))
+started run = with_stage profile_lines (with_file 0 (with_anew true (with_todo Done (with_area area_bytes (with_out out_bytes run)))))
 
 abbrev pub zeros : List ℕ → List ℕ
 zeros area = replicate (length area) 0
@@ -127,7 +132,7 @@ next_line chars run area v =
     let k : ℕ = run.stage in
     let w : List ℕ = (line_read chars (line_at k) v).1 in
     cond (line_ok chars (line_at k) v)
-    (cond (leb 32 k) (started run, (zeros area, w)) (with_stage (k + 1) (with_todo todo_anew run), (area, w)))
+    (cond (leb 32 k) (started run, (zeros area, w)) (with_stage (k + 1) (with_todo Anew run), (area, w)))
     (broken_run run, (area, w))
 
 -- with the buffer as it was, with work area and numbers as they were
@@ -140,7 +145,7 @@ area_kept area v (q, t) = (q, (area, (t, v)))
 -- a line of a profile, or one that begins it: run, work area, buffer and numbers
 unfoldable pub profile_part : List ℕ → Run → Told → List ℕ → List ℕ → List ℕ → Run × (List ℕ × (List ℕ × List ℕ))
 profile_part chars run s area t v =
-    cond (passed_over chars) (with_todo todo_done run, (area, (t, v)))
+    cond (passed_over chars) (with_todo Done run, (area, (t, v)))
     (cond (ltb run.stage profile_lines) (buffer_kept t (next_line chars run area v))
     (cond (is_profile chars) (area_kept area v (profile_begun run s t)) (broken_run run, (area, (t, v)))))
 
@@ -148,7 +153,7 @@ profile_part chars run s area t v =
 unfoldable pub loaded : Run → ℕ → Bool → List ℕ → List ℕ → Run × (List ℕ × List ℕ)
 loaded run n stretched area t =
     let u : ℕ × List ℕ = appended (run.text, t) (load_line stretched) in
-    (with_file n (with_todo todo_anew (with_text u.0 (started run))), (zeros area, u.1))
+    (with_file n (with_todo Anew (with_text u.0 (started run))), (zeros area, u.1))
 
 -- "where a sender was there before, its `end` line stands before"; the file is kept: run, work area, buffer and file
 unfoldable pub file_taken : Run → Told → List ℕ → Bool → List ℕ → List ℕ → List ℕ → Run × (List ℕ × (List ℕ × List ℕ))
@@ -174,27 +179,33 @@ profile_now run v file = cond (eqb run.file 0) (profile_of v) (read_of (take run
 -- ---- calls
 
 -- LENGTH:N, `most` at most
-unfoldable pub length_of : List ℕ → Read → ℕ → Number
+unfoldable pub length_of : List ℕ → Read → ℕ → Option ℕ
 length_of chars r most =
-    let q : Read = read_as decimal_of chars r in record { ok = is_done chars q && leb q.value most; value = q.value }
+    let q : Read = read_as decimal_of chars r in cond (is_done chars q && leb q.value most) (Some q.value) None
 
--- "`area` LENGTH:N, 65,536 at most", "`out` LENGTH:N, 32,768 at most"; by the call's number (Names.antt of `call_lines`)
-abbrev pub most_lent : ℕ → ℕ
-most_lent call = cond (eqb call 10) 65536 out_bytes
+-- "`area` LENGTH:N, 65,536 at most", "`out` LENGTH:N, 32,768 at most"
+abbrev pub most_lent : Option Call → ℕ
+most_lent (Some C.Area) = 65536
+most_lent _ = out_bytes
 
 -- "that much of the work area", or output, "is lent from here on"
-unfoldable pub lent : ℕ → Run → ℕ → Run
-lent call run n = cond (eqb call 10) (with_area n run) (with_out n run)
+unfoldable pub lent : Option Call → Run → ℕ → Run
+lent (Some C.Area) run n = with_area n run
+lent _ run n = with_out n run
 
 -- `area ok`, `out ok`
-unfoldable pub lent_text : ℕ → List ℕ
-lent_text call = cond (eqb call 10) (answer_line (text "area") 0) (answer_line (text "out") 0)
+unfoldable pub lent_text : Option Call → List ℕ
+lent_text (Some C.Area) = answer_line (text "area") 0
+lent_text _ = answer_line (text "out") 0
+
+-- what such a line leaves, where it is right
+abbrev pub lent_or_broken : Option Call → Option ℕ → Run → List ℕ → Run × List ℕ
+lent_or_broken call None run t = (broken_run run, t)
+lent_or_broken call (Some n) run t =
+    let u : ℕ × List ℕ = appended (run.text, t) (lent_text call) in (lent call (wrote_to run u.0) n, u.1)
 
 unfoldable pub lends : Named → List ℕ → Run → List ℕ → Run × List ℕ
-lends n chars run t =
-    let a : Number = length_of chars n.read (most_lent n.call) in
-    let u : ℕ × List ℕ = appended (run.text, t) (lent_text n.call) in
-    cond a.ok (lent n.call (wrote_to run u.0) a.value, u.1) (broken_run run, t)
+lends n chars run t = lent_or_broken n.call (length_of chars n.read (most_lent n.call)) run t
 
 -- the size of a frame: `frame_bytes` short, up to level 4, or long
 unfoldable pub size_at : ℕ → ℕ → ℕ → ℕ
@@ -204,15 +215,23 @@ unfoldable pub size_now : Run → ℕ → List ℕ → List ℕ → ℕ
 size_now run level v file = let p : Profile = profile_now run v file in size_at level p.short_bytes p.long_bytes
 
 -- of the last burst: `burst` sets it
-unfoldable pub size_after : ℕ → Run → ℕ → List ℕ → List ℕ → ℕ
-size_after call run level v file = cond (eqb call 6) (size_now run level v file) run.size
+unfoldable pub size_after : Option Call → Run → ℕ → List ℕ → List ℕ → ℕ
+size_after (Some C.Burst) run level v file = size_now run level v file
+size_after _ run level v file = run.size
 
--- what a call is to do: `connect` to `piece` and `frames` ask the sender
-unfoldable pub todo_of : ℕ → ℕ
-todo_of call = cond (leb call 7 || eqb call 15) todo_asks todo_shows
+-- what a call is to do: `connect` to `piece` and `frames` ask the sender, as does a line of no call
+unfoldable pub todo_of : Option Call → Todo
+todo_of (Some C.Log) = Shows
+todo_of (Some C.State) = Shows
+todo_of (Some C.Area) = Shows
+todo_of (Some C.Out) = Shows
+todo_of (Some C.Levels) = Shows
+todo_of (Some C.Messages) = Shows
+todo_of (Some C.Card) = Shows
+todo_of _ = Asks
 
 -- a line that asks or shows: it stands in `l`
-unfoldable pub asks : ℕ → List ℕ → Run → List ℕ → Run × List ℕ
+unfoldable pub asks : Option Call → List ℕ → Run → List ℕ → Run × List ℕ
 asks call chars run l = (to_ask run (todo_of call) (length (take (length l) chars)), overwrite l 0 chars)
 
 -- with that line as it was; with a size, and the buffer as it was
@@ -222,10 +241,16 @@ line_kept l (q, t) = (q, (t, l))
 abbrev pub sized : ℕ → List ℕ → Run × List ℕ → Run × (List ℕ × List ℕ)
 sized size t (q, l) = (with_size size q, (t, l))
 
+-- `area` and `out` lend
+abbrev pub lends_some : Option Call → Bool
+lends_some (Some C.Area) = true
+lends_some (Some C.Out) = true
+lends_some _ = false
+
 -- a call: run, buffer and the line that is to ask
 unfoldable pub called : Named → List ℕ → Run → ℕ → List ℕ → List ℕ → List ℕ → List ℕ → Run × (List ℕ × List ℕ)
 called n chars run level t v file l =
-    cond (eqb n.call 10 || eqb n.call 11) (line_kept l (lends n chars run t))
+    cond (lends_some n.call) (line_kept l (lends n chars run t))
     (sized (size_after n.call run level v file) t (asks n.call chars run l))
 
 -- ---- any line but the box's: run, work area, buffer, numbers, file and the line that is to ask
@@ -246,7 +271,7 @@ after_part file l (q, (area, (t, v))) = (q, (area, (t, (v, (file, l)))))
 -- one that was looked at is left alone
 unfoldable pub quiet_line : List ℕ → Run → Told → List ℕ → List ℕ → List ℕ → List ℕ → List ℕ → RunLeft
 quiet_line chars run s area t v file l =
-    cond (not (eqb run.todo todo_new)) (run, (area, (t, (v, (file, l)))))
+    cond (not (is_new run.todo)) (run, (area, (t, (v, (file, l)))))
     (cond (is_load chars run) (after_load v l (loads chars run s area t v file))
     (cond (is_call chars run) (after_call area v file (called (call_of chars) chars run s.level t v file l))
     (after_part file l (profile_part chars run s area t v))))

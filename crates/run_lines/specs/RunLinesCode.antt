@@ -1,8 +1,9 @@
 -- A run with some of its fields set: what follows the code or serves proofs; nothing here has to be believed.
 use Rattle.std.specs.Prelude.{Bool, ℕ}
 use Rattle.run_lines.specs.declared.Run.{Run}
+use Rattle.run_lines.specs.declared.Todo.{Todo}
 
-abbrev pub run_of : ℕ → ℕ → Bool → Bool → ℕ → ℕ → ℕ → ℕ → ℕ → ℕ → ℕ → Run
+abbrev pub run_of : ℕ → ℕ → Bool → Bool → Todo → ℕ → ℕ → ℕ → ℕ → ℕ → ℕ → Run
 run_of stage file ok anew todo len area out text number size =
     record {
       stage = stage;
@@ -34,7 +35,7 @@ abbrev pub with_anew : Bool → Run → Run
 with_anew x r =
     run_of r.stage r.file r.ok x r.todo r.len r.area r.out r.text r.number r.size
 
-abbrev pub with_todo : ℕ → Run → Run
+abbrev pub with_todo : Todo → Run → Run
 with_todo x r =
     run_of r.stage r.file r.ok r.anew x r.len r.area r.out r.text r.number r.size
 

@@ -12,32 +12,31 @@ ghost use Rattle.run_lines.specs.RunLinesCode.{with_todo};
 ghost use Rattle.run_lines.specs.RunLines.{none_yet, looked_at, left_by, wrote_to, broken_run, to_ask, passed_over, is_call, is_load, is_box};
 ghost use Rattle.run_lines.specs.RunLines.{ended, profile_begun, started, zeros, next_line, profile_part, loaded, file_taken, loads};
 ghost use Rattle.run_lines.specs.RunLines.{profile_now, length_of, most_lent, lent, lent_text, lends, size_at, size_now, size_after};
-ghost use Rattle.run_lines.specs.RunLines.{todo_of, asks, called, quiet_line};
+ghost use Rattle.run_lines.specs.RunLines.{todo_of, asks, lends_some, called, quiet_line};
 
-use byte_copy::{copy_in, fill, least};
-use call_lines::names::{AREA, BURST, FRAMES, NO_CALL, Named, OUT, PIECE, call_of};
+use byte_copy::{copy_in, least};
+use call_lines::names::{Call, Named, call_of};
 use config::Profile;
 use limits::AREA_BYTES;
 use look_lines::LoadLine;
 use profile_table::listed::profile_line;
 use profile_table::{LINES, profile_of};
 use record::Counts;
-use words::{Number, Read, done, whole, word};
+use words::{Read, done, whole, word};
 
 // No whole profile was read yet: `stage` is past every stage.
 const NO_PROFILE: usize = 1000;
 
 // What is to do about a line: it was not looked at; it is done; it is done, and a fresh sender starts; it asks the sender; it shows
 // something.
-pub const NEW: u8 = 0;
-
-pub const DONE: u8 = 1;
-
-pub const ANEW: u8 = 2;
-
-pub const ASKS: u8 = 3;
-
-pub const SHOWS: u8 = 4;
+#[derive(Clone, Copy, PartialEq, Eq)]
+pub enum Todo {
+    New,
+    Done,
+    Anew,
+    Asks,
+    Shows,
+}
 
 // `stage` counts the profile's lines read, `file` the bytes of the file that stands for them, 0 where none does; `ok` is false after a
 // line that breaks the rules; `anew`: a fresh box starts with the next line; `todo` as above, and the characters of the line that is to
@@ -49,7 +48,7 @@ pub struct Run {
     pub file: usize,
     pub ok: bool,
     pub anew: bool,
-    pub todo: u8,
+    pub todo: Todo,
     pub len: usize,
     pub area: usize,
     pub out: usize,
@@ -77,7 +76,7 @@ pub fn none_yet() -> Run
         file: 0,
         ok: true,
         anew: true,
-        todo: DONE,
+        todo: Todo::Done,
         len: 0,
         area: 0,
         out: 0,
@@ -87,7 +86,7 @@ pub fn none_yet() -> Run
     }
 }
 
-fn with_todo(mut run: Run, todo: u8) -> Run
+fn with_todo(mut run: Run, todo: Todo) -> Run
     ensures { result ≡ with_todo todo run }
 {
     run.todo = todo;
@@ -98,7 +97,7 @@ fn with_text(mut run: Run, n: usize) -> Run
     ensures { result ≡ wrote_to run n }
 {
     run.text = n;
-    run.todo = DONE;
+    run.todo = Todo::Done;
     run
 }
 
@@ -106,7 +105,7 @@ fn failed(mut run: Run) -> Run
     ensures { result ≡ broken_run run }
 {
     run.ok = false;
-    run.todo = DONE;
+    run.todo = Todo::Done;
     run
 }
 
@@ -116,12 +115,12 @@ pub fn left(mut run: Run, ok: bool, n: usize) -> Run
 {
     run.ok = ok;
     run.text = n;
-    run.todo = DONE;
+    run.todo = Todo::Done;
     run
 }
 
 // A line of so many characters is to ask.
-pub fn to_ask(mut run: Run, todo: u8, n: usize) -> Run
+pub fn to_ask(mut run: Run, todo: Todo, n: usize) -> Run
     ensures { result ≡ to_ask run todo n }
 {
     run.todo = todo;
@@ -138,13 +137,14 @@ const OUT_BYTES: usize = 32768;
 const HEX_BYTES: usize = 32768;
 
 // A remark, or an empty line.
+#[tactic(auto, unfolding(crate::specs::RunLines::passed_over))]
 fn passed_over(line: &[u8]) -> bool
     ensures { result ≡ passed_over line.now }
 {
-    if line.len() == 0 {
+    if line.is_empty() {
         return true;
     }
-    line[0] == 35
+    line[0] == b'#'
 }
 
 // Whether a line is a call, which stands after a whole profile.
@@ -169,7 +169,7 @@ fn is_load(line: &[u8], run: Run) -> bool
 fn clear(a: &mut [u8])
     ensures { a.new ≡ zeros a.old }
 {
-    fill(a, 0, a.len(), 0);
+    a.fill(0);
 }
 
 // The sender before ends, where there was one: what is used of the transcript then.
@@ -189,7 +189,7 @@ fn begin(run: Run, s: Told, t: &mut [u8]) -> Run
     let mut after = run;
     after.text = ended(run, s, t);
     after.stage = 0;
-    after.todo = ANEW;
+    after.todo = Todo::Anew;
     after
 }
 
@@ -203,7 +203,7 @@ fn start(run: Run, area: &mut [u8]) -> Run
     after.stage = LINES;
     after.file = 0;
     after.anew = true;
-    after.todo = DONE;
+    after.todo = Todo::Done;
     after.area = AREA_BYTES;
     after.out = OUT_BYTES;
     after
@@ -222,7 +222,7 @@ fn profile_step(line: &[u8], run: Run, area: &mut [u8], v: &mut [u64; 146]) -> R
     }
     let mut after = run;
     after.stage = k + 1;
-    after.todo = ANEW;
+    after.todo = Todo::Anew;
     after
 }
 
@@ -239,7 +239,7 @@ fn profile_part(
         ≡ profile_part line.now run s area.old t.old v.old }
 {
     if passed_over(line) {
-        return with_todo(run, DONE);
+        return with_todo(run, Todo::Done);
     }
     if run.stage < LINES {
         return profile_step(line, run, area, v);
@@ -265,7 +265,7 @@ fn loaded(run: Run, n: usize, stretched: bool, area: &mut [u8], t: &mut [u8]) ->
 {
     let mut after = start(run, area);
     after.file = n;
-    after.todo = ANEW;
+    after.todo = Todo::Anew;
     after.text = transcript::loaded(t, run.text, stretched);
     after
 }
@@ -323,56 +323,57 @@ fn load(
 
 // ---- calls
 
-// A length, at most `most`, and whether the line was right.
-fn length(line: &[u8], r: Read, most: u64) -> Number
+// A length, at most `most`; none where the line is not right.
+#[tactic(auto, unfolding(crate::specs::RunLines::length_of))]
+fn length(line: &[u8], r: Read, most: u64) -> Option<u64>
     ensures { result ≡ length_of line.now r most }
 {
     let q = whole(line, r);
-    Number {
-        ok: done(line, q) & (q.value <= most),
-        value: q.value,
+    if done(line, q) & (q.value <= most) {
+        return Some(q.value);
     }
+    None
 }
 
 // So much of the work area, or of the output, is lent from here on.
-fn lent(call: u8, mut run: Run, n: usize) -> Run
+#[tactic(auto, unfolding(crate::specs::RunLines::lent))]
+fn lent(call: Option<Call>, mut run: Run, n: usize) -> Run
     ensures { result ≡ lent call run n }
 {
-    if call == AREA {
-        run.area = n;
-        return run;
+    match call {
+        Some(Call::Area) => run.area = n,
+        _ => run.out = n,
     }
-    run.out = n;
     run
 }
 
-fn lent_text(call: u8, t: &mut [u8], n: usize) -> usize
+#[tactic(auto, unfolding(crate::specs::RunLines::lent_text))]
+fn lent_text(call: Option<Call>, t: &mut [u8], n: usize) -> usize
     ensures { (result, t.new) ≡ appended (n, t.old) (lent_text call) }
 {
-    if call == AREA {
-        return transcript::answer(t, n, b"area", 0);
+    match call {
+        Some(Call::Area) => transcript::answer(t, n, b"area", 0),
+        _ => transcript::answer(t, n, b"out", 0),
     }
-    transcript::answer(t, n, b"out", 0)
 }
 
+#[tactic(auto, unfolding(crate::specs::RunLines::lends))]
 fn lend(n: Named, line: &[u8], run: Run, t: &mut [u8]) -> Run
     ensures { (result, t.new) ≡ lends n line.now run t.old }
 {
-    let a = length(line, n.read, most_lent(n.call));
-    if !a.ok {
+    let Some(len) = length(line, n.read, most_lent(n.call)) else {
         return failed(run);
-    }
+    };
     let text = lent_text(n.call, t, run.text);
-    lent(n.call, with_text(run, text), a.value as usize)
+    lent(n.call, with_text(run, text), len as usize)
 }
 
-fn most_lent(call: u8) -> u64
+fn most_lent(call: Option<Call>) -> u64
     ensures { result ≡ most_lent call }
 {
-    if call == AREA {
-        65536
-    } else {
-        OUT_BYTES as u64
+    match call {
+        Some(Call::Area) => 65536,
+        _ => OUT_BYTES as u64,
     }
 }
 
@@ -395,27 +396,37 @@ fn size_now(run: Run, level: usize, v: &[u64; 146], file: &[u8]) -> u16
 }
 
 // The size of the last burst's frames after a call.
-fn size_after(call: u8, run: Run, level: usize, v: &[u64; 146], file: &[u8]) -> u16
+#[tactic(auto, unfolding(crate::specs::RunLines::size_after))]
+fn size_after(call: Option<Call>, run: Run, level: usize, v: &[u64; 146], file: &[u8]) -> u16
     ensures { result ≡ size_after call run level v.now file.now }
 {
-    if call == BURST {
-        return size_now(run, level, v, file);
+    match call {
+        Some(Call::Burst) => size_now(run, level, v, file),
+        _ => run.size,
     }
-    run.size
 }
 
-// What a call is to do.
-fn todo_of(call: u8) -> u8
+// What a call is to do: a queuing, a reply, a burst and the question for a piece ask the sender, and so does a line of no call.
+#[tactic(auto, unfolding(crate::specs::RunLines::todo_of))]
+fn todo_of(call: Option<Call>) -> Todo
     ensures { result ≡ todo_of call }
 {
-    if (call <= PIECE) | (call == FRAMES) {
-        return ASKS;
+    match call {
+        Some(
+            Call::Log
+            | Call::State
+            | Call::Area
+            | Call::Out
+            | Call::Levels
+            | Call::Messages
+            | Call::Card,
+        ) => Todo::Shows,
+        _ => Todo::Asks,
     }
-    SHOWS
 }
 
 // A line that asks or shows: it stands in `l`.
-fn asks(call: u8, line: &[u8], run: Run, l: &mut [u8]) -> Run
+fn asks(call: Option<Call>, line: &[u8], run: Run, l: &mut [u8]) -> Run
     ensures { (result, l.new) ≡ asks call line.now run l.old }
 {
     let n = least(l.len(), line);
@@ -423,7 +434,15 @@ fn asks(call: u8, line: &[u8], run: Run, l: &mut [u8]) -> Run
     to_ask(run, todo_of(call), n)
 }
 
+// Whether a call lends some of the work area or of the output.
+fn lends_some(call: Option<Call>) -> bool
+    ensures { result ≡ lends_some call }
+{
+    matches!(call, Some(Call::Area | Call::Out))
+}
+
 // A call.
+#[tactic(auto, unfolding(crate::specs::RunLines::called))]
 fn called(
     n: Named,
     line: &[u8],
@@ -437,7 +456,7 @@ fn called(
     ensures { (result, (t.new, l.new))
         ≡ called n line.now run level t.old v.now file.now l.old }
 {
-    if (n.call == AREA) | (n.call == OUT) {
+    if lends_some(n.call) {
         return lend(n, line, run, t);
     }
     let mut after = asks(n.call, line, run, l);
@@ -446,6 +465,7 @@ fn called(
 }
 
 // A line, where it is not the box's.
+#[tactic(auto, unfolding(crate::specs::RunLines::quiet_line))]
 pub fn quiet(
     line: &[u8],
     run: Run,
@@ -460,7 +480,7 @@ pub fn quiet(
         ≡ quiet_line line.now run s area.old t.old v.old file.old
         l.old }
 {
-    if run.todo != NEW {
+    if run.todo != Todo::New {
         return run;
     }
     if is_load(line, run) {
@@ -491,14 +511,15 @@ pub fn looked_at(mut run: Run, number: u8) -> Run
 {
     run.anew = false;
     run.number = number;
-    run.todo = NEW;
+    run.todo = Todo::New;
     run
 }
 
 // Whether a line is the box's, or none that there is.
+#[tactic(auto, unfolding(crate::specs::RunLines::is_box))]
 pub fn is_box(line: &[u8], run: Run) -> bool
     ensures { result ≡ is_box line.now run }
 {
     let n = call_of(line);
-    is_call(line, run) & !is_load(line, run) & (n.call == NO_CALL)
+    is_call(line, run) & !is_load(line, run) & n.call.is_none()
 }

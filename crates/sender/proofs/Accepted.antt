@@ -2,7 +2,7 @@
 -- Assumes nothing.
 use mathlib.Core.Path.{◌≡◌, refl, sym, ap, ap₂, ◌∙◌}
 use mathlib.Core.List.{List, []}
-use mathlib.Core.Bool.{true, false}
+use mathlib.Core.Bool.{true, false, cond}
 use Prim.Native.Nat.{ℕ, ◌≤◌}
 use native.Mathlib.Omega.{arith}
 use lib.Dec.{leb, eqb}
@@ -26,18 +26,20 @@ use Rattle.replies.specs.declared.Heard.{Heard}
 use Rattle.replies.specs.declared.ConnAck.{ConnAck}
 use Rattle.replies.specs.declared.Ack.{Ack}
 use Rattle.replies.specs.declared.Turn.{Turn}
-use Rattle.refusals.specs.declared.Verdict.{Verdict}
+use Rattle.std.specs.Prelude.{Result, Ok, Err}
+use Rattle.refusals.specs.declared.Refusal.{Refusal}
+use Rattle.refusals.specs.Verdict.{Verdict}
 use Rattle.refusals.specs.declared.Reply.{Reply}
 use Rattle.refusals.specs.declared.Reply.TheVariants as R
 use Rattle.refusals.specs.Refusals.{kind_of, max_received, heard_ok}
 use Rattle.verdicts.specs.Verdicts.{passed, standing, reply_verdict, queue_verdict, receive_verdict, frames_verdict}
+use Rattle.receive.specs.Accepted.{accepted_reply}
 use Rattle.reception.specs.Reception.{decoded_in, frames_heard}
 use Rattle.reception.specs.declared.Reception.{Reception}
-use Rattle.sender.specs.CallsCode.{verdict_after, judged_reply}
+use Rattle.sender.specs.CallsCode.{verdict_after, settled, judged_reply}
 use Rattle.sender.specs.Numbered.{answer_number, after_reply}
-use Rattle.sender.specs.declared.LeftSender.{LeftSender}
 use Rattle.sender.specs.Calls.{Answer, Finding, queue_of, receive_of, frames_of, find_of, piece_of}
-use Rattle.verdicts.proofs.Passed.{queue-passed, queue-room, receive-three, reply-passed, frames-passed}
+use Rattle.verdicts.proofs.Passed.{numbered, queue-passed, queue-room, receive-three, reply-passed, frames-passed}
 use Rattle.area.specs.FindCode.{bytes_at}
 use Rattle.replies.specs.RepliesCode.{ReplyReady}
 
@@ -95,13 +97,17 @@ module _ (p : Profile) (t : Station) (a : List ℕ) where
   receive-refused h r payload v e d = cond_no _ _ _ _ d (ap (λ (u : Verdict). answer u (t, a)) e)
 
   -- in two steps
-  pub judged-reply : (h : Heard) (r : Reply) (payload : List ℕ) (v : Verdict) (x : LeftSender × List ℕ) → v ≡ standing p t a (eqb (kind_of r) 0)
+  judged-settled : (w : Verdict) (x : Sender × List ℕ) → let y = settled w x a in
+      (after_reply t y.0, y.1) ≡ answer_number (cond (passed w) (answer w (with_sender t x.0, x.1)) (answer w (t, a)))
+  judged-settled (Ok o) x = refl
+  judged-settled (Err r) x = ap answer_number (cond_no _ _ _ _ (numbered r) refl)
+
+  pub judged-reply : (h : Heard) (r : Reply) (payload : List ℕ) (v : Verdict) (x : Result Sender Refusal × List ℕ) → v ≡ standing p t a (eqb (kind_of r) 0)
       → x ≡ judged_reply v p s a h r payload → (after_reply t x.0, x.1) ≡ answer_number (receive_of p t a h r payload)
   unfolding receive_of judged_reply receive_verdict
   judged-reply h r payload v x e d =
-      ap (λ (y : LeftSender × List ℕ). (after_reply t y.0, y.1)) (d ∙ ap (λ (u : Verdict). judged_reply u p s a h r payload) e)
-      ∙ by₂ (λ (y : LeftSender × List ℕ) (z : Answer × List ℕ). (after_reply t y.0, y.1) ≡ answer_number z)
-      (passed (receive_verdict p t a h r (length payload))) (λ b. refl) (λ b. refl)
+      ap (λ (y : Result Sender Refusal × List ℕ). (after_reply t y.0, y.1)) (d ∙ ap (λ (u : Verdict). judged_reply u p s a h r payload) e)
+      ∙ judged-settled (receive_verdict p t a h r (length payload)) (accepted_reply p h r payload s a)
 
   -- a payload is read of a long ack alone
   module _ (h : Heard) (payload : List ℕ) where

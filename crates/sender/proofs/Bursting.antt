@@ -11,7 +11,7 @@ use Rattle.config.specs.declared.Profile.{Profile}
 use Rattle.outgoing.specs.Outgoing.{burst_of}
 use Rattle.outgoing.specs.declared.Outgoing.{Outgoing}
 use Rattle.record.specs.declared.Sender.{Sender}
-use Rattle.refusals.specs.declared.Verdict.{Verdict}
+use Rattle.refusals.specs.Verdict.{Verdict}
 use Rattle.verdicts.specs.Verdicts.{passed, burst_verdict}
 use Rattle.messages.specs.declared.Messages.{Messages}
 use Rattle.messages.specs.MessagesCode.{flown}

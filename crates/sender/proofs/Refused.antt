@@ -7,13 +7,13 @@ use Prim.Native.Nat.{ℕ, ◌+◌, ◌≤◌}
 use native.Mathlib.Omega.{arith}
 use lib.Ieee.{Float}
 use lib.ListN.{length, drop, length-append, length-map}
+use Rattle.std.proofs.Common.{Option, Some, None}
 use Rattle.laws.specs.Bytes.{overwrite}
 use Rattle.laws.proofs.Bytes.{drop-over, length_part}
 use Rattle.laws.proofs.Picks.{by, either}
 use Rattle.harq.specs.Held.{h_max}
 use Rattle.report.specs.Ack.{ack_of}
-use Rattle.report.specs.declared.ack.AckRead.{AckRead}
-use Rattle.report.specs.declared.ack.AckRead.TheVariants.{TooShort, Info}
+use Rattle.report.specs.declared.ack.AckInfo.{AckInfo}
 use Rattle.config.specs.declared.Profile.{Profile}
 use Rattle.config.specs.Ranges.{in_range, in_order}
 use Rattle.config.proofs.ranges.Ranged.{ranged}
@@ -148,10 +148,10 @@ module _ (p : Profile) (s : Sender) (a : List ℕ) (ar : Arrays s) (one : in_ran
   abbrev Past : Sender × List ℕ → Type 0
   Past x = drop area_bytes x.1 ≡ drop area_bytes a
 
-  long-past : (h : Heard) (r : A.LongAck) (i : AckRead) → Past (long_read p h r i s a)
+  long-past : (h : Heard) (r : A.LongAck) (i : Option AckInfo) → Past (long_read p h r i s a)
   unfolding long_acked view
-  long-past h r TooShort = refl
-  long-past h r (Info i) = either Past s.link.awaiting _ _ (ack-past _ _ _ _ _ refl) refl
+  long-past h r None = refl
+  long-past h r (Some i) = either Past s.link.awaiting _ _ (ack-past _ _ _ _ _ refl) refl
 
   -- the first frame that is read may settle; after it the work area stays
   frames-past : (h : Heard) (fs : List Decoded) → Past (frames_heard p h fs (s, a))

@@ -9,8 +9,8 @@ use Rattle.record.specs.View.{view, store, store_area}
 use Rattle.record.specs.declared.Sender.{Sender}
 use Rattle.soundness.specs.Soundness.{sound_ok}
 use Rattle.replies.specs.declared.Heard.{Heard}
-use Rattle.refusals.specs.declared.Verdict.{Verdict}
-use Rattle.refusals.specs.declared.Verdict.TheVariants.{Accepted, ProfileOutOfRange, ShortOverLong, Unsound, OutOfTurn, QueueFull, AllTaken}
+use Rattle.refusals.specs.Verdict.{Verdict}
+use Rattle.refusals.specs.Verdict.{Accepted, ProfileOutOfRange, ShortOverLong, Unsound, OutOfTurn, QueueFull, AllTaken}
 use Rattle.refusals.specs.declared.Reply.{Reply}
 use Rattle.refusals.specs.Refusals.{kind_of}
 use Rattle.verdicts.specs.Verdicts.{passed, first_of, reply_verdict, hearing_verdict, frames_standing, output_verdict}

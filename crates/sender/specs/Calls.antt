@@ -19,7 +19,7 @@ use Rattle.reception.specs.Reception.{decoded_in, frames_heard}
 use Rattle.reception.specs.declared.Reception.{Reception}
 use Rattle.outgoing.specs.Outgoing.{burst_of}
 use Rattle.outgoing.specs.declared.Outgoing.{Outgoing}
-use Rattle.refusals.specs.declared.Verdict.{Verdict}
+use Rattle.refusals.specs.Verdict.{Verdict}
 use Rattle.verdicts.specs.Verdicts.{passed, standing, queue_verdict, receive_verdict, frames_verdict, burst_verdict}
 use Rattle.limits.specs.Limits.{max_slots}
 

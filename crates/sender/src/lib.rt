@@ -1,5 +1,5 @@
-// The station's calls (sender.rs; the queue of messages: document 02, Changes 1 and 6), by value, with the papers' refusals by number. No call
-// requires anything.
+// The station's calls (sender.rs; the queue of messages: document 02, Changes 1 and 6), by value: what a call leaves, or the papers'
+// refusal. No call requires anything.
 #![tactic(auto)]
 
 ghost use Rattle.std.specs.Prelude.{◌≡◌, [], true, ◌≤◌, length};
@@ -16,11 +16,11 @@ use config::Profile;
 use limits::MAX_SLOTS;
 use messages::{Messages, fly};
 use outgoing::{Frames, Outgoing};
-use queuing::{Station, enqueue};
+use queuing::{Station, Waiting, enqueue};
 use receive::accepted::answer;
 use reception::{Reception, hear_frames};
 use record::Sender;
-use refusals::{Reply, Verdict, number};
+use refusals::{Refusal, Reply, number};
 use replies::{Ack, ConnAck, Heard, LongAck, Turn};
 use verdicts::{burst_verdict, frames_verdict, queue_verdict, receive_verdict, standing};
 
@@ -32,29 +32,15 @@ pub struct Message {
     pub label: u16,
 }
 
-// A refusal's number, 0 where the call is accepted, and the next record.
+// What a call leaves for a caller that reads numbers: a refusal's number, 0 where the call is accepted, and the next record.
+// kept: the number is what the C interface and the lists of calls read.
 #[derive(Clone, Copy)]
 pub struct Left {
     pub refusal: u8,
     pub next: Station,
 }
 
-// The same of a reply, without the messages, which stay.
-#[derive(Clone, Copy)]
-pub struct LeftSender {
-    pub sender: Sender,
-    pub refusal: u8,
-}
-
-// The same of a queuing, which leaves the rest of the record alone: the messages, and how many bytes wait.
-#[derive(Clone, Copy)]
-pub struct LeftQueue {
-    pub messages: Messages,
-    pub waiting: u32,
-    pub refusal: u8,
-}
-
-// A refusal's number, 0 where the burst is made, and the burst.
+// A refusal's number, 0 where the burst is made, and the burst. kept: C interface.
 #[repr(C)]
 #[derive(Clone, Copy)]
 pub struct Burst {
@@ -62,13 +48,14 @@ pub struct Burst {
     pub outgoing: Outgoing,
 }
 
+// What a burst leaves. kept: the answer is the struct of the C interface.
 #[derive(Clone, Copy)]
 pub struct LeftBurst {
     pub burst: Burst,
     pub next: Station,
 }
 
-// A refusal's number; whether there is a piece, and where its bytes lie in the work area.
+// A refusal's number; whether there is a piece, and where its bytes lie in the work area. kept: C interface.
 #[repr(C)]
 #[derive(Clone, Copy)]
 pub struct Place {
@@ -84,78 +71,87 @@ pub fn fresh() -> Station
     queuing::fresh()
 }
 
-// Bytes to send, as one message of this class and label: the waiting ones with its label that have not begun are withdrawn.
-pub fn queue(p: Profile, t: Station, a: &mut [u8], m: Message, bytes: &[u8]) -> LeftQueue
+// Bytes to send, as one message of this class and label: the waiting ones with its label that have not begun are withdrawn. The rest of the
+// record stays.
+pub fn queue(
+    p: Profile,
+    t: Station,
+    a: &mut [u8],
+    m: Message,
+    bytes: &[u8],
+) -> Result<Waiting, Refusal>
     ensures { (after_queue t result, a.new) ≡ answer_number (queue_of p t a.old m.class m.label bytes.now) }
 {
     let c = t.sender.counts;
     let v = standing(p, t, a, false);
-    let refusal = number(queue_verdict(v, c, t.messages, m.class, m.label, bytes.len()));
-    if refusal != 0 {
-        let messages = t.messages;
-        return LeftQueue {
-            refusal,
-            messages,
-            waiting: c.waiting,
-        };
-    }
+    queue_verdict(v, c, t.messages, m.class, m.label, bytes.len())?;
     let w = enqueue(t.messages, c.flying, c.waiting, a, m.class, m.label, bytes);
-    let messages = w.messages;
-    LeftQueue {
-        refusal,
-        messages,
-        waiting: w.waiting,
-    }
+    Ok(w)
 }
 
 // The record after a queuing.
-pub fn queued(t: Station, q: LeftQueue) -> Left
+pub fn queued(t: Station, q: Result<Waiting, Refusal>) -> Left
     ensures { result ≡ after_queue t q }
 {
-    let messages = q.messages;
-    let mut next = t;
-    next.messages = messages;
-    next.sender.counts.waiting = q.waiting;
-    Left {
-        refusal: q.refusal,
-        next,
+    match q {
+        Ok(w) => {
+            let messages = w.messages;
+            let mut next = t;
+            next.messages = messages;
+            next.sender.counts.waiting = w.waiting;
+            Left { refusal: 0, next }
+        }
+        Err(refusal) => Left {
+            refusal: u8::from(refusal),
+            next: t,
+        },
     }
 }
 
-// A reply to the sender s, where 1 to 4 gave v.
+// A reply to the sender s, where 1 to 4 gave v. The messages stay.
 fn judged(
     p: Profile,
     s: Sender,
-    v: Verdict,
+    v: Result<(), Refusal>,
     a: &mut [u8],
     h: Heard,
     r: Reply,
     payload: &[u8],
-) -> LeftSender
+) -> Result<Sender, Refusal>
     requires { passed (verdict_after v s h r (length payload.now)) ≡ true → Ranged p × ReplyReady p s a.old × (h.wave ≤ 5) }
     ensures { (result, a.new) ≡ judged_reply v p s a.old h r payload.now }
 {
-    let refusal = number(receive_verdict(v, s.link.last_time, h, r, payload.len()));
-    if refusal != 0 {
-        return LeftSender { refusal, sender: s };
-    }
+    receive_verdict(v, s.link.last_time, h, r, payload.len())?;
     let sender = answer(p, s, a, h, r, payload);
-    LeftSender { refusal, sender }
+    Ok(sender)
 }
 
 // The record after a reply.
-pub fn answered(t: Station, q: LeftSender) -> Left
+pub fn answered(t: Station, q: Result<Sender, Refusal>) -> Left
     ensures { result ≡ after_reply t q }
 {
-    let sender = q.sender;
-    let messages = t.messages;
-    Left {
-        refusal: q.refusal,
-        next: Station { sender, messages },
+    match q {
+        Ok(sender) => {
+            let messages = t.messages;
+            Left {
+                refusal: 0,
+                next: Station { sender, messages },
+            }
+        }
+        Err(refusal) => Left {
+            refusal: u8::from(refusal),
+            next: t,
+        },
     }
 }
 
-pub fn connect(p: Profile, t: Station, a: &mut [u8], h: Heard, r: ConnAck) -> LeftSender
+pub fn connect(
+    p: Profile,
+    t: Station,
+    a: &mut [u8],
+    h: Heard,
+    r: ConnAck,
+) -> Result<Sender, Refusal>
     ensures { (after_reply t result, a.new) ≡ answer_number (receive_of p t a.old h (R.ConnAck r) []) }
 {
     let none: [u8; 1] = [0];
@@ -163,7 +159,7 @@ pub fn connect(p: Profile, t: Station, a: &mut [u8], h: Heard, r: ConnAck) -> Le
     judged(p, t.sender, v, a, h, Reply::ConnAck(r), &none[..0])
 }
 
-pub fn short_ack(p: Profile, t: Station, a: &mut [u8], h: Heard, r: Ack) -> LeftSender
+pub fn short_ack(p: Profile, t: Station, a: &mut [u8], h: Heard, r: Ack) -> Result<Sender, Refusal>
     ensures { (after_reply t result, a.new) ≡ answer_number (receive_of p t a.old h (R.Ack r) []) }
 {
     let none: [u8; 1] = [0];
@@ -178,14 +174,14 @@ pub fn long_ack(
     h: Heard,
     r: LongAck,
     payload: &[u8],
-) -> LeftSender
+) -> Result<Sender, Refusal>
     ensures { (after_reply t result, a.new) ≡ answer_number (receive_of p t a.old h (R.LongAck r) payload.now) }
 {
     let v = standing(p, t, a, false);
     judged(p, t.sender, v, a, h, Reply::LongAck(r), payload)
 }
 
-pub fn turn(p: Profile, t: Station, a: &mut [u8], h: Heard, r: Turn) -> LeftSender
+pub fn turn(p: Profile, t: Station, a: &mut [u8], h: Heard, r: Turn) -> Result<Sender, Refusal>
     ensures { (after_reply t result, a.new) ≡ answer_number (receive_of p t a.old h (R.Turn r) []) }
 {
     let none: [u8; 1] = [0];
@@ -201,7 +197,7 @@ pub fn sender_rx(
     h: Heard,
     r: Reply,
     payload: &[u8],
-) -> LeftSender
+) -> Result<Sender, Refusal>
     ensures { (after_reply t result, a.new) ≡ answer_number (receive_of p t a.old h r payload.now) }
 {
     match r {
@@ -220,26 +216,23 @@ pub fn frames_rx(
     h: Heard,
     r: Reception,
     payloads: &[u8],
-) -> LeftSender
+) -> Result<Sender, Refusal>
     ensures { (after_reply t result, a.new) ≡ answer_number (frames_of p t a.old h r payloads.now) }
 {
     let last = t.sender.link.last_time;
     let v = standing(p, t, a, false);
-    let refusal = number(frames_verdict(v, last, h, r.n));
-    if refusal != 0 {
-        let sender = t.sender;
-        return LeftSender { refusal, sender };
-    }
+    frames_verdict(v, last, h, r.n)?;
     let sender = hear_frames(p, t.sender, a, h, r, payloads);
-    LeftSender { refusal, sender }
+    Ok(sender)
 }
 
 // Where the bytes of the piece at `off` lie in the work area.
 pub fn find(p: Profile, t: Station, a: &[u8], off: u32) -> Place
     ensures { result ≡ find_number (find_of p t a.now off) }
 {
-    let refusal = number(standing(p, t, a, false));
-    if refusal != 0 {
+    let v = standing(p, t, a, false);
+    let refusal = number(v);
+    if v.is_err() {
         return Place {
             refusal,
             here: false,
@@ -261,7 +254,7 @@ pub fn piece(p: Profile, t: Station, a: &[u8], off: u32) -> &[u8]
     ensures { result.now ≡ piece_of p t a.now off }
 {
     let v = standing(p, t, a, false);
-    if number(v) != 0 {
+    if v.is_err() {
         return &a[..0];
     }
     let n = t.sender.counts.pieces;
@@ -294,8 +287,9 @@ pub fn data_burst(p: Profile, t: Station, a: &mut [u8], out: &mut [u8]) -> LeftB
     ensures { (result, (a.new, out.new)) ≡ burst_number (burst_call p t a.old out.old) }
 {
     let v = standing(p, t, a, false);
-    let refusal = number(burst_verdict(v, p.long_bytes, out.len()));
-    if refusal != 0 {
+    let v = burst_verdict(v, p.long_bytes, out.len());
+    let refusal = number(v);
+    if v.is_err() {
         let outgoing = no_burst();
         let burst = Burst { refusal, outgoing };
         return LeftBurst { burst, next: t };

@@ -3,25 +3,25 @@
 use mathlib.Core.Path.{◌≡◌, refl, sym, ap, ap₂, ◌∙◌}
 use mathlib.Core.List.{List, [], ◌∷◌, ◌++◌, map}
 use mathlib.Core.Bool.{Bool, true, false, cond, not, ◌&&◌}
-use Prim.Native.Nat.{ℕ, zero, suc, ◌+◌, ◌-◌, ◌*◌, ◌/◌, ◌%◌, ◌^◌, ◌≤◌, ◌<◌}
+use Prim.Native.Nat.{ℕ, suc, ◌+◌, ◌-◌, ◌/◌, ◌%◌, ◌^◌, ◌≤◌, ◌<◌}
 use native.Mathlib.Omega.{arith}
 use native.Mathlib.Nat.{div-div-eq-div-mul, div-one, pow-succ'}
 use lib.Dec.{eqb, ltb}
-use lib.ListN.{length, take, drop, length-take, length-drop, take-append-drop, length-append}
-use lib.Seq.{take-take, take-add, drop_at, length-take-le}
-use Rattle.laws.specs.Bytes.{overwrite, part, Bytes}
+use lib.ListN.{length, take, drop, take-append-drop}
+use lib.Seq.{take-add, drop_at, length-take-le}
+use Rattle.laws.specs.Bytes.{overwrite, part}
 use Rattle.laws.proofs.Bytes.{over-nil, length_part}
 use Rattle.ledger.specs.Reply.{Reply, bit_at}
 use Rattle.ledger.specs.Ledger as L
 use Rattle.ledger.specs.Ledger.{Piece, Held, Sent, size, bytes_of, held_offs, sent_offs, remaining, acked_bytes, missed, settle_burst}
 use Rattle.ledger.specs.Sound.{Sound}
-use Rattle.area.specs.Layout.{place, stream_bytes}
+use Rattle.area.specs.Layout.{place}
 use Rattle.area.specs.Table.{rows_from, table_bytes, total}
 use Rattle.area.specs.declared.table.Row.{Row}
 use Rattle.area.specs.Removal.{kept_rows, kept_bytes, removed_pieces}
 use Rattle.pieces.specs.Pieces.{pieces_of}
-use Rattle.pieces.specs.Lists.{held_of, sent_of}
-use Rattle.pieces.proofs.Settle.{kept-total, kept-waiting, kept-length, settled-pieces, settled-size, settled-bytes}
+use Rattle.pieces.specs.Lists.{sent_of}
+use Rattle.pieces.proofs.Settle.{kept-waiting, kept-length, settled-pieces, settled-size, settled-bytes}
 use Rattle.pieces.proofs.Sound.{length-pieces}
 use Rattle.pieces.proofs.Lists.{sent-length}
 use Rattle.pieces.proofs.Carried.{pieces-take}
@@ -30,7 +30,7 @@ use Rattle.record.specs.declared.AtPeer.{AtPeer}
 use Rattle.record.specs.declared.LastBurst.{LastBurst}
 use Rattle.record.specs.declared.Counts.{Counts}
 use Rattle.record.specs.declared.Sender.{Sender}
-use Rattle.record.specs.View.{held_in, rest_in, sent_in, view, rows_of, store_area, store_held, store_sent, store_counts, store_link, store}
+use Rattle.record.specs.View.{rest_in, sent_in, view, rows_of, store_area, store_held, store_sent, store_counts, store_link, store}
 use Rattle.record.proofs.View.{Counted, Arrays, rows-pieces, bytes-pieces}
 use Rattle.settle.specs.Settle.{acked_in, missed_in, with_more_held, held_none, new_held, settled, with_flight}
 use Rattle.settle.proofs.Laws.{held_more}

@@ -1,5 +1,5 @@
 -- `settle_burst` (sender.rs) on the record's lists and the work area's rows. The bitmap's lowest bit is the first frame's. Follows the code or serves proofs: nothing here has to be believed.
-use Rattle.std.specs.Prelude.{List, [], ◌∷◌, map, ◌≡◌, Bool, true, false, cond, not, ◌&&◌, ℕ, ◌+◌, ◌-◌, ◌/◌, ◌%◌, ◌≤◌, ltb, eqb, length, take, replicate}
+use Rattle.std.specs.Prelude.{List, [], ◌∷◌, map, ◌≡◌, Bool, false, cond, not, ◌&&◌, ℕ, ◌+◌, ◌-◌, ◌/◌, ◌%◌, ◌≤◌, ltb, eqb, length, take, replicate}
 use Rattle.laws.specs.Bytes.{overwrite}
 use Rattle.ledger.specs.Ledger.{Held, held_offs}
 use Rattle.area.specs.Layout.{area_bytes}

@@ -12,7 +12,7 @@ use record::{AtPeer, Counts, LastBurst, Sender};
 
 pub mod outcome;
 
-// A list of offsets.
+// A list of offsets. kept: an array with a count, since memory is fixed: no heap.
 #[derive(Clone, Copy)]
 struct Offsets {
     off: [u32; MAX_SLOTS],
@@ -27,17 +27,12 @@ fn acked(offs: &[u32], bitmap: u64) -> Offsets
     let mut off = [0u32; MAX_SLOTS];
     let mut n = 0;
     let mut b = bitmap;
-    let mut i = 0;
-    while i < offs.len() {
+    for &o in offs {
         if b % 2 == 1 {
-            off[n] = offs[i];
+            off[n] = o;
             n += 1;
-            b = b / 2;
-            i += 1;
-        } else {
-            b = b / 2;
-            i += 1;
         }
+        b = b / 2;
     }
     Offsets { off, n }
 }
@@ -61,17 +56,12 @@ fn missed(offs: &[u32], held: &[u32], bitmap: u64, top: u32, given: AtPeer) -> A
 {
     let mut h = given;
     let mut b = bitmap;
-    let mut i = 0;
-    while i < offs.len() {
+    for (i, &off) in offs.iter().enumerate() {
         let x = held[i];
         if !(b % 2 == 1) & (x < top) {
-            h = push(h, offs[i], x);
-            b = b / 2;
-            i += 1;
-        } else {
-            b = b / 2;
-            i += 1;
+            h = push(h, off, x);
         }
+        b = b / 2;
     }
     h
 }
@@ -82,10 +72,8 @@ fn rest(offs: &[u32], bits: &[u32], from: usize, given: AtPeer) -> AtPeer
     ensures { result ≡ with_more_held given (drop from (held_of offs.now bits.now)) }
 {
     let mut h = given;
-    let mut i = from;
-    while i < offs.len() {
+    for i in from..offs.len() {
         h = push(h, offs[i], bits[i]);
-        i += 1;
     }
     h
 }

@@ -1,6 +1,5 @@
 // What a reply says of the outstanding burst, and a burst that is outstanding no more (`on_ack` of gear.rs, `ack_in` of sender.rs).
-ghost use Rattle.std.specs.Prelude.{◌≡◌, ◌+◌, ◌≤◌, ◌<◌, length};
-ghost use Rattle.laws.specs.Lists.{one};
+ghost use Rattle.std.specs.Prelude.{◌≡◌, ◌≤◌, length};
 ghost use Rattle.limits.specs.Limits.{max_slots};
 ghost use Rattle.settle.specs.AckInCode.{bits_for, without_burst};
 ghost use Rattle.settle.specs.OutcomesCode.{tallied, outcome_in};
@@ -16,13 +15,6 @@ pub struct Came {
     pub got: u8,
 }
 
-fn bump(n: u8, by: bool) -> u8
-    requires { n < 255 }
-    ensures { result ≡ n + one by }
-{
-    if by { n + 1 } else { n }
-}
-
 // The counts of frames of so many bits, of which the peer then holds `held`.
 fn tally(bits: &[u32], held: &[u32], bitmap: u64) -> Came
     requires { (length bits.now ≤ max_slots) × (length held.now ≡ length bits.now) }
@@ -34,17 +26,15 @@ fn tally(bits: &[u32], held: &[u32], bitmap: u64) -> Came
         got: 0,
     };
     let mut b = bitmap;
-    let mut i = 0;
-    while i < bits.len() {
-        let fresh = bits[i] == held[i];
+    for (i, &sent) in bits.iter().enumerate() {
+        let fresh = sent == held[i];
         let got = b % 2 == 1;
         t = Came {
-            fresh: bump(t.fresh, fresh),
-            fresh_got: bump(t.fresh_got, fresh & got),
-            got: bump(t.got, got),
+            fresh: t.fresh + u8::from(fresh),
+            fresh_got: t.fresh_got + u8::from(fresh & got),
+            got: t.got + u8::from(got),
         };
         b = b / 2;
-        i += 1;
     }
     t
 }
@@ -81,7 +71,7 @@ pub fn bits_for(n: usize, bitmap: u8) -> u64
     ensures { result ≡ bits_for n bitmap }
 {
     if (6 < n) & (bitmap == 63) {
-        return 18446744073709551615;
+        return u64::MAX;
     }
     bitmap as u64
 }

@@ -42,19 +42,17 @@ fn level_ok(tried: bool, share: f32, at: f64, until: f64) -> bool
 fn levels_ok(t: Tries, h: Holds) -> bool
     ensures { result ≡ every (remembered_ok t h) (upto 0 17) }
 {
-    let mut ok = true;
-    let mut k: usize = 0;
-    while k < 17 {
-        ok = ok
-            & level_ok(
-                t.tried[k],
-                t.success[k],
-                t.success_at[k],
-                h.blocked_until[k],
-            );
-        k += 1;
+    for k in 0..17 {
+        if !level_ok(
+            t.tried[k],
+            t.success[k],
+            t.success_at[k],
+            h.blocked_until[k],
+        ) {
+            return false;
+        }
     }
-    ok
+    true
 }
 
 pub fn gear_ok(g: Gear) -> bool

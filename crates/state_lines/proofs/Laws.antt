@@ -1,7 +1,7 @@
 -- A turn and the end of a loop over lists side by side. Assumes nothing.
 use mathlib.Core.Path.{◌≡◌, refl, sym, ap, ap₂, ◌∙◌}
 use mathlib.Core.List.{List, [], ◌∷◌}
-use Prim.Native.Nat.{ℕ, zero, suc, ◌+◌, ◌≤◌, ◌<◌}
+use Prim.Native.Nat.{ℕ, zero, suc, ◌+◌, ◌≤◌, ◌<◌, min}
 use native.Mathlib.Omega.{arith}
 use native.Mathlib.Numerals.{add-one}
 use lib.ListN.{length, get_or, take, drop, length-take, drop_of_length-le}
@@ -53,14 +53,8 @@ module _ (os bs : List ℕ) (to i : ℕ) where
       ∙ ap₂ (λ (o b : ℕ). record { off = o; bits = b } ∷ drop (suc i) held) (get_or-take to os i 0 h) (get_or-take to bs i 0 h)
       ∙ ap (λ (j : ℕ). record { off = get_or os i 0; bits = get_or bs i 0 } ∷ drop j held) (sym (add-one i))
 
-  pub held-over : to ≤ i → drop i held ≡ []
-  held-over h = drop_of_length-le held {i = i} (omega (arith, (held-few (take to os) (take to bs)).0, length-take to os))
-
-  pub held-over-off : length os ≤ i → drop i held ≡ []
-  held-over-off h = drop_of_length-le held {i = i} (omega (arith, (held-few (take to os) (take to bs)).0, length-take to os))
-
-  pub held-over-bits : length bs ≤ i → drop i held ≡ []
-  held-over-bits h = drop_of_length-le held {i = i} (omega (arith, (held-few (take to os) (take to bs)).1, length-take to bs))
+  pub held-over : min (min to (length os)) (length bs) ≤ i → drop i held ≡ []
+  held-over h = drop_of_length-le held {i = i} (omega (arith, held-few (take to os) (take to bs), length-take to os, length-take to bs))
 
 module _ (os bs hs : List ℕ) (to i : ℕ) where
   abbrev sent : List Sent
@@ -76,14 +70,7 @@ module _ (os bs hs : List ℕ) (to i : ℕ) where
       ∙ ap₂ (λ (x j : ℕ). record { off = get_or os i 0; bits = get_or bs i 0; held = x } ∷ drop j sent) (get_or-take to hs i 0 h)
       (sym (add-one i))
 
-  pub sent-over : to ≤ i → drop i sent ≡ []
-  sent-over h = drop_of_length-le sent {i = i} (omega (arith, (sent-few (take to os) (take to bs) (take to hs)).0, length-take to os))
-
-  pub sent-over-off : length os ≤ i → drop i sent ≡ []
-  sent-over-off h = drop_of_length-le sent {i = i} (omega (arith, (sent-few (take to os) (take to bs) (take to hs)).0, length-take to os))
-
-  pub sent-over-bits : length bs ≤ i → drop i sent ≡ []
-  sent-over-bits h = drop_of_length-le sent {i = i} (omega (arith, (sent-few (take to os) (take to bs) (take to hs)).1, length-take to bs))
-
-  pub sent-over-held : length hs ≤ i → drop i sent ≡ []
-  sent-over-held h = drop_of_length-le sent {i = i} (omega (arith, (sent-few (take to os) (take to bs) (take to hs)).2, length-take to hs))
+  pub sent-over : min (min (min to (length os)) (length bs)) (length hs) ≤ i → drop i sent ≡ []
+  sent-over h =
+      drop_of_length-le sent {i = i}
+      (omega (arith, sent-few (take to os) (take to bs) (take to hs), length-take to os, length-take to bs, length-take to hs))

@@ -5,6 +5,7 @@
 ghost use Rattle.std.specs.Prelude.{◌≡◌, ◌<◌};
 ghost use Rattle.laws.specs.Span.{upto};
 ghost use Rattle.text.specs.Buffer.{appended, each};
+ghost use Rattle.text.specs.Text.{Puts};
 ghost use Rattle.text.specs.Words.{single_word};
 ghost use Rattle.state_lines.specs.State.{tally_words, end_line, state_line, link_line, word_if, reports, aim_line, gear_line, gear_of};
 ghost use Rattle.state_lines.specs.State.{counts_line, state_lines};
@@ -13,98 +14,94 @@ use gear::Gear;
 use levels::memory::Reports;
 use lists::{held, pieces, rest, sent};
 use record::{Counts, Link, Sender};
-use text::{double, flag, maybe_double, maybe_number, maybe_single, number, puts, single};
+use text::Text;
 
 mod lists;
 pub mod queue;
 
 // TAKEN WAITING FLYING ACKED, where so many bytes were withdrawn.
-fn tally(t: &mut [u8], n: usize, c: Counts, withdrawn: u32) -> usize
-    ensures { (result, t.new) ≡ appended (n, t.old) (tally_words c withdrawn) }
+fn tally(t: &mut Text, c: Counts, withdrawn: u32)
+    ensures { Puts t.old (tally_words c withdrawn) t.new }
 {
-    let n = number(
-        t,
-        n,
-        (c.next_offset as u64) + (c.waiting as u64) + (withdrawn as u64),
-    );
-    let n = number(t, n, c.waiting as u64);
-    let n = number(t, n, c.flying as u64);
-    number(t, n, c.bytes_acked as u64)
+    t.number((c.next_offset as u64) + (c.waiting as u64) + (withdrawn as u64));
+    t.number(c.waiting as u64);
+    t.number(c.flying as u64);
+    t.number(c.bytes_acked as u64);
 }
 
 // What closes a profile's calls.
 pub fn end(t: &mut [u8], n: usize, c: Counts, withdrawn: u32) -> usize
     ensures { (result, t.new) ≡ appended (n, t.old) (end_line c withdrawn) }
 {
-    let n = puts(t, n, b"end");
-    let n = tally(t, n, c, withdrawn);
-    puts(t, n, b"\n")
+    let mut t = Text { bytes: t, len: n };
+    t.puts(b"end");
+    tally(&mut t, c, withdrawn);
+    t.puts(b"\n");
+    t.len
 }
 
-fn first(t: &mut [u8], n: usize, burst_s: f64, g: Gear, k: Link) -> usize
-    ensures { (result, t.new) ≡ appended (n, t.old) (state_line burst_s g k) }
+fn first(t: &mut Text, burst_s: f64, g: Gear, k: Link)
+    ensures { Puts t.old (state_line burst_s g k) t.new }
 {
-    let n = puts(t, n, b"state");
-    let n = number(t, n, g.level as u64);
-    let n = number(t, n, g.target as u64);
-    let n = maybe_double(t, n, k.connected, burst_s);
-    let n = flag(t, n, k.connected);
-    let n = flag(t, n, k.awaiting);
-    let n = number(t, n, k.session as u64);
-    let n = number(t, n, k.burst_id as u64);
-    let n = maybe_number(t, n, k.heard, k.peer_heard as u64);
-    let n = maybe_double(t, n, k.connected, k.last_time);
-    puts(t, n, b"\n")
+    t.puts(b"state");
+    t.number(g.level as u64);
+    t.number(g.target as u64);
+    t.maybe(k.connected.then_some(burst_s));
+    t.flag(k.connected);
+    t.flag(k.awaiting);
+    t.number(k.session as u64);
+    t.number(k.burst_id as u64);
+    t.maybe(k.heard.then_some(k.peer_heard as u64));
+    t.maybe(k.connected.then_some(k.last_time));
+    t.puts(b"\n");
 }
 
-fn link(t: &mut [u8], n: usize, g: Gear, k: Link) -> usize
-    ensures { (result, t.new) ≡ appended (n, t.old) (link_line g k) }
+fn link(t: &mut Text, g: Gear, k: Link)
+    ensures { Puts t.old (link_line g k) t.new }
 {
     let class = g.peer_class;
-    let n = puts(t, n, b"link");
-    let n = flag(t, n, k.peer_wants_turn);
-    let n = flag(t, n, k.peer_wants_disc);
-    let n = flag(t, n, class.echo);
-    let n = flag(t, n, class.doppler);
-    let n = number(t, n, k.peer_slot as u64);
-    let n = single(t, n, k.peer_doppler_hz);
-    let n = flag(t, n, g.cue);
-    puts(t, n, b"\n")
+    t.puts(b"link");
+    t.flag(k.peer_wants_turn);
+    t.flag(k.peer_wants_disc);
+    t.flag(class.echo);
+    t.flag(class.doppler);
+    t.number(k.peer_slot as u64);
+    t.single(k.peer_doppler_hz);
+    t.flag(g.cue);
+    t.puts(b"\n");
 }
 
 // F32 where a test passes, else nothing.
-fn if_set(t: &mut [u8], n: usize, set: bool, x: f32) -> usize
-    ensures { (result, t.new) ≡ appended (n, t.old) (word_if set (single_word x)) }
+fn if_set(t: &mut Text, set: bool, x: f32)
+    ensures { Puts t.old (word_if set (single_word x)) t.new }
 {
     if set {
-        return single(t, n, x);
+        t.single(x);
     }
-    n
 }
 
-fn reports(t: &mut [u8], n: usize, r: Reports) -> usize
-    ensures { (result, t.new) ≡ appended (n, t.old) (reports r) }
+fn reports(t: &mut Text, r: Reports)
+    ensures { Puts t.old (reports r) t.new }
 {
-    let n = if_set(t, n, r.count >= 3, r.a);
-    let n = if_set(t, n, r.count >= 2, r.b);
-    if_set(t, n, r.count >= 1, r.c)
+    if_set(t, r.count >= 3, r.a);
+    if_set(t, r.count >= 2, r.b);
+    if_set(t, r.count >= 1, r.c);
 }
 
-fn aim(t: &mut [u8], n: usize, g: Gear) -> usize
-    ensures { (result, t.new) ≡ appended (n, t.old) (aim_line g) }
+fn aim(t: &mut Text, g: Gear)
+    ensures { Puts t.old (aim_line g) t.new }
 {
     let a = g.aim_db;
     let last = g.last_report_db;
-    let n = puts(t, n, b"aim");
-    let n = maybe_single(t, n, a.set, a.db);
-    let n = maybe_single(t, n, last.set, last.db);
-    let n = reports(t, n, g.snr_reports);
-    puts(t, n, b"\n")
+    t.puts(b"aim");
+    t.maybe(a.set.then_some(a.db));
+    t.maybe(last.set.then_some(last.db));
+    reports(t, g.snr_reports);
+    t.puts(b"\n");
 }
 
 fn gear_line(
-    t: &mut [u8],
-    n: usize,
+    t: &mut Text,
     l: usize,
     tried: bool,
     success: f32,
@@ -112,28 +109,27 @@ fn gear_line(
     fails: u8,
     until: f64,
     all: bool,
-) -> usize
-    ensures { (result, t.new) ≡ appended (n, t.old) (gear_line l tried success at fails until all) }
+)
+    ensures { Puts t.old (gear_line l tried success at fails until all) t.new }
 {
-    let n = puts(t, n, b"gear");
-    let n = number(t, n, l as u64);
-    let n = maybe_single(t, n, tried, success);
-    let n = double(t, n, at);
-    let n = number(t, n, fails as u64);
-    let n = double(t, n, until);
-    let n = flag(t, n, all);
-    puts(t, n, b"\n")
+    t.puts(b"gear");
+    t.number(l as u64);
+    t.maybe(tried.then_some(success));
+    t.double(at);
+    t.number(fails as u64);
+    t.double(until);
+    t.flag(all);
+    t.puts(b"\n");
 }
 
-fn level(t: &mut [u8], n: usize, g: Gear, l: usize) -> usize
+fn level(t: &mut Text, g: Gear, l: usize)
     requires { l < 17 }
-    ensures { (result, t.new) ≡ appended (n, t.old) (gear_of g l) }
+    ensures { Puts t.old (gear_of g l) t.new }
 {
     let s = g.tries;
     let h = g.holds;
     gear_line(
         t,
-        n,
         l,
         s.tried[l],
         s.success[l],
@@ -141,45 +137,43 @@ fn level(t: &mut [u8], n: usize, g: Gear, l: usize) -> usize
         s.fails[l],
         h.blocked_until[l],
         h.hold_all[l],
-    )
+    );
 }
 
-fn levels(t: &mut [u8], n: usize, g: Gear) -> usize
-    ensures { (result, t.new) ≡ appended (n, t.old) (each (gear_of g) (upto 0 17)) }
+fn levels(t: &mut Text, g: Gear)
+    ensures { Puts t.old (each (gear_of g) (upto 0 17)) t.new }
 {
-    let mut n = n;
-    let mut l: usize = 0;
-    while l < 17 {
-        n = level(t, n, g, l);
-        l += 1;
+    for l in 0..17 {
+        level(t, g, l);
     }
-    n
 }
 
-fn counts(t: &mut [u8], n: usize, c: Counts, withdrawn: u32) -> usize
-    ensures { (result, t.new) ≡ appended (n, t.old) (counts_line c withdrawn) }
+fn counts(t: &mut Text, c: Counts, withdrawn: u32)
+    ensures { Puts t.old (counts_line c withdrawn) t.new }
 {
-    let n = puts(t, n, b"counts");
-    let n = tally(t, n, c, withdrawn);
-    let n = number(t, n, c.airtime_ms);
-    puts(t, n, b"\n")
+    t.puts(b"counts");
+    tally(t, c, withdrawn);
+    t.number(c.airtime_ms);
+    t.puts(b"\n");
 }
 
 // The whole answer. burst_s: the burst seconds as the gear reads them; withdrawn: the bytes withdrawn.
 pub fn state(t: &mut [u8], n: usize, burst_s: f64, s: Sender, withdrawn: u32, area: &[u8]) -> usize
     ensures { (result, t.new) ≡ appended (n, t.old) (state_lines burst_s s withdrawn area.now) }
 {
+    let mut t = Text { bytes: t, len: n };
     let g = s.gear;
     let k = s.link;
     let c = s.counts;
     let h = s.at_peer;
-    let n = first(t, n, burst_s, g, k);
-    let n = link(t, n, g, k);
-    let n = aim(t, n, g);
-    let n = levels(t, n, g);
-    let n = counts(t, n, c, withdrawn);
-    let n = pieces(t, n, area, c.pieces);
-    let n = held(t, n, h, k.peer_wave);
-    let n = rest(t, n, h);
-    sent(t, n, s.last_burst)
+    first(&mut t, burst_s, g, k);
+    link(&mut t, g, k);
+    aim(&mut t, g);
+    levels(&mut t, g);
+    counts(&mut t, c, withdrawn);
+    pieces(&mut t, area, c.pieces);
+    held(&mut t, h, k.peer_wave);
+    rest(&mut t, h);
+    sent(&mut t, s.last_burst);
+    t.len
 }

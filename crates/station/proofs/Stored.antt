@@ -1,39 +1,27 @@
 -- The record is stored only where the call is accepted: a refused call answers with the record that it got. So is a profile that is read.
 -- Assumes nothing.
 use mathlib.Core.Path.{◌≡◌, refl, sym, ap, ap₂, ◌∙◌}
-use mathlib.Core.List.{List, []}
+use mathlib.Core.List.{List}
 use mathlib.Core.Bool.{Bool, true, false, cond, not}
 use Prim.Native.Nat.{ℕ}
 use lib.Dec.{T, eqb}
 use lib.ListN.{length}
 use Rattle.laws.proofs.Picks.{by}
 use Rattle.config.specs.declared.Profile.{Profile}
-use Rattle.queuing.specs.Station.{with_sender, with_messages}
 use Rattle.queuing.specs.declared.Station.{Station}
-use Rattle.replies.specs.declared.Heard.{Heard}
-use Rattle.reception.specs.declared.Reception.{Reception}
-use Rattle.replies.specs.declared.ConnAck.{ConnAck}
-use Rattle.replies.specs.declared.Ack.{Ack}
-use Rattle.replies.specs.declared.LongAck.{LongAck}
-use Rattle.replies.specs.declared.Turn.{Turn}
-use Rattle.refusals.specs.declared.Reply.{Reply}
-use Rattle.refusals.specs.declared.Reply.TheVariants as R
-use Rattle.refusals.specs.declared.Verdict.{Verdict}
+use Rattle.refusals.specs.Verdict.{Verdict}
 use Rattle.refusals.specs.Refusals.{number_of}
-use Rattle.verdicts.specs.Verdicts.{passed, queue_verdict, receive_verdict, frames_verdict, burst_verdict}
-use Rattle.sender.specs.Calls.{Answer, Bursted, queue_of, receive_of, frames_of, burst_call}
-use Rattle.sender.proofs.Refused.{queue-verdict, receive-verdict, frames-verdict, burst-verdict, queue-keeps, receive-keeps, frames-keeps, burst-keeps}
-use Rattle.sender.specs.declared.Message.{Message}
+use Rattle.verdicts.specs.Verdicts.{passed, burst_verdict}
+use Rattle.sender.specs.Calls.{Answer, Bursted, burst_call}
+use Rattle.sender.proofs.Refused.{burst-verdict, burst-keeps}
 use Rattle.sender.specs.declared.Left.{Left}
 use Rattle.sender.specs.declared.Burst.{Burst}
 use Rattle.sender.specs.declared.LeftBurst.{LeftBurst}
-use Rattle.sender.specs.declared.LeftQueue.{LeftQueue}
-use Rattle.sender.specs.declared.LeftSender.{LeftSender}
-use Rattle.sender.specs.Numbered.{answer_number, after_reply, after_queue, burst_number}
+use Rattle.sender.specs.Numbered.{answer_number, burst_number}
 use Rattle.card.specs.Card.{card_profile, read_refusal, read_of}
 use Rattle.card.specs.declared.Found.{Found}
 use Rattle.card.specs.declared.CardAnswer.{CardAnswer}
-use Rattle.station.specs.Exported.{left, left_burst}
+use Rattle.station.specs.Exported.{left_burst}
 use Rattle.station.specs.ExportedCode.{kept}
 
 -- ---- what is stored, where the number is 0 and where it is not
@@ -53,23 +41,6 @@ module _ (t : Station) (n : ℕ) (next : Station) where
   pub keeping2 : T (not (eqb n 0)) → t ≡ kept t n next
   keeping2 = passed_over (eqb n 0) next t
 
-module _ (t : Station) (q : LeftSender) where
-  pub keeping-sender1 : T (eqb q.refusal 0) → (q.refusal ≡ q.refusal) × (with_sender t q.sender ≡ kept t q.refusal (with_sender t q.sender))
-  keeping-sender1 h = (refl, picked (eqb q.refusal 0) (with_sender t q.sender) t h)
-
-  pub keeping-sender2 : T (not (eqb q.refusal 0)) → (q.refusal ≡ q.refusal) × (t ≡ kept t q.refusal (with_sender t q.sender))
-  keeping-sender2 h = (refl, passed_over (eqb q.refusal 0) (with_sender t q.sender) t h)
-
-module _ (t : Station) (q : LeftQueue) where
-  abbrev queued-in : Station
-  queued-in = with_messages t q.messages q.waiting
-
-  pub keeping-queue1 : T (eqb q.refusal 0) → (q.refusal ≡ q.refusal) × (queued-in ≡ kept t q.refusal queued-in)
-  keeping-queue1 h = (refl, picked (eqb q.refusal 0) queued-in t h)
-
-  pub keeping-queue2 : T (not (eqb q.refusal 0)) → (q.refusal ≡ q.refusal) × (t ≡ kept t q.refusal queued-in)
-  keeping-queue2 h = (refl, passed_over (eqb q.refusal 0) queued-in t h)
-
 module _ (p : Profile) (q : Found) where
   pub keeping-profile1 : T (eqb q.refusal 0) → ((q.refusal ≡ q.refusal) × (q.stretched ≡ q.stretched)) × (q.profile ≡ kept p q.refusal q.profile)
   keeping-profile1 h = ((refl, refl), picked (eqb q.refusal 0) q.profile p h)
@@ -82,64 +53,12 @@ module _ (t : Station) (n : ℕ) (next : Station) where
   kept-is : (v : Verdict) → n ≡ number_of v → (passed v ≡ false → next ≡ t) → kept t n next ≡ next
   kept-is v e same = by (λ (x : Station). x ≡ next) (eqb n 0) (λ b. refl) (λ b. sym (same (ap (λ (x : ℕ). eqb x 0) (sym e) ∙ b)))
 
--- ---- the calls, as their proofs cite them: each after the call by value, which answers r, and the one that stores it, which answers n and
--- leaves `after`
+-- ---- the calls, as their proofs cite them: each after the call by value, which answers r, and the one that stores it, which leaves l or `after`
 
-kept-left : (t : Station) (v : Verdict) (q : Answer × List ℕ) → q.0.verdict ≡ v → (passed v ≡ false → q.0.next ≡ t)
-    → (r : Left) (b : List ℕ) → (r, b) ≡ answer_number q
-    → (n : ℕ) (after : Station) → (n ≡ r.refusal) × (after ≡ kept t r.refusal r.next)
-    → (left n after, b) ≡ answer_number q
-kept-left t v q e same r b said m after k =
-    let n : r.refusal ≡ number_of v = ap (λ (x : Left × List ℕ). x.0.refusal) said ∙ ap number_of e in
-    let d : r.next ≡ q.0.next = ap (λ (x : Left × List ℕ). x.0.next) said in
-    let stored : after ≡ r.next = k.1 ∙ kept-is t r.refusal r.next v n (λ f. d ∙ same f) in
-    ap₂ (λ (y : ℕ) (z : Station). (left y z, b)) k.0 stored ∙ said
+pub kept-left : (l r : Left) (b : List ℕ) (q : Answer × List ℕ) → l ≡ r → (r, b) ≡ answer_number q → (l, b) ≡ answer_number q
+kept-left l r b q e said = ap (λ (x : Left). (x, b)) e ∙ said
 
 module _ (p : Profile) (t : Station) (a : List ℕ) where
-  pub queued : (m : Message) (bs : List ℕ) (r : LeftQueue) (b : List ℕ)
-      → (after_queue t r, b) ≡ answer_number (queue_of p t a m.class m.label bs)
-      → (n : ℕ) (after : Station) → (n ≡ r.refusal) × (after ≡ kept t r.refusal (with_messages t r.messages r.waiting))
-      → (left n after, b) ≡ answer_number (queue_of p t a m.class m.label bs)
-  queued m bs r =
-      kept-left t (queue_verdict p t a m.class m.label (length bs)) (queue_of p t a m.class m.label bs)
-      (queue-verdict p t a m.class m.label bs)
-      (λ e. ap (λ (x : Answer × List ℕ). x.0.next) (queue-keeps p t a m.class m.label bs e)) (after_queue t r)
-
-  module _ (h : Heard) where
-    replied : (c : Reply) (payload : List ℕ) (r : LeftSender) (b : List ℕ) → (after_reply t r, b) ≡ answer_number (receive_of p t a h c payload)
-        → (n : ℕ) (after : Station) → (n ≡ r.refusal) × (after ≡ kept t r.refusal (with_sender t r.sender))
-        → (left n after, b) ≡ answer_number (receive_of p t a h c payload)
-    replied c payload r =
-        kept-left t (receive_verdict p t a h c (length payload)) (receive_of p t a h c payload) (receive-verdict p t a h c payload)
-        (λ e. ap (λ (x : Answer × List ℕ). x.0.next) (receive-keeps p t a h c payload e)) (after_reply t r)
-
-    pub connected : (c : ConnAck) (r : LeftSender) (b : List ℕ) → (after_reply t r, b) ≡ answer_number (receive_of p t a h (R.ConnAck c) [])
-        → (n : ℕ) (after : Station) → (n ≡ r.refusal) × (after ≡ kept t r.refusal (with_sender t r.sender))
-        → (left n after, b) ≡ answer_number (receive_of p t a h (R.ConnAck c) [])
-    connected c = replied (R.ConnAck c) []
-
-    pub short : (c : Ack) (r : LeftSender) (b : List ℕ) → (after_reply t r, b) ≡ answer_number (receive_of p t a h (R.Ack c) [])
-        → (n : ℕ) (after : Station) → (n ≡ r.refusal) × (after ≡ kept t r.refusal (with_sender t r.sender))
-        → (left n after, b) ≡ answer_number (receive_of p t a h (R.Ack c) [])
-    short c = replied (R.Ack c) []
-
-    pub long : (c : LongAck) (payload : List ℕ) (r : LeftSender) (b : List ℕ) → (after_reply t r, b) ≡ answer_number (receive_of p t a h (R.LongAck c) payload)
-        → (n : ℕ) (after : Station) → (n ≡ r.refusal) × (after ≡ kept t r.refusal (with_sender t r.sender))
-        → (left n after, b) ≡ answer_number (receive_of p t a h (R.LongAck c) payload)
-    long c = replied (R.LongAck c)
-
-    pub turned : (c : Turn) (r : LeftSender) (b : List ℕ) → (after_reply t r, b) ≡ answer_number (receive_of p t a h (R.Turn c) [])
-        → (n : ℕ) (after : Station) → (n ≡ r.refusal) × (after ≡ kept t r.refusal (with_sender t r.sender))
-        → (left n after, b) ≡ answer_number (receive_of p t a h (R.Turn c) [])
-    turned c = replied (R.Turn c) []
-
-    pub frames : (c : Reception) (payloads : List ℕ) (r : LeftSender) (b : List ℕ) → (after_reply t r, b) ≡ answer_number (frames_of p t a h c payloads)
-        → (n : ℕ) (after : Station) → (n ≡ r.refusal) × (after ≡ kept t r.refusal (with_sender t r.sender))
-        → (left n after, b) ≡ answer_number (frames_of p t a h c payloads)
-    frames c payloads r =
-        kept-left t (frames_verdict p t a h c.n) (frames_of p t a h c payloads) (frames-verdict p t a h c payloads)
-        (λ e. ap (λ (x : Answer × List ℕ). x.0.next) (frames-keeps p t a h c payloads e)) (after_reply t r)
-
   pub sent : (out : List ℕ) (r : LeftBurst) (b o : List ℕ) → (r, (b, o)) ≡ burst_number (burst_call p t a out)
       → (l : Left) → (l.refusal ≡ r.burst.refusal) × (l.next ≡ r.next)
       → Unit {0} → (after : Station) → after ≡ kept t l.refusal l.next

@@ -4,10 +4,10 @@
 #![tactic(auto)]
 
 ghost use Rattle.std.specs.Prelude.{◌≡◌, []};
-ghost use Rattle.queuing.specs.Station.{fresh_station, with_sender, with_messages};
+ghost use Rattle.queuing.specs.Station.{fresh_station};
 ghost use Rattle.sender.specs.Calls.{queue_of, receive_of, frames_of, find_of, piece_of, burst_call};
 ghost use Rattle.refusals.specs.declared.Reply.TheVariants as R;
-ghost use Rattle.sender.specs.Numbered.{answer_number, burst_number, find_number};
+ghost use Rattle.sender.specs.Numbered.{answer_number, after_reply, after_queue, burst_number, find_number};
 ghost use Rattle.adif.specs.Adif.{log_of};
 ghost use Rattle.reachable.specs.Reachable.{listing_under};
 ghost use Rattle.card.specs.Card.{write_of, read_of};
@@ -18,13 +18,15 @@ ghost use Rattle.station.specs.ExportedCode.{kept};
 use adif::Logged;
 use card::{CardAnswer, Found};
 use config::Profile;
-use queuing::Station;
+use queuing::{Station, Waiting};
 use reachable::Listing;
 use receiver::{Received, Receiver};
 use reception::Reception;
+use record::Sender;
+use refusals::Refusal;
 use replies::{Ack, ConnAck, Heard, LongAck, Turn};
 use report::ChanClass;
-use sender::{Burst, LeftQueue, LeftSender, Message, Place};
+use sender::{Burst, Message, Place};
 
 // Stores the next record, unless a number refuses the call: then nothing is written.
 fn keep(t: &mut Station, refusal: u8, next: Station)
@@ -36,26 +38,30 @@ fn keep(t: &mut Station, refusal: u8, next: Station)
 }
 
 // The same of a reply: the messages stay. Answers the number.
-fn keep_sender(t: &mut Station, answer: LeftSender) -> u8
-    ensures { (result ≡ answer.refusal)
-        × (t.new ≡ kept t.old answer.refusal (with_sender t.old answer.sender)) }
+fn keep_sender(t: &mut Station, answer: Result<Sender, Refusal>) -> u8
+    ensures { left result t.new ≡ after_reply t.old answer }
 {
-    if answer.refusal == 0 {
-        t.sender = answer.sender;
+    match answer {
+        Ok(sender) => {
+            t.sender = sender;
+            0
+        }
+        Err(refusal) => u8::from(refusal),
     }
-    answer.refusal
 }
 
 // The same of a queuing: the rest of the record stays.
-fn keep_queue(t: &mut Station, taken: LeftQueue) -> u8
-    ensures { (result ≡ taken.refusal)
-        × (t.new ≡ kept t.old taken.refusal (with_messages t.old taken.messages taken.waiting)) }
+fn keep_queue(t: &mut Station, taken: Result<Waiting, Refusal>) -> u8
+    ensures { left result t.new ≡ after_queue t.old taken }
 {
-    if taken.refusal == 0 {
-        t.messages = taken.messages;
-        t.sender.counts.waiting = taken.waiting;
+    match taken {
+        Ok(w) => {
+            t.messages = w.messages;
+            t.sender.counts.waiting = w.waiting;
+            0
+        }
+        Err(refused) => u8::from(refused),
     }
-    taken.refusal
 }
 
 // Stores the profile that was read, unless a number refuses its file: then nothing is written. Answers the rest.

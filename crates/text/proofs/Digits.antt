@@ -1,6 +1,6 @@
--- Laws of digits and words: the last digit of a number, a float by the tests, HEX; and examples.
+-- Laws of digits and words: the last digit of a number, a float by the two tests, HEX; and examples.
 -- Assumes nothing.
-use mathlib.Core.Path.{◌≡◌, refl, sym, ap, ◌∙◌}
+use mathlib.Core.Path.{◌≡◌, refl, sym, ap}
 use mathlib.Core.Bool.{Bool, true, false, cond}
 use mathlib.Core.List.{List, [], ◌∷◌, ◌++◌}
 use Prim.Native.Nat.{ℕ, zero, suc, ◌-◌, ◌/◌, ◌%◌, ◌≤◌, ◌<◌}
@@ -13,7 +13,6 @@ use Rattle.text.specs.Buffer.{each}
 use Rattle.laws.specs.Text.{text}
 use Rattle.text.specs.Digits.{digit_char, decimal_by, decimal, hex_digits, pair}
 use Rattle.text.specs.Words.{hex, float}
-use Rattle.laws.proofs.Picks.{cond_yes, cond_no}
 use lib.Ieee.{Float, Format, of_bits, to_bits, eq, ne}
 
 -- more rounds than the number change nothing
@@ -64,20 +63,15 @@ hex-pair b h =
     let e : b / 16 % 16 ≡ b / 16 = omega arith in
     ap (λ (d : ℕ). digit_char d ∷ digit_char (b % 16) ∷ []) e
 
--- ---- a float's word, by the tests
-
-module _ (f : Format) (k : ℕ) (x : Float) where
-  pub float-nan : ne x x ≡ true → text " nan" ≡ float f k x
-  float-nan h = cond_yes _ _ _ _ h refl
-
-  pub float_zero : ne x x ≡ false → eq x (of_bits f 0) ≡ true → text " 0x" ++ hex_digits k 0 ≡ float f k x
-  float_zero h e = cond_no _ _ _ _ h (ap (λ (m : ℕ). text " 0x" ++ hex_digits k m) (cond_yes _ _ _ _ e refl))
-
-  -- r is what `to_bits64` or `to_bits32` gives: m for NaN
-  pub float-bits : (m : ℕ) {r : ℕ} → ne x x ≡ false → eq x (of_bits f 0) ≡ false → r ≡ cond (ne x x) m (to_bits f x)
-      → text " 0x" ++ hex_digits k r ≡ float f k x
-  float-bits m h e p =
-      cond_no _ _ _ _ h (ap (λ (i : ℕ). text " 0x" ++ hex_digits k i) (cond_no _ _ _ _ e (p ∙ sym (cond_no _ _ _ _ h refl))))
+-- ---- a float's word by the two tests and what `pattern` gives, which is m for NaN
+pub float-told : (f : Format) (k : ℕ) (x : Float) (m : ℕ) {r : ℕ} → r ≡ cond (ne x x) m (to_bits f x)
+    → cond (ne x x) (text " nan") (text " 0x" ++ hex_digits k (cond (eq x (of_bits f 0)) 0 r)) ≡ float f k x
+float-told f k x m p = rw p (go (ne x x))
+  where
+    go : (b : Bool) → cond b (text " nan") (text " 0x" ++ hex_digits k (cond (eq x (of_bits f 0)) 0 (cond b m (to_bits f x))))
+        ≡ cond b (text " nan") (text " 0x" ++ hex_digits k (cond (eq x (of_bits f 0)) 0 (to_bits f x)))
+    go true = refl
+    go false = refl
 
 -- ---- HEX
 

@@ -11,7 +11,10 @@ use lib.Seq.{drop-cons}
 use borrow.Author.Tests.{lt-ltb}
 use Rattle.laws.specs.Bytes.{overwrite}
 use Rattle.laws.proofs.Bytes.{over-nil, over-cat, set-over}
+use Rattle.std.specs.Prelude.{Bool, true, false, Option}
+use Rattle.std.specs.Bool.{then_some}
 use Rattle.text.specs.Buffer.{put, appended, each}
+use Rattle.text.specs.Words.{maybe, maybe_word}
 
 -- ---- text after text
 
@@ -41,6 +44,12 @@ pub ◌⨾◌ : {b b₁ b₂ : ℕ × List ℕ} {a s : List ℕ} → Added b a b
 -- the same text by another name
 pub told : {b b₁ : ℕ × List ℕ} {s u : List ℕ} → Added b s b₁ → s ≡ u → b₁ ≡ appended b u
 told {b} e p = e.is ∙ ap (appended b) p
+
+-- a value's word, or "none", where the value is there if a test passes
+pub may : {A : Type 0} (word : A → List ℕ) (set : Bool) (x : A) {o : Option A} {b b₁ : ℕ × List ℕ}
+    → b₁ ≡ appended b (maybe_word word o) → o ≡ then_some set x → Added b (maybe set (word x)) b₁
+may word true x {o} {b} p e = record { is = p ∙ ap (λ (v : Option _). appended b (maybe_word word v)) e }
+may word false x {o} {b} p e = record { is = p ∙ ap (λ (v : Option _). appended b (maybe_word word v)) e }
 
 -- nothing is put
 pub nothing : (b : ℕ × List ℕ) → Added b [] b

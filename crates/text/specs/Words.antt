@@ -1,5 +1,5 @@
 -- The words of a transcript, each with the space before it (docs/CALLS.md). Definitions only.
-use Rattle.std.specs.Prelude.{Bool, cond, List, [], ◌∷◌, ◌++◌, ℕ, Float}
+use Rattle.std.specs.Prelude.{Bool, cond, Option, None, Some, List, [], ◌∷◌, ◌++◌, ℕ, Float}
 use Rattle.std.specs.Float.{Format, binary32, binary64}
 use Rattle.std.specs.Float.Ieee.{of_bits, to_bits, eq, ne}
 use Rattle.text.specs.Buffer.{each}
@@ -17,9 +17,14 @@ flag_word b = cond b (text " 1") (text " 0")
 abbrev pub none_word : List ℕ
 none_word = text " none"
 
--- a word, or "none" where there is no value
+-- a word, or "none" where the test fails
 abbrev pub maybe : Bool → List ℕ → List ℕ
 maybe set w = cond set w none_word
+
+-- a value's word, or "none" where there is no value
+abbrev pub maybe_word : {A : Type 0} → (A → List ℕ) → Option A → List ℕ
+maybe_word word None = none_word
+maybe_word word (Some x) = word x
 
 -- "floats by their bits in lower case, a NaN as `nan`, either zero by the bits of +0": a float of 4 k bits
 abbrev pub float : Format → ℕ → Float → List ℕ

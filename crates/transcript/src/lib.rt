@@ -3,35 +3,47 @@
 
 ghost use Rattle.std.specs.Prelude.{◌≡◌};
 ghost use Rattle.text.specs.Buffer.{appended};
+ghost use Rattle.text.specs.Text.{Puts};
 ghost use Rattle.laws.specs.Text.{text};
-ghost use Rattle.transcript.specs.Answers.{answer_line, piece_line, log_line, card_line, load_line, error_line};
+ghost use Rattle.transcript.specs.Answers.{outcome, answer_line, piece_line, log_line, card_line, load_line, error_line};
 
-use text::{hex, number, puts};
+use text::{Text, puts};
 
 pub mod burst;
 pub mod reached;
 
-// What a call answers, by its name and the refusal's number, 0 for none.
+// How a call ended, by the refusal's number, 0 for none. kept: a number, as the answers of the C interface have it.
+fn outcome(t: &mut Text, refusal: u8)
+    ensures { Puts t.old (outcome refusal) t.new }
+{
+    if refusal == 0 {
+        t.puts(b" ok");
+        return;
+    }
+    t.puts(b" refused");
+    t.number(refusal as u64);
+}
+
+// What a call answers, by its name and the refusal's number.
 pub fn answer(t: &mut [u8], n: usize, name: &[u8], refusal: u8) -> usize
     ensures { (result, t.new) ≡ appended (n, t.old) (answer_line name.now refusal) }
 {
-    let n = puts(t, n, name);
-    if refusal == 0 {
-        let n = puts(t, n, b" ok");
-        return puts(t, n, b"\n");
-    }
-    let n = puts(t, n, b" refused");
-    let n = number(t, n, refusal as u64);
-    puts(t, n, b"\n")
+    let mut t = Text { bytes: t, len: n };
+    t.puts(name);
+    outcome(&mut t, refusal);
+    t.puts(b"\n");
+    t.len
 }
 
 // A piece that is there.
 pub fn piece(t: &mut [u8], n: usize, bytes: &[u8]) -> usize
     ensures { (result, t.new) ≡ appended (n, t.old) (piece_line bytes.now) }
 {
-    let n = puts(t, n, b"piece");
-    let n = hex(t, n, bytes);
-    puts(t, n, b"\n")
+    let mut t = Text { bytes: t, len: n };
+    t.puts(b"piece");
+    t.hex(bytes);
+    t.puts(b"\n");
+    t.len
 }
 
 pub fn no_piece(t: &mut [u8], n: usize) -> usize
@@ -44,18 +56,22 @@ pub fn no_piece(t: &mut [u8], n: usize) -> usize
 pub fn log(t: &mut [u8], n: usize, chars: &[u8]) -> usize
     ensures { (result, t.new) ≡ appended (n, t.old) (log_line chars.now) }
 {
-    let n = puts(t, n, b"log ok ");
-    let n = puts(t, n, chars);
-    puts(t, n, b"\n")
+    let mut t = Text { bytes: t, len: n };
+    t.puts(b"log ok ");
+    t.puts(chars);
+    t.puts(b"\n");
+    t.len
 }
 
 // A profile's file.
 pub fn card(t: &mut [u8], n: usize, bytes: &[u8]) -> usize
     ensures { (result, t.new) ≡ appended (n, t.old) (card_line bytes.now) }
 {
-    let n = puts(t, n, b"card ok");
-    let n = hex(t, n, bytes);
-    puts(t, n, b"\n")
+    let mut t = Text { bytes: t, len: n };
+    t.puts(b"card ok");
+    t.hex(bytes);
+    t.puts(b"\n");
+    t.len
 }
 
 // A file that was taken.
@@ -72,7 +88,9 @@ pub fn loaded(t: &mut [u8], n: usize, stretched: bool) -> usize
 pub fn error(t: &mut [u8], n: usize, line: u64) -> usize
     ensures { (result, t.new) ≡ appended (n, t.old) (error_line line) }
 {
-    let n = puts(t, n, b"error");
-    let n = number(t, n, line);
-    puts(t, n, b"\n")
+    let mut t = Text { bytes: t, len: n };
+    t.puts(b"error");
+    t.number(line);
+    t.puts(b"\n");
+    t.len
 }

@@ -2,38 +2,36 @@
 ghost use Rattle.std.specs.Prelude.{◌≡◌, ◌≤◌};
 ghost use Rattle.laws.specs.Span.{upto};
 ghost use Rattle.text.specs.Buffer.{appended, each};
+ghost use Rattle.text.specs.Text.{Puts};
 ghost use Rattle.transcript.specs.Answers.{level_word, level_entry, levels_line};
 
-use levels::reach::smaller;
 use reachable::Listing;
-use text::{after_colon, number, puts};
+use text::Text;
 
-fn entry(t: &mut [u8], n: usize, level: u8, q: u8) -> usize
-    ensures { (result, t.new) ≡ appended (n, t.old) (level_word level q) }
+fn entry(t: &mut Text, level: u8, q: u8)
+    ensures { Puts t.old (level_word level q) t.new }
 {
-    let n = number(t, n, level as u64);
-    after_colon(t, n, q as u64)
+    t.number(level as u64);
+    t.after_colon(q as u64);
 }
 
 // The first `count` places.
-fn entries(t: &mut [u8], n: usize, found: Listing, count: usize) -> usize
+fn entries(t: &mut Text, found: Listing, count: usize)
     requires { count ≤ 17 }
-    ensures { (result, t.new) ≡ appended (n, t.old) (each (level_entry found) (upto 0 count)) }
+    ensures { Puts t.old (each (level_entry found) (upto 0 count)) t.new }
 {
-    let mut n = n;
-    let mut i: usize = 0;
-    while i < count {
-        n = entry(t, n, found.level[i], found.q[i]);
-        i += 1;
+    for i in 0..count {
+        entry(t, found.level[i], found.q[i]);
     }
-    n
 }
 
 // The levels of a listing that is not refused.
 pub fn levels(t: &mut [u8], n: usize, found: Listing) -> usize
     ensures { (result, t.new) ≡ appended (n, t.old) (levels_line found) }
 {
-    let n = puts(t, n, b"levels ok");
-    let n = entries(t, n, found, smaller(found.n, 17));
-    puts(t, n, b"\n")
+    let mut t = Text { bytes: t, len: n };
+    t.puts(b"levels ok");
+    entries(&mut t, found, found.n.min(17));
+    t.puts(b"\n");
+    t.len
 }

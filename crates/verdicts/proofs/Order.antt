@@ -17,8 +17,8 @@ use Rattle.area.proofs.room.Laws.{full, over, room-enough}
 use Rattle.messages.specs.Messages.{Entry, total_left, withdrawn_in}
 use Rattle.queuing.specs.declared.Station.{Station}
 use Rattle.replies.specs.declared.Heard.{Heard}
-use Rattle.refusals.specs.declared.Verdict.{Verdict}
-use Rattle.refusals.specs.declared.Verdict.TheVariants.{Accepted, ProfileOutOfRange, ShortOverLong, Unsound, OutOfTurn, BadTime, BadValue, ShortPayload, QueueFull, AllTaken, ShortOutput, BadClass, TooManyMessages, TooManyFrames}
+use Rattle.refusals.specs.Verdict.{Verdict}
+use Rattle.refusals.specs.Verdict.{Accepted, ProfileOutOfRange, ShortOverLong, Unsound, OutOfTurn, BadTime, BadValue, ShortPayload, QueueFull, AllTaken, ShortOutput, BadClass, TooManyMessages, TooManyFrames}
 use Rattle.refusals.specs.declared.Reply.{Reply}
 use Rattle.refusals.specs.Refusals.{number_of, kind_of, max_received, time_ok, heard_ok, reply_ok}
 use Rattle.verdicts.specs.Verdicts.{taken_by, station_ok, first_of, standing, reply_verdict, hearing_verdict, frames_standing, room_verdict, output_verdict, queue_verdict, receive_verdict, frames_verdict, burst_verdict}

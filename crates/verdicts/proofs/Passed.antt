@@ -24,19 +24,57 @@ use Rattle.messages.specs.Messages as M
 use Rattle.messages.specs.Messages.{Entry, messages_ok, withdrawn_in}
 use Rattle.queuing.specs.declared.Station.{Station}
 use Rattle.replies.specs.declared.Heard.{Heard}
-use Rattle.refusals.specs.declared.Verdict.{Verdict}
-use Rattle.refusals.specs.declared.Verdict.TheVariants.{Accepted, AllTaken, BadClass, BadTime, BadValue, ProfileOutOfRange, QueueFull, ShortOutput, ShortOverLong, TooManyFrames, TooManyMessages, Unsound}
+use Rattle.std.specs.Prelude.{Result, Ok, Err, IsErrAnd, is_err, ⊤}
+use Rattle.refusals.specs.declared.Refusal.{Refusal}
+use Rattle.refusals.specs.declared.Refusal.TheVariants as E
+use Rattle.refusals.specs.Verdict.{Verdict}
+use Rattle.refusals.specs.Verdict.{Accepted, AllTaken, BadClass, BadTime, BadValue, ProfileOutOfRange, QueueFull, ShortOutput, ShortOverLong, TooManyFrames, TooManyMessages, Unsound}
 use Rattle.refusals.specs.declared.Reply.{Reply}
-use Rattle.refusals.specs.Refusals.{number_of, kind_of, max_received, time_ok, heard_ok, reply_ok}
+use Rattle.refusals.specs.Refusals.{refusal_number, number_of, kind_of, max_received, time_ok, heard_ok, reply_ok}
 use Rattle.verdicts.specs.Verdicts.{taken_by, station_ok, passed, first_of, standing, room_verdict, reply_verdict, hearing_verdict, frames_standing, output_verdict, queue_verdict, receive_verdict, frames_verdict, burst_verdict}
 use Rattle.limits.specs.Limits.{max_slots, max_waiting, max_taken, max_pieces, max_class, max_messages}
 
--- the number that a call reads says whether it is refused
-pub not-passed : (v u : Verdict) (n : ℕ) → v ≡ u → n ≡ number_of v → (n ≡ 0 → ⊥) → passed u ≡ false
-not-passed v u n e d h = ne_eqb _ _ (λ z. h (d ∙ ap number_of e ∙ z))
+-- what a call answers says whether it is refused
+pub is-passed : (v u : Verdict) (x : ⊤) → v ≡ u → v ≡ Ok x → passed u ≡ true
+is-passed v u x e d = ap (λ (w : Verdict). passed w) (sym e ∙ d)
 
-pub is-passed : (v u : Verdict) (n : ℕ) → v ≡ u → n ≡ number_of v → n ≡ 0 → passed u ≡ true
-is-passed v u n e d h = eq-eqb _ _ (sym (d ∙ ap number_of e) ∙ h)
+-- no refusal has the number 0
+positive : (r : Refusal) → ltb 0 (refusal_number r) ≡ true
+positive E.ProfileOutOfRange = refl
+positive E.ShortOverLong = refl
+positive E.Unsound = refl
+positive E.OutOfTurn = refl
+positive E.BadTime = refl
+positive E.BadValue = refl
+positive E.ShortPayload = refl
+positive E.QueueFull = refl
+positive E.AllTaken = refl
+positive E.ShortOutput = refl
+positive E.BadClass = refl
+positive E.TooManyMessages = refl
+positive E.TooManyFrames = refl
+
+pub numbered : (r : Refusal) → eqb (refusal_number r) 0 ≡ false
+numbered r = ne_eqb _ _ (λ z. omega (arith, z, ltb-true 0 (refusal_number r) (positive r)))
+
+pub not-passed : (v u : Verdict) (r : Refusal) → v ≡ u → v ≡ Err r → passed u ≡ false
+not-passed v u r e d = ap (λ (w : Verdict). passed w) (sym e ∙ d) ∙ numbered r
+
+passed-unless : (v : Verdict) → passed v ≡ not (is_err v)
+passed-unless (Ok x) = refl
+passed-unless (Err r) = numbered r
+
+pub asked-passed : (v u : Verdict) (b k : Bool) → v ≡ u → b ≡ is_err v → b ≡ k → passed u ≡ not k
+asked-passed v u b k e d h = ap (λ (w : Verdict). passed w) (sym e) ∙ passed-unless v ∙ ap not (sym d ∙ h)
+
+-- 1 to 3
+pub early : (v : Verdict) (r : Refusal) → v ≡ Err r → (ltb 0 (number_of v) && leb (number_of v) 3) ≡ leb (refusal_number r) 3
+early v r e = ap (λ (w : Verdict). ltb 0 (number_of w) && leb (number_of w) 3) e ∙ ap (λ (b : Bool). b && leb (refusal_number r) 3) (positive r)
+
+-- what a `?` hands on
+pub from-err : {T E : Type 0} (r : Result T E) (e : E) → IsErrAnd r (λ x. x ≡ e) → r ≡ Err e
+from-err (Ok x) e h = absurd h
+from-err (Err x) e h = ap (λ y. Err y) h
 
 -- a test that would have turned the call down
 over_first : (b : Bool) (v w : Verdict) → passed v ≡ false → passed (cond b v w) ≡ true → (b ≡ false) × (passed w ≡ true)

@@ -5,10 +5,11 @@ use mathlib.Core.Bool.{Bool, true, false, cond}
 use mathlib.Core.List.{List, [], ◌∷◌, ◌++◌, map, append-nil}
 use native.Mathlib.Numerals.{add-one}
 use native.Mathlib.Omega.{arith}
-use lib.ListN.{length, take, drop, get_or, set, replicate, length-append, length-drop, length-replicate, length-map, drop_of_length-le, get_or-map}
-use lib.Seq.{drop-cons, take_all}
-use Rattle.laws.specs.Bytes.{overwrite, part}
-use Rattle.laws.proofs.Bytes.{over-cat, over-eq, over-take, over-down}
+use lib.ListN.{length, take, drop, get_or, set, replicate, length-append, length-drop, length-take, length-replicate, length-map, drop_of_length-le, get_or-map}
+use lib.Seq.{drop-cons, take_all, paste}
+use borrow.Rule.Slice.PartMut.{put_mid}
+use Rattle.laws.specs.Bytes.{overwrite}
+use Rattle.laws.proofs.Bytes.{over-cat, over-eq, over-take}
 use Rattle.laws.proofs.Lists.{map-take}
 use Rattle.window.specs.Window.{is_kept, kept_byte, keep_at, keep_from, lead, handed, moved}
 use Rattle.window.proofs.Fits.{drop-lead}
@@ -101,11 +102,22 @@ over-whole l bs e =
     let h : length l ≤ 0 + length bs = omega (arith, e) in
     over-eq l 0 bs (omega (arith, e)) ∙ ap (λ (x : List ℕ). bs ++ x) (drop_of_length-le l h) ∙ append-nil bs
 
-pub slide-more : (w : List ℕ) (n j : ℕ) → n + j < length w → set (overwrite w 0 (part w n j)) j (get_or (overwrite w 0 (part w n j)) (n + j) 0) ≡ overwrite w 0 (part w n (j + 1))
-slide-more w n j h = ap (λ (i : ℕ). set (overwrite w 0 (part w n j)) i (get_or (overwrite w 0 (part w n j)) (n + j) 0)) (from_zero j) ∙ over-down w 0 n j (omega arith) h
+pub slide-all : (w : List ℕ) (n : ℕ) → n ≤ length w → paste w 0 (drop n w) (length w - n) ≡ overwrite w 0 (drop n w)
+slide-all w n h =
+    let size : length w - n ≡ length (drop n w) = omega (arith, length-drop n w) in
+    let fits : 0 + length (drop n w) ≤ length w = omega (arith, length-drop n w) in
+    ap₂ (λ (x : List ℕ) (k : ℕ). x ++ drop (0 + k) w) (take_all (length w - n) (drop n w) (omega (arith, size))) size
+    ∙ sym (over-eq w 0 (drop n w) fits)
 
-pub slide-all : (w : List ℕ) (n j : ℕ) → length w - n ≤ j → overwrite w 0 (part w n j) ≡ overwrite w 0 (drop n w)
-slide-all w n j h = ap (overwrite w 0) (take_all j (drop n w) (omega (arith, length-drop n w, h)))
+pub clear-all : (w f : List ℕ) (n m : ℕ) → n ≤ length w → m ≡ length w - n
+    → f ≡ replicate (length (take (length w - m) (drop m w))) 0 → put_mid m (length w - m) w f ≡ overwrite w m (replicate n 0)
+clear-all w f n m h e z =
+    let size : length (take (length w - m) (drop m w)) ≡ n = omega (arith, length-take (length w - m) (drop m w), length-drop m w) in
+    let fits : m + length (replicate {A = ℕ} n 0) ≤ length w = omega (arith, length-replicate {A = ℕ} n 0) in
+    let after : drop (length w - m) (drop m w) ≡ [] = drop_of_length-le (drop m w) (omega (arith, length-drop m w)) in
+    let end : drop (m + length (replicate {A = ℕ} n 0)) w ≡ [] = drop_of_length-le w (omega (arith, length-replicate {A = ℕ} n 0)) in
+    ap₂ (λ (x y : List ℕ). take m w ++ (x ++ y)) (z ∙ ap (λ (k : ℕ). replicate k 0) size) (after ∙ sym end)
+    ∙ sym (over-eq w m (replicate n 0) fits)
 
 pub slid : (w w1 w2 : List ℕ) (n : ℕ) → n ≡ lead w → length w1 ≡ length w → w1 ≡ overwrite w 0 (drop n w) → w2 ≡ overwrite w1 (length w1 - n) (replicate n 0) → w2 ≡ moved w
 slid w w1 w2 n e l e1 e2 =

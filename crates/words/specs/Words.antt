@@ -1,16 +1,9 @@
 -- The words of docs/CALLS.md: which lists of characters are such a word, and the number that it means. Definitions only.
-use Rattle.std.specs.Prelude.{Bool, true, false, cond, not, ◌&&◌, List, [], ◌∷◌, ℕ, ◌+◌, ◌-◌, ◌*◌, ◌/◌, ◌%◌, leb, ltb, eqb, length, get_or, drop}
+use Rattle.std.specs.Prelude.{Bool, true, false, cond, ◌&&◌, List, [], ◌∷◌, ℕ, ◌+◌, ◌-◌, ◌*◌, ◌/◌, ◌%◌, leb, ltb, eqb, length, get_or, drop}
+use Rattle.std.specs.Prelude.{Option, Some, None, is_some, option_and_then}
+use Rattle.std.specs.Str.{bytes_eq}
 use Rattle.laws.specs.Bytes.{overwrite}
-use Rattle.words.specs.declared.Number.{Number}
 use Rattle.laws.specs.Text.{text}
-
--- the word means n
-abbrev pub is : ℕ → Number
-is n = record { ok = true; value = n }
-
--- no such word
-abbrev pub is_not : Number
-is_not = record { ok = false; value = 0 }
 
 -- ---- digits
 
@@ -23,47 +16,45 @@ unfoldable pub any_digit : ℕ → ℕ
 any_digit c = cond (ltb c 65) (digit_value c) (cond (leb c 70) (c - 55) (digit_value c))
 
 -- one digit more of a number to the base b; a number above 2^64 - 1 is none
-unfoldable pub one_digit_more : ℕ → Number → ℕ → Number
+unfoldable pub one_digit_more : ℕ → ℕ → ℕ → Option ℕ
 one_digit_more b n c =
-    cond (n.ok && (ltb (any_digit c) b && leb (n.value * b + any_digit c) 18446744073709551615)) (is (n.value * b + any_digit c)) is_not
+    cond (ltb (any_digit c) b && leb (n * b + any_digit c) 18446744073709551615) (Some (n * b + any_digit c)) None
 
 -- the digits after those that gave n
-unfoldable pub spelled : ℕ → Number → List ℕ → Number
-spelled b n [] = n
-spelled b n (c ∷ w) = spelled b (one_digit_more b n c) w
+unfoldable pub spelled : ℕ → ℕ → List ℕ → Option ℕ
+spelled b n [] = Some n
+spelled b n (c ∷ w) = option_and_then (λ v. spelled b v w) (one_digit_more b n c)
 
 -- ---- the words
 
 -- two words are the same
-unfoldable pub same : List ℕ → List ℕ → Bool
-same [] [] = true
-same [] (y ∷ ys) = false
-same (x ∷ xs) [] = false
-same (x ∷ xs) (y ∷ ys) = eqb x y && same xs ys
+abbrev pub same : List ℕ → List ℕ → Bool
+same = bytes_eq
 
 -- N: decimal digits, 0 to 2^64 - 1, leading zeros allowed
-unfoldable pub decimal_of : List ℕ → Number
-decimal_of w = cond (eqb (length w) 0) is_not (spelled 10 (is 0) w)
+unfoldable pub decimal_of : List ℕ → Option ℕ
+decimal_of w = cond (eqb (length w) 0) None (spelled 10 0 w)
 
 -- F32 and F64: `0x` and 8 or 16 hexadecimal digits of either case
-unfoldable pub bits_of : ℕ → List ℕ → Number
-bits_of n w = cond (eqb (length w) (n + 2) && (eqb (get_or w 0 0) 48 && eqb (get_or w 1 0) 120)) (spelled 16 (is 0) (drop 2 w)) is_not
+unfoldable pub bits_of : ℕ → List ℕ → Option ℕ
+bits_of n w = cond (eqb (length w) (n + 2) && (eqb (get_or w 0 0) 48 && eqb (get_or w 1 0) 120)) (spelled 16 0 (drop 2 w)) None
 
 -- B: `0` or `1`
-unfoldable pub flag_of : List ℕ → Number
-flag_of w = cond (eqb (length w) 1) (cond (eqb (get_or w 0 0) 48) (is 0) (cond (eqb (get_or w 0 0) 49) (is 1) is_not)) is_not
+unfoldable pub flag_of : List ℕ → Option ℕ
+flag_of w = cond (eqb (length w) 1) (cond (eqb (get_or w 0 0) 48) (Some 0) (cond (eqb (get_or w 0 0) 49) (Some 1) None)) None
 
 -- the word `name`, for which `value` stands
-unfoldable pub named_of : List ℕ → ℕ → List ℕ → Number
-named_of name value w = cond (same w name) (is value) is_not
+unfoldable pub named_of : List ℕ → ℕ → List ℕ → Option ℕ
+named_of name value w = cond (same w name) (Some value) None
 
 -- the word `none`: above every number that a field keeps
-abbrev pub none_of : List ℕ → Number
+abbrev pub none_of : List ℕ → Option ℕ
 none_of = named_of (text "none") 18446744073709551615
 
 -- the first of two readings that there is
-abbrev pub or_else : Number → Number → Number
-or_else a b = cond a.ok a b
+abbrev pub or_else : Option ℕ → Option ℕ → Option ℕ
+or_else (Some n) b = Some n
+or_else None b = b
 
 -- ---- HEX: pairs of lower-case hexadecimal digits, or `-` for no bytes
 
@@ -79,11 +70,11 @@ pair_bytes (h ∷ []) = []
 pair_bytes (h ∷ l ∷ w) = (digit_value h % 16 * 16 + digit_value l % 16) ∷ pair_bytes w
 
 -- the number of bytes, `room` at most
-unfoldable pub hex_count : ℕ → List ℕ → Number
+unfoldable pub hex_count : ℕ → List ℕ → Option ℕ
 hex_count room w =
-    cond (same w (45 ∷ [])) (is 0)
-    (cond (((digits w && eqb (length w % 2) 0) && ltb 0 (length w)) && leb (length w / 2) room) (is (length w / 2)) is_not)
+    cond (same w (45 ∷ [])) (Some 0)
+    (cond (((digits w && eqb (length w % 2) 0) && ltb 0 (length w)) && leb (length w / 2) room) (Some (length w / 2)) None)
 
 -- a word's bytes at the start of what is lent for them, which stays as it was where the word is not HEX
 unfoldable pub hex_into : List ℕ → List ℕ → List ℕ
-hex_into bytes w = cond (hex_count (length bytes) w).ok (overwrite bytes 0 (pair_bytes w)) bytes
+hex_into bytes w = cond (is_some (hex_count (length bytes) w)) (overwrite bytes 0 (pair_bytes w)) bytes

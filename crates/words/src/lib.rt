@@ -2,26 +2,20 @@
 #![tactic(auto)]
 
 ghost use Rattle.std.specs.Prelude.{◌≡◌, ◌≤◌, length};
-ghost use Rattle.words.specs.Lines.{Inside, end_of, first_word, no_cut, next_word, read_to, read_as, chars_of, begun, is_done};
+ghost use Rattle.words.specs.Lines.{Inside, AnyInside, end_of, first_word, next_word, read_to, read_as, chars_of, begun, is_done};
 ghost use Rattle.words.specs.Words.{decimal_of, bits_of, flag_of, none_of, hex_count, hex_into};
 
 mod digits;
 pub mod meaning;
 pub mod taken;
 
-// What a word means: a number, or it is no word of the kind that was asked for.
-#[derive(Clone, Copy)]
-pub struct Number {
-    pub ok: bool,
-    pub value: u64,
-}
+use taken::Taken;
 
-// A word's place in its line, from its first character to past its last; there is none where `ok` is false.
+// A word's place in its line, from its first character to past its last.
 #[derive(Clone, Copy)]
 pub struct Cut {
     pub from: usize,
     pub to: usize,
-    pub ok: bool,
 }
 
 // How far a line was read: the place after its last word, whether all was right so far, and that word's number.
@@ -38,7 +32,7 @@ pub struct Input {
     pub at: usize,
     pub end: usize,
     pub len: usize,
-    pub kind: u8,
+    pub kind: Taken,
 }
 
 // The number of the word `none`: more than any number that is kept.
@@ -49,16 +43,13 @@ fn end_from(line: &[u8], at: usize) -> usize
     requires { at ≤ length line.now }
     ensures { (result ≡ end_of line.now at) × ((at ≤ result) × (result ≤ length line.now)) }
 {
-    let mut e = at;
-    while e < line.len() {
-        if line[e] == 32 {
+    for e in at..line.len() {
+        if line[e] == b' ' {
             return e;
         }
-        e += 1;
     }
-    e
+    line.len()
 }
-
 // The first word.
 fn first_word(line: &[u8]) -> Cut
     ensures { (result ≡ first_word line.now) × Inside result line.now }
@@ -66,49 +57,49 @@ fn first_word(line: &[u8]) -> Cut
     Cut {
         from: 0,
         to: end_from(line, 0),
-        ok: true,
-    }
-}
-
-fn no_word() -> Cut
-    ensures { result ≡ no_cut }
-{
-    Cut {
-        from: 0,
-        to: 0,
-        ok: false,
     }
 }
 
 // The word after what was read.
-pub fn next_word(line: &[u8], r: Read) -> Cut
-    ensures { (result ≡ next_word line.now r) × Inside result line.now }
+pub fn next_word(line: &[u8], r: Read) -> Option<Cut>
+    ensures { (result ≡ next_word line.now r) × AnyInside result line.now }
 {
     let at = r.at;
-    if !r.ok {
-        return no_word();
+    if !r.ok || at >= line.len() {
+        return None;
     }
-    if at >= line.len() {
-        return no_word();
+    if line[at] != b' ' {
+        return None;
     }
-    if line[at] != 32 {
-        return no_word();
-    }
-    Cut {
+    Some(Cut {
         from: at + 1,
         to: end_from(line, at + 1),
-        ok: true,
+    })
+}
+
+// A word's characters; no word has none.
+pub fn chars(line: &[u8], c: Option<Cut>) -> &[u8]
+    requires { AnyInside c line.now }
+    ensures { result.now ≡ chars_of line.now c }
+{
+    match c {
+        Some(c) => &line[c.from..c.to],
+        None => &line[..0],
     }
 }
 
-// The line is read to a word's end.
-pub fn read_to(c: Cut, n: Number) -> Read
+// The line is read to a word's end; without a word, or where it means no number, no more of it is read.
+pub fn read_to(c: Option<Cut>, n: Option<u64>) -> Read
     ensures { result ≡ read_to c n }
 {
+    let at = match c {
+        Some(c) => c.to,
+        None => 0,
+    };
     Read {
-        at: c.to,
-        ok: c.ok & n.ok,
-        value: n.value,
+        at,
+        ok: c.is_some() & n.is_some(),
+        value: n.unwrap_or(0),
     }
 }
 
@@ -116,10 +107,8 @@ pub fn read_to(c: Cut, n: Number) -> Read
 pub fn word(line: &[u8], name: &[u8]) -> Read
     ensures { result ≡ begun line.now name.now }
 {
-    let c = first_word(line);
-    let from = c.from;
-    let to = c.to;
-    read_to(c, meaning::named(&line[from..to], name, 0))
+    let c = Some(first_word(line));
+    read_to(c, meaning::named(chars(line, c), name, 0))
 }
 
 // The end of the line.
@@ -134,18 +123,14 @@ pub fn whole(line: &[u8], r: Read) -> Read
     ensures { result ≡ read_as decimal_of line.now r }
 {
     let c = next_word(line, r);
-    let from = c.from;
-    let to = c.to;
-    read_to(c, meaning::decimal(&line[from..to]))
+    read_to(c, meaning::decimal(chars(line, c)))
 }
 
 fn pattern(line: &[u8], r: Read, n: usize) -> Read
     ensures { result ≡ read_as (bits_of n) line.now r }
 {
     let c = next_word(line, r);
-    let from = c.from;
-    let to = c.to;
-    read_to(c, meaning::bits(&line[from..to], n))
+    read_to(c, meaning::bits(chars(line, c), n))
 }
 
 // F32, by its bits.
@@ -167,9 +152,7 @@ pub fn flag(line: &[u8], r: Read) -> Read
     ensures { result ≡ read_as flag_of line.now r }
 {
     let c = next_word(line, r);
-    let from = c.from;
-    let to = c.to;
-    read_to(c, meaning::flag(&line[from..to]))
+    read_to(c, meaning::flag(chars(line, c)))
 }
 
 // The word `none`.
@@ -177,9 +160,7 @@ pub fn none(line: &[u8], r: Read) -> Read
     ensures { result ≡ read_as none_of line.now r }
 {
     let c = next_word(line, r);
-    let from = c.from;
-    let to = c.to;
-    read_to(c, meaning::named(&line[from..to], b"none", NONE))
+    read_to(c, meaning::named(chars(line, c), b"none", NONE))
 }
 
 // HEX: the bytes are put at the start of `bytes`, and the number is how many there are.
@@ -188,7 +169,5 @@ pub fn hex(line: &[u8], r: Read, bytes: &mut [u8]) -> Read
     ensures bytes_after { bytes.new ≡ hex_into bytes.old (chars_of line.now (next_word line.now r)) }
 {
     let c = next_word(line, r);
-    let from = c.from;
-    let to = c.to;
-    read_to(c, meaning::hex(&line[from..to], bytes))
+    read_to(c, meaning::hex(chars(line, c), bytes))
 }

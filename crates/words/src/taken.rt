@@ -5,16 +5,16 @@ ghost use Rattle.words.specs.Lines.{stand as stand_of, ended_of, one_taken, line
 use crate::Input;
 
 // The line is whole; the input has ended before it; it breaks the rules; it goes on.
-pub const WHOLE: u8 = 0;
-
-pub const END: u8 = 1;
-
-pub const BAD: u8 = 2;
-
-pub const MORE: u8 = 3;
+#[derive(Clone, Copy, PartialEq, Eq)]
+pub enum Taken {
+    Whole,
+    End,
+    Bad,
+    More,
+}
 
 // The input at a place, with a line of `len` characters so far.
-pub fn stand(i: Input, at: usize, len: usize, kind: u8) -> Input
+pub fn stand(i: Input, at: usize, len: usize, kind: Taken) -> Input
     ensures { result ≡ stand_of i at len kind }
 {
     Input {
@@ -30,9 +30,9 @@ fn ended(i: Input) -> Input
     ensures { result ≡ ended_of i }
 {
     if i.len == 0 {
-        return stand(i, i.at, i.len, END);
+        return stand(i, i.at, i.len, Taken::End);
     }
-    stand(i, i.at, i.len, BAD)
+    stand(i, i.at, i.len, Taken::Bad)
 }
 
 // One character more of the line.
@@ -42,22 +42,16 @@ pub fn take(chunk: &[u8], line: &mut [u8], i: Input) -> Input
 {
     let at = i.at;
     let len = i.len;
-    if at >= i.end {
-        return ended(i);
-    }
-    if at >= chunk.len() {
+    if at >= i.end || at >= chunk.len() {
         return ended(i);
     }
     let c = chunk[at];
-    if c == 10 {
-        return stand(i, at + 1, len, WHOLE);
+    if c == b'\n' {
+        return stand(i, at + 1, len, Taken::Whole);
     }
-    if c >= 128 {
-        return stand(i, at + 1, len, BAD);
-    }
-    if len >= line.len() {
-        return stand(i, at + 1, len, BAD);
+    if c >= 128 || len >= line.len() {
+        return stand(i, at + 1, len, Taken::Bad);
     }
     line[len] = c;
-    stand(i, at + 1, len + 1, MORE)
+    stand(i, at + 1, len + 1, Taken::More)
 }

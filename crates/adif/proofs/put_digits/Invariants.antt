@@ -1,4 +1,3 @@
-use Prim.Native.Nat.{◌≤◌}
 use mathlib.Core.Path.{◌≡◌}
 use lib.ListN.{length}
 use Rattle.laws.specs.Bytes.{overwrite}
@@ -7,8 +6,4 @@ use Rattle.adif.proofs.put_digits.Given as goal
 
 abbrev pub invariant-loop-i : goal.invariant-loop-i
 invariant-loop-i l =
-    (l.i ≤ l.k) × (length l.out ≡ length l.initial.out) × (overwrite l.out l.at (last_digits l.i l.rest) ≡ overwrite l.initial.out l.at (last_digits l.k l.n))
-
-abbrev pub decreases-loop-i : goal.decreases-loop-i
-decreases-loop-i l =
-    l.i
+    (length l.out ≡ length l.initial.out) × (overwrite l.out l.at (last_digits l.i l.rest) ≡ overwrite l.initial.out l.at (last_digits l.k l.n))

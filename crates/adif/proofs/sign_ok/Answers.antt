@@ -1,24 +1,25 @@
--- `adif::sign_ok` meets its contract. The loop's invariant: the characters passed are good, so those that are left tell. Assumes nothing.
+-- `adif::sign_ok` meets its contract. Assumes nothing.
 use native.Mathlib.Omega.{arith}
-use Rattle.adif.proofs.Steps.{sign-short, sign-long, sign-start, sign-bad, sign-good, sign-end}
+use borrow.Author.Rules.{rules}
+use borrow.Author.Tests.{tests}
+use Rattle.std.proofs.lemmas.Bool.Decides.{nat_tests}
+use Rattle.std.proofs.lemmas.Iterator.{YieldsList-from_slice}
+use Rattle.std.proofs.lemmas.Iterator.Search.{all_from_yields_List}
+use Rattle.adif.specs.Adif.{sign_char}
+use Rattle.adif.proofs.Steps.{sign-none, sign-long, sign-made}
 use Rattle.adif.proofs.sign_ok.Goals as goal
+use Rattle.adif.proofs.sign_ok.Goals.{then-is_empty-via-then-is_empty, then-is_empty-via-else-is_empty+then-call-gt12}
 
-pub returns-then-call-lt1 : goal.returns-then-call-lt1
-returns-then-call-lt1 c = sign-short _ c.if-call-lt1.true
-
-pub returns-then-call-gt12 : goal.returns-then-call-gt12
-returns-then-call-gt12 c = sign-long _ c.if-call-gt12.true
-
-pub loop-i-init : goal.loop-i-init
-loop-i-init c = (omega arith, sign-start _ (omega arith) (omega arith))
-
-pub returns-then-not-sign_char : goal.returns-then-not-sign_char
-returns-then-not-sign_char c = let p = c in
-    sign-bad _ _ p.loop-i.invariant.1 _ c.sign_char.ensures (omega arith) c.if-not-sign_char.true
-
-pub loop-i-preserved : goal.loop-i-preserved
-loop-i-preserved c = let p = c in
-    (omega arith, sign-good _ _ p.loop-i.invariant.1 _ c.sign_char.ensures (omega arith) c.if-not-sign_char.false)
+pub returns-then-is_empty : goal.returns-then-is_empty
+returns-then-is_empty c =
+    let s = c.args.call.now in
+    elim c.then-is_empty.branch [
+      | then-is_empty-via-then-is_empty w ↦ sign-none s (grind (arith, nat_tests))
+      | then-is_empty-via-else-is_empty+then-call-gt12 w ↦ sign-long s w.if-call-gt12.true
+    ]
 
 pub returns : goal.returns
-returns c = sign-end _ _ c.loop-i.invariant.1 (omega arith)
+returns c =
+    let s = c.args.call.now in
+    sign-made s _ (λ z. grind (arith, nat_tests)) (omega arith)
+    (all_from_yields_List sign_char _ _ _ c.all.ensures.ran (YieldsList-from_slice s cc) (λ x b q k. search (rules, tests)))

@@ -22,4 +22,4 @@ pub overflow_sub-s : goal.overflow_sub-s
 overflow_sub-s g c = omega (arith, c.year_days-n.ensures, least c.loop-y.y)
 
 pub loop-y-preserved : goal.loop-y-preserved
-loop-y-preserved g c = (omega arith, omega arith, omega (arith, c.year_days-n.ensures, most c.loop-y.y))
+loop-y-preserved g c = omega (arith, c.year_days-n.ensures, most c.loop-y.y)

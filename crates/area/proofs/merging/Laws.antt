@@ -3,20 +3,16 @@
 use mathlib.Core.Path.{◌≡◌, sym, ap, ap₂, ◌∙◌}
 use mathlib.Core.List.{List, [], ◌∷◌}
 use mathlib.Core.Bool.{true, false, cond}
-use Prim.Native.Nat.{ℕ, suc, ◌+◌, ◌-◌, ◌≤◌, ◌<◌}
+use Prim.Native.Nat.{ℕ, suc, ◌+◌, ◌-◌, ◌<◌}
 use native.Mathlib.Omega.{arith}
 use lib.ListN.{length}
-use lib.Dec.{leb, eqb}
-use borrow.Author.Tests.{leb-true}
 use Rattle.laws.specs.Bytes.{overwrite}
 use Rattle.laws.proofs.Bytes.{over-cat}
 use Rattle.area.specs.Layout.{place}
 use Rattle.area.specs.Table.{row_at, rows_from, table_bytes}
 use Rattle.area.specs.declared.table.Row.{Row}
 use Rattle.area.proofs.table.Laws.{rows-turn, rows-after}
-use Rattle.laws.proofs.Picks.{and_first, and_second}
-use Rattle.area.specs.Recut.{row, joins_row, merge_rows_from, merge_rows, merge_table}
-use Rattle.area.specs.TableCode.{with_rows}
+use Rattle.area.specs.Recut.{row, joins_row, merge_rows_from}
 
 -- a turn of the loop that joins, where row i is q: it is joined to the row in hand, or that one is written
 module _ (max : ℕ) (held : List ℕ) (p q : Row) (a : List ℕ) (i n w : ℕ) (h : i < n) (e : q ≡ row_at a i) where
@@ -48,6 +44,3 @@ module _ (max : ℕ) (held : List ℕ) (p q : Row) (a : List ℕ) (i n w : ℕ) 
       ap length (merge-keep j)
       ∙ ap (λ (x : List Row). suc (length (merge_rows_from held max q x))) (sym (rows-after a (place w) (table_bytes (p ∷ [])) (i + 1) (n - (i + 1)) (omega arith)))
       ∙ omega arith
-
-pub joins-fits : (held : List ℕ) (max : ℕ) (p q : Row) → joins_row held max p q ≡ true → p.len + q.len ≤ max
-joins-fits held max p q h = leb-true _ _ (and_first (leb (p.len + q.len) max) _ (and_second (eqb (p.off + p.len) q.off) _ h))

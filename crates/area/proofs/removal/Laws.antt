@@ -4,7 +4,7 @@ use mathlib.Core.Path.{◌≡◌, refl, sym, ap, ap₂, ◌∙◌}
 use mathlib.Core.List.{List, [], ◌∷◌, ◌++◌}
 use mathlib.Core.Bool.{Bool, true, false, cond, ◌||◌}
 use Prim.Native.Nat.{ℕ, zero, suc, ◌+◌, ◌-◌, ◌≤◌, ◌<◌, suc-le-suc}
-use native.Mathlib.Nat.{zero-add, sub-zero, le_refl, not-suc-le-zero}
+use native.Mathlib.Nat.{sub-zero, le_refl, not-suc-le-zero}
 use native.Mathlib.Omega.{arith}
 use native.Mathlib.Numerals.{add-one}
 use lib.ListN.{length, take, drop, get_or, set, length-append, length-take, length-drop, length-set, drop_of_length-le}
@@ -142,19 +142,6 @@ pub record Removing (a₀ : List ℕ) (n used : ℕ) (gone a : List ℕ) (from t
   pub rows : length (kept_rows gone (rows_from a₀ 0 n)) ≡ w + length (kept_rows gone (rows_from a i (n - i)))
   pub bytes : total (kept_rows gone (rows_from a₀ 0 n)) ≡ to + total (kept_rows gone (rows_from a i (n - i)))
   pub same : removed a₀ n used gone 0 0 0 0 ≡ removed a n used gone from to w i
-
-pub removing-start : (a : List ℕ) (n used : ℕ) (gone : List ℕ) → total (rows_from a 0 n) ≤ used → Removing a n used gone a 0 0 0 0
-removing-start a n used gone h = record {
-  low = le_refl 0;
-  high = omega arith;
-  back = le_refl 0;
-  none = λ e. refl;
-  fits = rw (sub-zero, zero-add) h;
-  long = refl;
-  rows = simp (sub-zero, zero-add);
-  bytes = simp (sub-zero, zero-add);
-  same = refl;
-}
 
 module _ (a₀ : List ℕ) (n used : ℕ) (gone a : List ℕ) (from to w i : ℕ) (r : Row) (s : Removing a₀ n used gone a from to w i) (h : i < n) (e : r ≡ row_at a i) (u : used ≤ stream_bytes) (l : area_bytes ≤ length a₀) where
   rest : List Row

@@ -15,8 +15,7 @@ use Rattle.area.specs.Layout.{place}
 use Rattle.area.specs.Table.{row_at, rows_from, table_bytes}
 use Rattle.area.specs.declared.table.Row.{Row}
 use Rattle.area.proofs.table.Laws.{rows-turn, rows-add, length-rows, length-table, table-cat, rows_before}
-use Rattle.area.specs.Recut.{row, cut_rows, cut_row, split_rows, split_table}
-use Rattle.area.specs.TableCode.{with_rows}
+use Rattle.area.specs.Recut.{row, cut_rows, cut_row, split_rows}
 
 -- ---- one piece
 

@@ -1,14 +1,12 @@
 -- Turns of the tests' loops.
 -- Assumes nothing.
-use mathlib.Core.Path.{◌≡◌, sym, ap, ap₂, ◌∙◌}
+use mathlib.Core.Path.{◌≡◌, ap}
 use mathlib.Core.List.{List, [], ◌∷◌}
 use mathlib.Core.Bool.{true, ◌&&◌}
 use Prim.Native.Nat.{ℕ, zero, suc, ◌+◌, ◌-◌, ◌*◌, ◌/◌, ◌≤◌, ◌<◌}
 use native.Mathlib.Nat.{not-suc-le-zero, lt-div-mul-add, div-lt_iff_lt-mul}
 use native.Mathlib.Omega.{arith}
-use native.Mathlib.Numerals.{add-one}
-use lib.ListN.{length, drop, get_or, drop_of_length-le}
-use lib.Seq.{drop-cons}
+use lib.ListN.{length, get_or}
 use lib.Dec.{leb, ltb}
 use borrow.Author.Tests.{ltb-true}
 use Rattle.area.specs.Table.{row_at, rows_from, total}
@@ -16,8 +14,7 @@ use Rattle.area.specs.declared.table.Row.{Row}
 use Rattle.area.proofs.table.Laws.{rows-turn}
 use Rattle.laws.proofs.Picks.{and_first, and_second}
 use Rattle.ledger.specs.Cover.{ceil}
-use Rattle.area_check.specs.Rows.{ascends, short_frames_of, held_bits_ok, sent_bits_ok}
-use Rattle.limits.specs.Limits.{max_bits, max_held}
+use Rattle.area_check.specs.Rows.{ascends, short_frames_of, held_bits_ok}
 
 -- ---- a turn of the loop over the rows
 module _ (a : List ℕ) (i n : ℕ) (r : Row) (h : i < n) (e : r ≡ row_at a i) where
@@ -50,27 +47,9 @@ one-short l s h k =
 
 -- ---- lists
 
-pub held-turn : (top : ℕ) (bs : List ℕ) (i : ℕ) → i < length bs → held_bits_ok top (drop i bs) ≡ (ltb 0 (get_or bs i 0) && (ltb (get_or bs i 0) top && held_bits_ok top (drop (i + 1) bs)))
-unfolding held_bits_ok
-held-turn top bs i h = ap (held_bits_ok top) (drop-cons bs i 0 h ∙ ap (λ (k : ℕ). get_or bs i 0 ∷ drop k bs) (sym (add-one i)))
-
-pub held-end : (top : ℕ) (bs : List ℕ) (i : ℕ) → length bs ≤ i → held_bits_ok top (drop i bs) ≡ true
-unfolding held_bits_ok
-held-end top bs i h = ap (held_bits_ok top) (drop_of_length-le bs h)
-
 -- each held piece has bits below `top`
 pub held_below : (top : ℕ) (bs : List ℕ) → held_bits_ok top bs ≡ true → (j : ℕ) → j < length bs → get_or bs j 0 < top
 unfolding held_bits_ok
 held_below top [] t j h = absurd (not-suc-le-zero h)
 held_below top (b ∷ bs) t zero h = ltb-true b top (and_first _ _ (and_second (ltb 0 b) (ltb b top && held_bits_ok top bs) t))
 held_below top (b ∷ bs) t (suc j) h = held_below top bs (and_second (ltb b top) (held_bits_ok top bs) (and_second (ltb 0 b) (ltb b top && held_bits_ok top bs) t)) j (omega arith)
-
-pub sent-turn : (bs hs : List ℕ) (i : ℕ) → i < length bs → i < length hs → sent_bits_ok (drop i bs) (drop i hs)
-    ≡ ((ltb 0 (get_or bs i 0) && leb (get_or bs i 0) max_bits) && ((leb (get_or bs i 0) (get_or hs i 0) && leb (get_or hs i 0) max_held) && sent_bits_ok (drop (i + 1) bs) (drop (i + 1) hs)))
-unfolding sent_bits_ok
-sent-turn bs hs i h k =
-    ap₂ sent_bits_ok (drop-cons bs i 0 h ∙ ap (λ (k : ℕ). get_or bs i 0 ∷ drop k bs) (sym (add-one i))) (drop-cons hs i 0 k ∙ ap (λ (k : ℕ). get_or hs i 0 ∷ drop k hs) (sym (add-one i)))
-
-pub sent-end : (bs hs : List ℕ) (i : ℕ) → length bs ≤ i → sent_bits_ok (drop i bs) (drop i hs) ≡ true
-unfolding sent_bits_ok
-sent-end bs hs i h = ap (λ (l : List ℕ). sent_bits_ok l (drop i hs)) (drop_of_length-le bs h)

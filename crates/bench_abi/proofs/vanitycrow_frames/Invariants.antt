@@ -1,5 +1,4 @@
 use mathlib.Core.Path.{◌≡◌}
-use Prim.Native.Nat.{◌-◌, ◌≤◌}
 use lib.ListN.{length}
 use Rattle.laws.specs.Steps.{steps}
 use Rattle.frame.specs.Table.{table_of}
@@ -8,8 +7,4 @@ use Rattle.bench_abi.proofs.vanitycrow_frames.Given as goal
 
 abbrev pub invariant-loop-i : goal.invariant-loop-i
 invariant-loop-i l =
-    (l.i ≤ l.count) × (l.out ≡ steps (frame_at l.size l.payload) l.i l.initial.out) × (length l.out ≡ length l.initial.out) × (l.t ≡ table_of)
-
-abbrev pub decreases-loop-i : goal.decreases-loop-i
-decreases-loop-i l =
-    l.count - l.i
+    (l.out ≡ steps (frame_at l.size l.payload) l.i l.initial.out) × (length l.out ≡ length l.initial.out) × (l.t ≡ table_of)

@@ -25,21 +25,21 @@ next_low : (snr now : Float) (i : ℕ) (g x : Gear) → g.level ≤ 16 → x ≡
 next_low snr now i g x h e = subst (λ (y : Gear). y.level ≤ 16) (sym e) (on-ack-low new_profile g nine snr now h)
 
 pub loop-i-init : goal.loop-i-init
-loop-i-init c = let e = c.tried-g.ensures in (omega arith, e ∙ steps-none _ _, subst (λ (y : Gear). y.level ≤ 16) (sym e) (omega arith), c.new_profile-cfg.ensures, refl)
+loop-i-init c = let e = c.tried-g.ensures in (e ∙ steps-none _ _, subst (λ (y : Gear). y.level ≤ 16) (sym e) (omega arith), c.new_profile-cfg.ensures, refl)
 
 pub on_ack-g-requires : goal.on_ack-g-requires
 on_ack-g-requires c = let i = c.loop-i.invariant in record {
-  fact_1 = omega (arith, i.2);
-  fact_2 = subst Ranged (sym i.3) (ranged new_profile default-in-range);
+  fact_1 = omega (arith, i.1);
+  fact_2 = subst Ranged (sym i.2) (ranged new_profile default-in-range);
 }
 
 pub loop-i-preserved : goal.loop-i-preserved
-loop-i-preserved c = let i = c.loop-i.invariant in let e = next-is _ _ _ _ c.loop-i.i _ _ i.3 i.4 c.on_ack-g.ensures in (omega arith, steps-more _ _ _ _ _ i.1 e, next_low _ _ c.loop-i.i _ _ i.2 e, i.3, i.4)
+loop-i-preserved c = let i = c.loop-i.invariant in let e = next-is _ _ _ _ c.loop-i._i _ _ i.2 i.3 c.on_ack-g.ensures in (steps-more _ _ _ _ _ i.0 e, next_low _ _ c.loop-i._i _ _ i.1 e, i.2, i.3)
 
 pub returns : goal.returns
 unfolding acks
 returns c =
     let l = c.loop-i in
     let a = c.args in
-    let e : l.i ≡ a.n = omega arith in
-    ap (λ (g : Gear). g.level) l.invariant.1 ∙ ap (λ (k : ℕ). (steps (next a.snr_db a.now) k tried).level) e
+    let e : l._i ≡ a.n = omega arith in
+    ap (λ (g : Gear). g.level) l.invariant.0 ∙ ap (λ (k : ℕ). (steps (next a.snr_db a.now) k tried).level) e

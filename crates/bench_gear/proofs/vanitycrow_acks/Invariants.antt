@@ -1,4 +1,4 @@
-use Prim.Native.Nat.{ℕ, ◌-◌, ◌≤◌}
+use Prim.Native.Nat.{ℕ, ◌≤◌}
 use mathlib.Core.Path.{◌≡◌}
 use lib.Ieee.{Float}
 use Rattle.laws.specs.Steps.{steps}
@@ -13,8 +13,4 @@ next snr now i g = on_ack new_profile g nine snr now
 
 abbrev pub invariant-loop-i : goal.invariant-loop-i
 invariant-loop-i l =
-    (l.i ≤ l.n) × (l.g ≡ steps (next l.snr_db l.now) l.i tried) × (l.g.level ≤ 16) × (l.cfg ≡ new_profile) × (l.burst ≡ nine)
-
-abbrev pub decreases-loop-i : goal.decreases-loop-i
-decreases-loop-i l =
-    l.n - l.i
+    (l.g ≡ steps (next l.snr_db l.now) l._i tried) × (l.g.level ≤ 16) × (l.cfg ≡ new_profile) × (l.burst ≡ nine)

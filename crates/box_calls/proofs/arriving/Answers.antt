@@ -18,7 +18,7 @@ returns c =
     let sizes = replicate most_places a.b.size in
     let frames =
     ap₂ (λ (l : List ℕ) (size : ℕ). overwrite l 0 (frames_at size a.sent.now places)) c.frames_room-bytes.ensures
-    c.frame_size.ensures in
+    c.min-size.ensures in
     c.taken.ensures
     ∙ ap (λ (l : List ℕ). taken_said (text "arrive") false a.b.number a.db l sizes places a.b a.most a.w.now t)
     (c.frames_at.ensures ∙ frames)

@@ -19,7 +19,7 @@ hear_frame-requires c =
     let n = c.heard_words-q.result.len in
     let bytes = c.heard_words-q.new.bytes in
     let frame : take c.least-len.result bytes ≡ take most_bytes (take n bytes) =
-    c.least-len.ensures.a_value ∙ ap (λ (k : ℕ). take k bytes) c.kept_bytes.ensures ∙ take_min n most_bytes bytes in
+    c.least-len.ensures.a_value ∙ ap (λ (k : ℕ). take k bytes) c.min.ensures ∙ take_min n most_bytes bytes in
     taken-few most_bytes (take n bytes) frame
 
 pub returns : goal.returns
@@ -29,6 +29,6 @@ returns c =
     let n = q.result.len in
     let bytes = q.new.bytes in
     let frame : take c.least-len.result bytes ≡ take most_bytes (take n bytes) =
-    c.least-len.ensures.a_value ∙ ap (λ (k : ℕ). take k bytes) c.kept_bytes.ensures ∙ take_min n most_bytes bytes in
+    c.least-len.ensures.a_value ∙ ap (λ (k : ℕ). take k bytes) c.min.ensures ∙ take_min n most_bytes bytes in
     rw (← q.ensures.value, ← q.ensures.bytes_after, ← frame)
     (cond_yes q.result.ok _ _ _ (not-false q.result.ok c.if-not-q.false) c.hear_frame.ensures)

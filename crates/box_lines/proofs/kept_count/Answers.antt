@@ -19,17 +19,17 @@ starts w e = omega (arith, ap (λ (k : ℕ). count (λ (j : ℕ). is_kept (get_o
 pub loop-i-init : goal.loop-i-init
 loop-i-init c =
     let w = c.args.w.now in
-    (starts w c.places_of-end.ensures, omega arith, omega arith)
+    (starts w c.places_of-end.ensures, omega arith)
 
 pub loop-i-preserved-then-w-i-lt256 : goal.loop-i-preserved-then-w-i-lt256
 loop-i-preserved-then-w-i-lt256 c =
     let v = c.loop-i.invariant in
-    (counted-miss _ _ _ _ _ v.0 c.loop-i-test.true (lt-leb _ _ c.if-w-i-lt256.true), omega (arith, v.1), omega (arith, c.loop-i-test.true))
+    (counted-miss _ _ _ _ _ v.0 (omega arith) (lt-leb _ _ c.if-w-i-lt256.true), omega (arith, v.1))
 
 pub loop-i-preserved : goal.loop-i-preserved
 loop-i-preserved c =
     let v = c.loop-i.invariant in
-    (counted-hit _ _ _ _ _ v.0 c.loop-i-test.true (le-leb _ _ c.if-w-i-lt256.false), omega (arith, v.1), omega (arith, c.loop-i-test.true))
+    (counted-hit _ _ _ _ _ v.0 (omega arith) (le-leb _ _ c.if-w-i-lt256.false), omega (arith, v.1))
 
 pub returns : goal.returns
-returns c = sym (counted-end _ _ _ _ _ c.loop-i.invariant.0 c.loop-i-test.false)
+returns c = sym (counted-end _ _ _ _ _ c.loop-i.invariant.0 (omega arith))

@@ -1,4 +1,3 @@
-use Prim.Native.Nat.{◌-◌}
 use mathlib.Core.Path.{◌≡◌}
 use lib.ListN.{length}
 use Rattle.laws.specs.Bytes.{overwrite}
@@ -11,7 +10,3 @@ abbrev pub invariant-loop-n : goal.invariant-loop-n
 invariant-loop-n l =
     Reading l.frames l.line (length l.initial.places) (places_from (length l.initial.places) l.frames l.line l.initial.q) l.q l.n
     × (l.places ≡ overwrite l.initial.places 0 (take l.n (places_from (length l.initial.places) l.frames l.line l.initial.q).0)) × (length l.places ≡ length l.initial.places)
-
-abbrev pub decreases-loop-n : goal.decreases-loop-n
-decreases-loop-n l =
-    length l.initial.places - l.n

@@ -1,26 +1,17 @@
-use lib.ListN.{replicate, length, length-set}
-use Rattle.laws.specs.Bytes.{overwrite}
-use Rattle.laws.proofs.Bytes.{over-nil, over-fill}
-use Prim.Native.Nat.{ℕ, ◌-◌}
-use mathlib.Core.Path.{◌≡◌, refl, sym, ap, ◌∙◌}
+-- `fill` meets its contract. Assumes nothing.
+use Prim.Native.Nat.{ℕ, ◌+◌, ◌-◌, ◌≤◌}
+use mathlib.Core.Path.{◌≡◌, ap, ◌∙◌}
 use native.Mathlib.Omega.{arith}
+use lib.ListN.{length, take, drop, replicate, length-drop, length-replicate}
+use lib.Seq.{length-take-le}
+use Rattle.byte_copy.proofs.Moves.{over-put}
 use Rattle.byte_copy.proofs.fill.Goals as goal
-
-pub loop-j-init : goal.loop-j-init
-loop-j-init c = (omega arith, sym (over-nil _ _), refl)
-
-pub loop-j-preserved : goal.loop-j-preserved
-loop-j-preserved c =
-    let p = c in
-    let a = p.args in (
-      omega arith,
-      rw p.loop-j.invariant.1 (over-fill a.s.now a.at p.loop-j.j a.v),
-      simp length-set p.loop-j.invariant.2,
-    )
 
 pub returns : goal.returns
 returns c =
-    let p = c in
-    let a = p.args in
-    let e : p.loop-j.j ≡ a.n = omega arith in
-    p.loop-j.invariant.1 ∙ ap (λ (k : ℕ). overwrite a.s.now a.at (replicate k a.v)) e
+    let a = c.args in
+    let m = length-replicate a.n a.v in
+    let h : a.at + a.n - a.at ≤ length (drop a.at a.s.now) = simp length-drop (omega (arith, c.requires)) in
+    let e : length (take (a.at + a.n - a.at) (drop a.at a.s.now)) ≡ a.n = length-take-le _ (drop a.at a.s.now) h ∙ omega arith in
+    over-put a.s.now a.at _ c.fill.new.self (replicate a.n a.v) (c.fill.ensures.after (λ y f. f) ∙ ap (λ (k : ℕ). replicate k a.v) e)
+    (omega (arith, m)) (omega (arith, m, c.requires))

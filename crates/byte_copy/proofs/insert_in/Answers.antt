@@ -1,27 +1,20 @@
--- `byte_copy::insert_in` meets its contract.
-use Rattle.laws.specs.Bytes.{overwrite, part}
-use Prim.Native.Nat.{ℕ, ◌-◌}
-use mathlib.Core.Path.{◌≡◌, sym, ap, ◌∙◌}
-use mathlib.Core.List.{List, ◌++◌, append-nil}
+-- `insert_in` meets its contract: the bytes that move up and those that are put in before them are one run. Assumes nothing.
+use Prim.Native.Nat.{ℕ, ◌+◌, ◌-◌, ◌≤◌}
+use mathlib.Core.Path.{ap, ◌∙◌}
+use mathlib.Core.List.{List}
 use native.Mathlib.Omega.{arith}
+use lib.ListN.{length, drop, length-drop}
+use Rattle.laws.specs.Bytes.{overwrite, part}
+use Rattle.laws.proofs.Bytes.{over-front}
+use Rattle.byte_copy.proofs.Moves.{over-paste}
 use Rattle.byte_copy.proofs.insert_in.Goals as goal
 
--- nothing stands behind
-none-behind : (d src : List ℕ) (at end : ℕ) → at ≡ end → overwrite d at src ≡ overwrite d at (src ++ part d at (end - at))
-none-behind d src at end e =
-    let z : end - at ≡ 0 = omega arith in
-    ap (overwrite d at) (sym (append-nil src)) ∙ ap (λ (n : ℕ). overwrite d at (src ++ part d at n)) (sym z)
-
-pub copy_in-requires : goal.copy_in-requires
-copy_in-requires c = omega (arith, c.if-at-end.true, c.requires)
-
-pub returns-then-at-end : goal.returns-then-at-end
-returns-then-at-end c =
-    let a = c.args in
-    c.copy_in.ensures ∙ none-behind a.dst.now a.src.now a.at a.end c.if-at-end.true
-
-pub insert_before-requires : goal.insert_before-requires
-insert_before-requires c = c.requires
-
 pub returns : goal.returns
-returns c = c.insert_before.ensures
+returns c =
+    let a = c.args in
+    let n = a.end - a.at in
+    let h : n ≤ length (drop a.at a.dst.now) = simp length-drop (omega (arith, c.requires)) in
+    c.copy_in.ensures
+    ∙ ap (λ (l : List ℕ). overwrite l a.at a.src.now)
+    (c.copy_within.ensures.after ∙ over-paste a.dst.now (a.at + length a.src.now) (drop a.at a.dst.now) n h (omega (arith, c.requires)))
+    ∙ over-front a.dst.now a.at a.src.now (part a.dst.now a.at n)

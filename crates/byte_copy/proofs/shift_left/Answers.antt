@@ -1,26 +1,15 @@
-use Rattle.laws.specs.Bytes.{overwrite, part}
-use Rattle.laws.proofs.Bytes.{over-nil, over-down}
-use Prim.Native.Nat.{ℕ, ◌-◌}
-use mathlib.Core.Path.{◌≡◌, refl, sym, ap, ◌∙◌}
+-- `shift_left` meets its contract. Assumes nothing.
+use Prim.Native.Nat.{◌+◌, ◌-◌, ◌≤◌}
+use mathlib.Core.Path.{◌≡◌, ap, ◌∙◌}
 use native.Mathlib.Omega.{arith}
-use lib.ListN.{length, length-set}
+use lib.ListN.{length, drop, length-drop}
+use lib.Seq.{paste}
+use Rattle.byte_copy.proofs.Moves.{over-paste}
 use Rattle.byte_copy.proofs.shift_left.Goals as goal
-
-pub loop-j-init : goal.loop-j-init
-loop-j-init c = (omega arith, sym (over-nil _ _), refl)
-
-pub loop-j-preserved : goal.loop-j-preserved
-loop-j-preserved c =
-    let p = c in
-    let a = p.args in (
-      omega arith,
-      rw p.loop-j.invariant.1 (over-down a.s.now a.to a.from p.loop-j.j (omega arith) (omega arith)),
-      simp length-set p.loop-j.invariant.2,
-    )
 
 pub returns : goal.returns
 returns c =
-    let p = c in
-    let a = p.args in
-    let e : p.loop-j.j ≡ a.n = omega arith in
-    p.loop-j.invariant.1 ∙ ap (λ (k : ℕ). overwrite a.s.now a.to (part a.s.now a.from k)) e
+    let a = c.args in
+    let e : a.from + a.n - a.from ≡ a.n = omega arith in
+    let h : a.n ≤ length (drop a.from a.s.now) = simp length-drop (omega (arith, c.requires)) in
+    c.copy_within.ensures.after ∙ ap (paste a.s.now a.to (drop a.from a.s.now)) e ∙ over-paste a.s.now a.to (drop a.from a.s.now) a.n h (omega (arith, c.requires))

@@ -5,8 +5,4 @@ use Rattle.calendar.proofs.date_of.Given as goal
 
 abbrev pub invariant-loop-y : goal.invariant-loop-y
 invariant-loop-y l =
-    (l.y ≤ 2099) × (l.d ≤ l.t / 86400) × (date_of l.t ≡ year_of (2099 - l.y) l.y l.d)
-
-abbrev pub decreases-loop-y : goal.decreases-loop-y
-decreases-loop-y l =
-    2099 - l.y
+    (l.d ≤ l.t / 86400) × (date_of l.t ≡ year_of (2099 - l.y) l.y l.d)

@@ -5,4 +5,4 @@ use Rattle.call_lines.proofs.frame_words.Goals as goal
 pub returns-clause-bytes_after : goal.returns-clause-bytes_after
 returns-clause-bytes_after c =
     frame-said _ _ _ _ _ _ _ _ _ _ _ c.whole-kind.ensures c.whole-flags.ensures c.hex-payload.ensures.value
-    c.hex-payload.ensures.bytes_after c.u8_of.ensures c.fewer-n.ensures c.placed-reception.ensures
+    c.hex-payload.ensures.bytes_after c.u8_of.ensures c.min-n.ensures c.placed-reception.ensures

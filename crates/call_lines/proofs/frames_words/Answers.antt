@@ -12,16 +12,10 @@ pub loop-i-init : goal.loop-i-init
 loop-i-init c =
     let a = c.args in
     let g : FrameWords = record { read = c.whole-count.result; reception = c.no_frames-reception.result; used = 0 } in
-    (omega arith, (omega arith, (refl, frames-start a.line.now c.frame_count-n.result (g, a.bytes.now))))
+    (omega arith, (refl, frames-start a.line.now c.frame_count-n.result (g, a.bytes.now)))
 
 pub frame_words-g-requires : goal.frame_words-g-requires
-frame_words-g-requires c = c.loop-i.invariant.1.0
-
-pub overflow_add-i : goal.overflow_add-i
-overflow_add-i c = omega (arith, c.loop-i-test.true, c.frame_count-n.type_inv)
-
-pub loop-i-smaller : goal.loop-i-smaller
-loop-i-smaller c = omega (arith, c.loop-i-test.true)
+frame_words-g-requires c = c.loop-i.invariant.0
 
 pub loop-i-preserved : goal.loop-i-preserved
 loop-i-preserved c =
@@ -30,19 +24,16 @@ loop-i-preserved c =
     let line : List ℕ = c.args.line.now in
     let n : ℕ = c.frame_count-n.result in
     let t = c.loop-i-test.true in (
-      omega (arith, t),
+      w.ensures.used_in_bounds,
       (
-        w.ensures.used_in_bounds,
-        (
-          w.auto.bytes ∙ l.invariant.1.1.0,
-          ap (λ (g : FrameWords × List ℕ). frame_words_from line (n - (l.i + 1)) (l.i + 1) g) w.ensures.bytes_after
-              ∙ frames-left line n l.i (l.g, l.bytes) t ∙ l.invariant.1.1.1,
-        ),
+        w.auto.bytes ∙ l.invariant.1.0,
+        ap (λ (g : FrameWords × List ℕ). frame_words_from line (n - (l.i + 1)) (l.i + 1) g) w.ensures.bytes_after
+            ∙ frames-left line n l.i (l.g, l.bytes) (omega arith) ∙ l.invariant.1.1,
       ),
     )
 
 pub shape_of-bytes : goal.shape_of-bytes
-shape_of-bytes c = c.loop-i.invariant.1.1.0
+shape_of-bytes c = c.loop-i.invariant.1.0
 
 pub returns : goal.returns
 returns c =
@@ -51,4 +42,4 @@ returns c =
     let n : ℕ = c.frame_count-n.result in
     frames-said a.line.now a.r a.bytes.now _ _ n _ l.g l.bytes _ c.heard_first-h.ensures
     c.whole-count.ensures c.frame_count-n.ensures c.no_frames-reception.ensures
-    (sym (frames-over a.line.now n l.i (l.g, l.bytes) c.loop-i-test.false) ∙ l.invariant.1.1.1) c.done.ensures
+    (sym (frames-over a.line.now n l.i (l.g, l.bytes) (omega arith)) ∙ l.invariant.1.1) c.done.ensures

@@ -6,9 +6,5 @@ use Rattle.call_lines.proofs.frames_words.Given as goal
 
 abbrev pub invariant-loop-i : goal.invariant-loop-i
 invariant-loop-i l =
-    (l.i ≤ l.n) × ((l.g.used ≤ length l.bytes) × ((length l.bytes ≡ length l.initial.bytes)
-    × (frame_words_from l.line (l.n - l.i) l.i (l.g, l.bytes) ≡ frame_words_from l.line l.n 0 (l.initial.g, l.initial.bytes))))
-
-abbrev pub decreases-loop-i : goal.decreases-loop-i
-decreases-loop-i l =
-    l.n - l.i
+    (l.g.used ≤ length l.bytes) × ((length l.bytes ≡ length l.initial.bytes)
+    × (frame_words_from l.line (l.n - l.i) l.i (l.g, l.bytes) ≡ frame_words_from l.line l.n 0 (l.initial.g, l.initial.bytes)))

@@ -10,4 +10,4 @@ returns c =
     let p3 = p4 in
     let p2 = p3 in
     let p1 = p2 in
-    rw (c.single_of.ensures, p5.u8_of.ensures, p4.of_bits64.ensures, p3.single-here.ensures, p2.whole-wave.ensures, p1.double-time.ensures)
+    rw (c.single_of.ensures, p5.u8_of.ensures, p4.of_bits.ensures, p3.single-here.ensures, p2.whole-wave.ensures, p1.double-time.ensures)

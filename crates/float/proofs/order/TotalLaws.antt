@@ -1,12 +1,11 @@
 -- `total_le`, by the tests that the code makes: a NaN or smaller, and of two equal values by the bits. Assumes nothing.
-use Rattle.std.proofs.Common.{◌≡◌, ℕ, zero, suc, ◌*◌, ◌<◌, Bool, true, false, cond, not, ◌&&◌, ◌||◌, T, eqb, leb, List, [], ◌∷◌, get_or, ℤ, pos, sym, refl, ap, ◌∙◌, subst, true≢false, le_of_eq, lt_irrefl, zero-lt-suc, mul-pos, arith, eqb→eq, le-leb}
+use Rattle.std.proofs.Common.{◌≡◌, ℕ, zero, suc, ◌*◌, ◌<◌, Bool, true, false, cond, not, ◌&&◌, ◌||◌, T, eqb, leb, List, [], ◌∷◌, get_or, ℤ, pos, sym, refl, ap, ap₂, ◌∙◌, subst, true≢false, le_of_eq, lt_irrefl, zero-lt-suc, mul-pos, arith, eqb→eq, le-leb}
 use mathlib.Core.Bool.{false≢true}
-use lib.Ieee.{Float, nan, inf, fin, Format, binary32, binary64, up, down, lt, eq, ne, to_bits, fits, is_nan}
+use lib.Ieee.{Float, nan, inf, fin, Format, binary32, binary64, up, down, lt, eq, to_bits, fits, is_nan}
 use lib.Ieee.Fits.{up_pos, down_pos, and_l, and_r}
 use Rattle.ieee.proofs.Tests.{yes}
-use Rattle.ieee.proofs.Value.{ne-self}
 use Rattle.ieee.proofs.Representable.{unique, zero_exp}
-use Rattle.float.specs.Total.{sign, total_le, insert, sort, median_f}
+use Rattle.float.specs.Total.{sign, level, total_le, insert, sort, median_f}
 
 -- ---- equal values
 same_bits : (f : Format) (x y : Float) → x ≡ y → leb (to_bits f y) (to_bits f x) ≡ true
@@ -64,30 +63,27 @@ equal_no_nan (fin s m e) nan h = absurd (false≢true h)
 equal_no_nan (fin s m e) (inf t) h = (tt, tt)
 equal_no_nan (fin s m e) (fin t n d) h = (tt, tt)
 
-pub total_first : (x y : Float) → (ne x x || lt x y) ≡ true → true ≡ total_le x y
+pub total_first : (x y : Float) (a b : Bool) → a ≡ is_nan x → b ≡ lt x y → (a || b) ≡ true → true ≡ total_le x y
 unfolding total_le
-total_first x y h = go (is_nan x) (lt x y) (eq x y && (sign x || not (sign y))) (ap (λ (a : Bool). a || lt x y) (sym (ne-self x)) ∙ h)
+total_first x y a b e f h = go (is_nan x) (lt x y) (level x y) (ap₂ (λ (p q : Bool). p || q) (sym e) (sym f) ∙ h)
   where
-    go : (a b c : Bool) → (a || b) ≡ true → true ≡ (a || (b || c))
-    go true b c h = refl
-    go false true c h = refl
-    go false false c h = absurd (false≢true h)
+    go : (p q r : Bool) → (p || q) ≡ true → true ≡ (p || (q || r))
+    go true q r h = refl
+    go false true r h = refl
+    go false false r h = absurd (false≢true h)
 
 -- the test failed
-rest : (x y : Float) → (ne x x || lt x y) ≡ false → total_le x y ≡ (eq x y && (sign x || not (sign y)))
+pub total_rest : (x y : Float) (a b : Bool) → a ≡ is_nan x → b ≡ lt x y → (a || b) ≡ false → total_le x y ≡ level x y
 unfolding total_le
-rest x y h = go (is_nan x) (lt x y) (eq x y && (sign x || not (sign y))) (ap (λ (a : Bool). a || lt x y) (sym (ne-self x)) ∙ h)
+total_rest x y a b e f h = go (is_nan x) (lt x y) (level x y) (ap₂ (λ (p q : Bool). p || q) (sym e) (sym f) ∙ h)
   where
-    go : (a b c : Bool) → (a || b) ≡ false → (a || (b || c)) ≡ c
-    go true b c h = absurd (true≢false h)
-    go false true c h = absurd (true≢false h)
-    go false false c h = refl
+    go : (p q r : Bool) → (p || q) ≡ false → (p || (q || r)) ≡ r
+    go true q r h = absurd (true≢false h)
+    go false true r h = absurd (true≢false h)
+    go false false r h = refl
 
-pub total-level : (f : Format) (x y : Float) → T (fits f x) → T (fits f y) → (ne x x || lt x y) ≡ false → eq x y ≡ true → leb (to_bits f y) (to_bits f x) ≡ total_le x y
-total-level f x y F G h k = level-bits f x y F G (yes k) ∙ sym (rest x y h ∙ ap (λ (b : Bool). b && (sign x || not (sign y))) k)
-
-pub total-other : (x y : Float) → (ne x x || lt x y) ≡ false → eq x y ≡ false → false ≡ total_le x y
-total-other x y h k = sym (rest x y h ∙ ap (λ (b : Bool). b && (sign x || not (sign y))) k)
+pub level-yes : (f : Format) (x y : Float) → T (fits f x) → T (fits f y) → eq x y ≡ true → leb (to_bits f y) (to_bits f x) ≡ level x y
+level-yes f x y F G k = level-bits f x y F G (yes k) ∙ ap (λ (b : Bool). b && (sign x || not (sign y))) (sym k)
 
 -- ---- the second of three
 pub second_is : (x p q : Float) → get_or (insert x (p ∷ q ∷ [])) 1 nan ≡ cond (total_le x p) p (cond (total_le x q) x q)

@@ -15,4 +15,4 @@ returns c =
     let s = h in
     let k = frame-room _ _ s.requires.2 s.requires.3 in
     let e = hd.copy_in.ensures ∙ ap (overwrite _ s.args.at) h.head-h.ensures in
-    frame_made _ _ _ _ _ s.requires.1 k _ _ _ (body-made _ _ _ _ _ s.requires.1 k _ _ _ e cp.copy_in-2.ensures fl.fill.ensures) cr.crc32_by-c.ensures st.store32.ensures
+    frame_made _ _ _ _ _ s.requires.1 k _ _ _ (body-made _ _ _ _ _ s.requires.1 k _ _ _ e cp.copy_in-2.ensures fl.fill.ensures) cr.crc32_by-c.ensures st.store.ensures

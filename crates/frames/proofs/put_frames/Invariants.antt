@@ -10,7 +10,3 @@ abbrev pub invariant-loop-i : goal.invariant-loop-i
 invariant-loop-i l =
     (l.i ≤ l.n) × (length l.out ≡ length l.initial.out) × (l.at + length (frames_written l.size (slots_from l.s l.i (l.n - l.i)) l.a) ≤ length l.initial.out) × SlotsFit l.size (length l.a) (slots_from l.s l.i (l.n - l.i))
     × (overwrite l.initial.out 0 (frames_written l.size (slots_from l.s 0 l.n) l.a) ≡ overwrite l.out l.at (frames_written l.size (slots_from l.s l.i (l.n - l.i)) l.a))
-
-abbrev pub decreases-loop-i : goal.decreases-loop-i
-decreases-loop-i l =
-    l.n - l.i

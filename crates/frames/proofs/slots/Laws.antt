@@ -2,10 +2,10 @@
 -- Assumes nothing.
 use mathlib.Core.Path.{◌≡◌, refl, sym, ap, ap₂, ◌∙◌}
 use mathlib.Core.List.{List, [], ◌∷◌, ◌++◌}
-use mathlib.Core.Bool.{Bool, true, false, cond, ◌&&◌}
+use mathlib.Core.Bool.{Bool, true, false, cond}
 use mathlib.Core.Logic.{◌⊎◌, inl, inr, ⊎_elim}
 use Prim.Native.Nat.{ℕ, zero, suc, ◌+◌, ◌-◌, ◌≤◌, ◌<◌, min, suc-le-suc}
-use native.Mathlib.Nat.{zero-add, add-zero, add_assoc, sub-zero, not-suc-le-zero}
+use native.Mathlib.Nat.{add-zero, add_assoc, not-suc-le-zero}
 use native.Mathlib.Omega.{arith}
 use native.Mathlib.Numerals.{add-one, sub-one}
 use lib.ListN.{length, take, drop, get_or, drop_of_length-le}
@@ -37,9 +37,6 @@ pub record Choosing (s₀ : Slots) (a : List ℕ) (n : ℕ) (held : List ℕ) (r
   pub space : s.n + left ≤ max_slots
   pub fits : start + total (rows_from a i (n - i)) ≤ stream_bytes
   pub same : push_all s₀ (take room (unheld_slots held bits 0 (rows_from a 0 n))) ≡ push_all s (take left (unheld_slots held bits start (rows_from a i (n - i))))
-
-pub choosing-start : (s : Slots) (a : List ℕ) (n : ℕ) (held : List ℕ) (room bits : ℕ) → s.n + room ≤ max_slots → total (rows_from a 0 n) ≤ stream_bytes → Choosing s a n held room bits s room 0 0
-choosing-start s a n held room bits h t = record { high = omega arith; space = h; fits = rw (sub-zero, zero-add) t; same = rw sub-zero refl }
 
 pub choosing-full : (s₀ : Slots) (a : List ℕ) (n : ℕ) (held : List ℕ) (room bits : ℕ) (s : Slots) (left start i : ℕ) → Choosing s₀ a n held room bits s left start i → left ≡ 0
     → s ≡ push_all s₀ (take room (unheld_slots held bits 0 (rows_from a 0 n)))
@@ -108,18 +105,6 @@ pub record Adding (s₀ : Slots) (a₀ : List ℕ) (n room max next at w bits : 
   pub bytes : total (chunk_rows room max next w) ≡ done + total (chunk_rows left max (next + done) (w - done))
   pub same : overwrite a₀ (place n) (table_bytes (chunk_rows room max next w)) ≡ overwrite a (place i) (table_bytes (chunk_rows left max (next + done) (w - done)))
 
-pub adding-start : (s : Slots) (a : List ℕ) (n room max next at w bits : ℕ) → s.n + room ≤ max_slots → n + room ≤ max_pieces → Adding s a n room max next at w bits a s room 0 n
-adding-start s a n room max next at w bits h k = record {
-  within = omega arith;
-  space = h;
-  rows = k;
-  long = refl;
-  slots = simp (add-zero, sub-zero);
-  count = simp (add-zero, sub-zero);
-  bytes = simp (add-zero, sub-zero, zero-add);
-  same = simp (add-zero, sub-zero);
-}
-
 module _ (s₀ : Slots) (a₀ : List ℕ) (n room max next at w bits : ℕ) (a : List ℕ) (s : Slots) (left done i : ℕ) (g : Adding s₀ a₀ n room max next at w bits a s left done i) where
   pub adding-end : (left ≡ 0) ⊎ (w ≤ done)
       → (record { slots = s; rows = i; bytes = done }, a) ≡ added_pieces a₀ n room max next at w bits s₀
@@ -169,12 +154,6 @@ pub new-facts : (a : List ℕ) (n room max next at w bits : ℕ) (s : Slots) (k 
 unfolding added_pieces
 new-facts a n room max next at w bits s k b e =
     (ap (λ (x : Added × List ℕ). x.0.slots) e, ap (λ (x : Added × List ℕ). x.0.rows) e, ap (λ (x : Added × List ℕ). x.0.bytes) e, ap (λ (x : Added × List ℕ). x.1) e)
-
--- ---- a test of two parts
-
-pub and-either : (x y : Bool) → (x && y) ≡ false → (x ≡ false) ⊎ (y ≡ false)
-and-either true y h = inr h
-and-either false y h = inl refl
 
 -- ---- increments
 

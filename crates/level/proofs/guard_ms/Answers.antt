@@ -2,14 +2,14 @@ use Rattle.laws.proofs.Picks.{picks}
 use Rattle.level.specs.Ladder.{guard_ms}
 use Rattle.level.proofs.guard_ms.Goals as goal
 
-pub returns-then-w-eq4 : goal.returns-then-w-eq4
+pub returns-in-0-to-2 : goal.returns-in-0-to-2
 unfolding guard_ms
-returns-then-w-eq4 c = search picks
+returns-in-0-to-2 c = search picks
 
-pub returns-then-w-ge3 : goal.returns-then-w-ge3
+pub returns-in-4 : goal.returns-in-4
 unfolding guard_ms
-returns-then-w-ge3 c = search picks
+returns-in-4 c = search picks
 
-pub returns : goal.returns
+pub returns-in_default : goal.returns-in_default
 unfolding guard_ms
-returns c = search picks
+returns-in_default c = search picks

@@ -7,13 +7,13 @@ use Rattle.level.proofs.top_level_in.Goals as goal
 
 pub loop-k-init : goal.loop-k-init
 unfolding top_level_in
-loop-k-init c = (refl, omega arith)
+loop-k-init c = refl
 
 pub returns-then-wave_rank-w : goal.returns-then-wave_rank-w
-returns-then-wave_rank-w c = sym (c.loop-k.invariant.0 ∙ highest-hit _ _ _ (omega arith) (le-leb _ _ (rw c.wave_rank.ensures at c.if-wave_rank-w.true)))
+returns-then-wave_rank-w c = sym (c.loop-k.invariant ∙ highest-hit _ _ _ (omega arith) (le-leb _ _ (rw c.wave_rank.ensures at c.if-wave_rank-w.true)))
 
 pub loop-k-preserved : goal.loop-k-preserved
-loop-k-preserved c = (c.loop-k.invariant.0 ∙ highest-miss _ _ _ (omega arith) (lt-leb _ _ (rw c.wave_rank.ensures at c.if-wave_rank-w.false)), omega arith)
+loop-k-preserved c = (c.loop-k.invariant ∙ highest-miss _ _ _ (omega arith) (lt-leb _ _ (rw c.wave_rank.ensures at c.if-wave_rank-w.false)))
 
 pub returns : goal.returns
-returns c = let e : c.loop-k.k ≡ 0 = omega arith in highest-none _ _ ∙ sym (rw e at c.loop-k.invariant.0)
+returns c = let e : c.loop-k.k ≡ 0 = omega arith in highest-none _ _ ∙ sym (rw e at c.loop-k.invariant)

@@ -13,10 +13,10 @@ unfolding airtime_of
 returns-then-cued c =
     let b = c in
     simp (
-      c.capped_add.ensures,
+      c.saturating_add.ensures,
       c.to_millis-then-cued.ensures,
       c.if-cued.true,
-      b.capped_add-burst.ensures,
+      b.saturating_add-burst.ensures,
       b.to_millis.ensures,
       b.duration.ensures,
       ne_eqb _ _ b.if-frames-eq0.false,
@@ -28,7 +28,7 @@ returns c =
     let b = c in
     simp (
       c.if-cued.false,
-      b.capped_add-burst.ensures,
+      b.saturating_add-burst.ensures,
       b.to_millis.ensures,
       b.duration.ensures,
       ne_eqb _ _ b.if-frames-eq0.false,

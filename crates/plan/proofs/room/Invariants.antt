@@ -7,7 +7,3 @@ use Rattle.plan.proofs.room.Given as goal
 abbrev pub invariant-loop-r : goal.invariant-loop-r
 invariant-loop-r l =
     (l.r ≤ max_slots) × (room_counted l.c l.n l.stored l.bits max_slots 0 ≡ room_down l.c l.bits l.r)
-
-abbrev pub decreases-loop-r : goal.decreases-loop-r
-decreases-loop-r l =
-    l.r

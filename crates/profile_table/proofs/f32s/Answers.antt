@@ -11,7 +11,7 @@ loop-l-init c = (search rules, row-none (λ (k : ℕ). single_at c.args.v.now (c
 
 pub loop-l-preserved : goal.loop-l-preserved
 loop-l-preserved c = (
-  (search rules, simp length-set (search rules)),
+  simp length-set c.loop-l.invariant.0,
   row-turn
       (λ (k : ℕ). single_at c.args.v.now (c.args.from + k))
       c.loop-l.l c.loop-l.x _ (search rules) c.loop-l.invariant.1 c.f32_at.ensures,
@@ -19,4 +19,4 @@ loop-l-preserved c = (
 
 pub returns : goal.returns
 returns c = row-end (λ (k : ℕ). single_at c.args.v.now (c.args.from + k)) 17 c.loop-l.l _
-    c.loop-l.invariant.0.1 (search rules) (search rules) c.loop-l.invariant.1
+    c.loop-l.invariant.0 (search rules) (search rules) c.loop-l.invariant.1

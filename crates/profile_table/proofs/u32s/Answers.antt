@@ -12,7 +12,7 @@ loop-l-init c = (search rules, row-none (λ (k : ℕ). or_most c.args.most (get_
 
 pub loop-l-preserved : goal.loop-l-preserved
 loop-l-preserved c = (
-  (search rules, simp length-set (search rules)),
+  simp length-set c.loop-l.invariant.0,
   row-turn
       (λ (k : ℕ). or_most c.args.most
       (get_or c.args.v.now (c.args.from + 4 * k) 0))
@@ -23,4 +23,4 @@ loop-l-preserved c = (
 pub returns : goal.returns
 returns c = row-end (λ (k : ℕ). or_most c.args.most
     (get_or c.args.v.now (c.args.from + 4 * k) 0)) 17 c.loop-l.l _
-    c.loop-l.invariant.0.1 (search rules) (search rules) c.loop-l.invariant.1
+    c.loop-l.invariant.0 (search rules) (search rules) c.loop-l.invariant.1

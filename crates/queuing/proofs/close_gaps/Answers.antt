@@ -2,9 +2,9 @@
 use mathlib.Core.Bool.{Bool, true, false, not, ◌&&◌, ◌||◌}
 use mathlib.Core.Path.{◌≡◌, sym, ap, subst, ◌∙◌}
 use mathlib.Core.List.{List}
-use Prim.Native.Nat.{ℕ, ◌+◌, ◌-◌, ◌≤◌}
+use Prim.Native.Nat.{ℕ, ◌+◌, ◌≤◌, ◌<◌}
 use native.Mathlib.Omega.{arith}
-use lib.ListN.{length, get_or}
+use lib.ListN.{get_or}
 use Rattle.ledger.specs.Queue.{withdraws}
 use Rattle.queuing.proofs.Gaps.{Closing, stays-test, entry-fits, closing-start, closing-gone, closing-kept, closing_end}
 use Rattle.queuing.proofs.close_gaps.Goals as goal
@@ -13,22 +13,14 @@ use Rattle.queuing.proofs.close_gaps.Goals.{then-begun-withdraws, else-begun-wit
 pub loop-i-init : goal.loop-i-init
 loop-i-init c = closing-start _ _ _ _ c.requires.1
 
-pub overflow_cast-l : goal.overflow_cast-l
-overflow_cast-l c = omega (arith, entry-fits _ _ _ _ _ _ _ _ _ c.loop-i.invariant c.loop-i-test.true)
-
 pub shift_left-requires : goal.shift_left-requires
 shift_left-requires c =
-    (c.loop-i.invariant.back, entry-fits _ _ _ _ _ _ _ _ _ c.loop-i.invariant c.loop-i-test.true)
-
-pub overflow_add-to : goal.overflow_add-to
-overflow_add-to c =
-    omega (arith, entry-fits _ _ _ _ _ _ _ _ _ c.loop-i.invariant c.loop-i-test.true, c.loop-i.invariant.back)
-
-pub overflow_add-from : goal.overflow_add-from
-overflow_add-from c = omega (arith, entry-fits _ _ _ _ _ _ _ _ _ c.loop-i.invariant c.loop-i-test.true)
+    let h : c.loop-i.i < c.args.m.n = omega arith in
+    (c.loop-i.invariant.back, entry-fits _ _ _ _ _ _ _ _ _ c.loop-i.invariant h)
 
 pub loop-i-preserved : goal.loop-i-preserved
 loop-i-preserved c =
+    let h : c.loop-i.i < c.args.m.n = omega arith in
     let a = c.args in
     let v = c.loop-i.invariant in
     let l = get_or a.m.left c.loop-i.i 0 in
@@ -38,20 +30,15 @@ loop-i-preserved c =
     elim c.if-begun-withdraws.branch [
       | then-begun-withdraws w ↦
           subst (next c.if-begun-withdraws.a) (sym w.to-is)
-          (closing-kept _ _ _ _ _ _ _ _ _ v c.loop-i-test.true c.if-begun-withdraws.a (test true w.if-begun-withdraws.true) (w.a-is ∙ w.shift_left.ensures))
+          (closing-kept _ _ _ _ _ _ _ _ _ v h c.if-begun-withdraws.a (test true w.if-begun-withdraws.true) (w.a-is ∙ w.shift_left.ensures))
       | else-begun-withdraws w ↦
           subst (next c.if-begun-withdraws.a) (sym w.to-is)
           (subst (λ (y : List ℕ). next y c.loop-i.to) (sym w.a-is)
-          (closing-gone _ _ _ _ _ _ _ _ _ v c.loop-i-test.true (test false w.if-begun-withdraws.false)))
+          (closing-gone _ _ _ _ _ _ _ _ _ v h (test false w.if-begun-withdraws.false)))
     ]
-
-pub overflow_sub-result : goal.overflow_sub-result
-overflow_sub-result c = c.loop-i.invariant.low
-
-pub shape_of-a : goal.shape_of-a
-shape_of-a c = c.loop-i.invariant.long
 
 pub returns : goal.returns
 returns c =
-    let e = closing_end _ _ _ _ _ _ _ _ _ c.loop-i.invariant c.loop-i-test.false in
+    let h : c.args.m.n ≤ c.loop-i.i = omega arith in
+    let e = closing_end _ _ _ _ _ _ _ _ _ c.loop-i.invariant h in
     record { value = e.0; a_after = e.1 }

@@ -1,12 +1,10 @@
 -- `queuing::enqueue` meets its contract: what `withdrawn` and `put_in` leave is what `queued_waiting` says.
 use mathlib.Core.Path.{sym, ap, ap₂, subst, ◌∙◌}
 use mathlib.Core.List.{List}
-use Prim.Native.Nat.{ℕ, ◌≤◌}
+use Prim.Native.Nat.{ℕ}
 use native.Mathlib.Omega.{arith}
 use lib.ListN.{length}
 use borrow.Author.Rules.{rules}
-use Rattle.limits.specs.Limits.{max_messages}
-use Rattle.messages.specs.SoundCode.{Sized}
 use Rattle.queuing.specs.StationCode.{Room, put_in}
 use Rattle.queuing.specs.declared.Waiting.{Waiting}
 use Rattle.queuing.proofs.Queuing.{queued-none, queued-steps, stayed-room}

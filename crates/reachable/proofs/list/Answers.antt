@@ -5,12 +5,11 @@ use Rattle.reachable.proofs.list.Goals as goal
 use Rattle.reachable.proofs.list.Goals.{then-k-lt-NO_Q, else-k-lt-NO_Q}
 
 pub loop-l-init : goal.loop-l-init
-loop-l-init c = (omega arith, omega arith, filled_none _)
+loop-l-init c = (omega arith, filled_none _)
 
 pub loop-l-preserved : goal.loop-l-preserved
 loop-l-preserved c =
-    let i = c.loop-l.invariant.2 in (
-      omega arith,
+    let i = c.loop-l.invariant.1 in (
       elim c.if-k-lt-NO_Q.branch [ then-k-lt-NO_Q w ↦ omega arith | else-k-lt-NO_Q w ↦ omega arith ],
       elim c.if-k-lt-NO_Q.branch [
         | then-k-lt-NO_Q w ↦
@@ -21,4 +20,4 @@ loop-l-preserved c =
     )
 
 pub returns : goal.returns
-returns c = filled-all _ _ _ _ _ c.loop-l.invariant.2 (omega arith)
+returns c = filled-all _ _ _ _ _ c.loop-l.invariant.1 (omega arith)

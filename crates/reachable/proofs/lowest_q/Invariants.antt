@@ -7,7 +7,3 @@ use Rattle.reachable.proofs.lowest_q.Given as goal
 abbrev pub invariant-loop-q : goal.invariant-loop-q
 invariant-loop-q l =
     (l.low ≤ l.q) × (l.q ≤ l.high + 1) × (l.lowest ≡ lowest_from (chosen_by l.marks l.power l.class l.top) l.q (l.high + 1))
-
-abbrev pub decreases-loop-q : goal.decreases-loop-q
-decreases-loop-q l =
-    l.q

@@ -12,6 +12,8 @@ use lib.ListN.{length}
 use borrow.Author.Tests.{eq-eqb}
 use Rattle.laws.specs.Bytes.{Bytes}
 use Rattle.laws.proofs.Picks.{cond_yes, cond_no}
+use Rattle.report.specs.Ack.{report_of}
+use Rattle.report.specs.declared.ChanReport.{ChanReport}
 use Rattle.report.specs.declared.ack.AckInfo.{AckInfo}
 use Rattle.config.specs.Durations.{ack_at}
 use Rattle.config.specs.declared.Profile.{Profile}
@@ -133,26 +135,27 @@ module _ (p : Profile) (s : Sender) (a : List ℕ) (an : ReplyReady p s a) (ar :
       (λ j l. ap (λ (x : ℕ). reply.bit x (0 + j)) n ∙ bits-short r.burst r.bitmap s.last_burst.n few j l)
       ∙ counted-first p h reply r.stored r.snr_db h.time (with_link (with_gear s (with_class s.gear r.class)) path) a)
 
-  pub long-awaited : (r : LongAck) (i : AckInfo) (g : Gear) (k : Link) (ms : ℕ) (db : Float) (q : Sender) (b : List ℕ)
-      → g ≡ with_class s.gear i.report.class
+  pub long-awaited : (r : LongAck) (i : AckInfo) (c : ChanReport) (g : Gear) (k : Link) (ms : ℕ) (db : Float) (q : Sender) (b : List ℕ)
+      → c ≡ report_of i → g ≡ with_class s.gear c.class
       → k ≡ ack_noted s.link h.time r.want_turn r.want_disc i.burst → ms ≡ counts → db ≡ long_db p i
       → (q, b) ≡ acked_by p i.burst i.bitmap r.stored db h.time
-      (with_air (with_link (with_gear s g) (with_path k i.report.slot i.report.doppler_hz)) ms) a
+      (with_air (with_link (with_gear s g) (with_path k c.slot c.doppler_hz)) ms) a
       → k.awaiting ≡ true → (q, b) ≡ long_acked p h r i s a
   unfolding long_acked
-  long-awaited r i g k ms db q b e₁ e₂ e₅ e₃ e₄ t =
+  long-awaited r i c g k ms db q b e₀ e₁ e₂ e₅ e₃ e₄ t =
+      let e₆ = e₁ ∙ ap (λ (x : ChanReport). with_class s.gear x.class) e₀ in
       let aw : s.link.awaiting ≡ true = sym (ap (λ (x : Link). x.awaiting) e₂) ∙ t in
       let note = ack_noted s.link h.time r.want_turn r.want_disc i.burst in
-      let path = with_path note i.report.slot i.report.doppler_hz in
+      let path = with_path note (report_of i).slot (report_of i).doppler_hz in
       let reply = long_ack i.burst i.bitmap in
       cond_yes _ _ _ _ aw
       (e₄
       ∙ (λ j. acked_by p i.burst i.bitmap r.stored (e₃ j) h.time
-      (with_air (with_link (with_gear s (e₁ j)) (with_path (e₂ j) i.report.slot i.report.doppler_hz)) (e₅ j)) a)
-      ∙ given_is p s a an ar by (with_class s.gear i.report.class) path counts
+      (with_air (with_link (with_gear s (e₆ j)) (with_path (e₂ j) (e₀ j).slot (e₀ j).doppler_hz)) (e₅ j)) a)
+      ∙ given_is p s a an ar by (with_class s.gear (report_of i).class) path counts
       reply i.bitmap r.stored (long_db p i) h.time aw refl
       (bits-long i.burst i.bitmap s.last_burst.n (length (sent_in s.last_burst)))
-      ∙ counted-first p h reply r.stored (long_db p i) h.time (with_link (with_gear s (with_class s.gear i.report.class)) path) a)
+      ∙ counted-first p h reply r.stored (long_db p i) h.time (with_link (with_gear s (with_class s.gear (report_of i).class)) path) a)
 
 -- ---- those that are not
 

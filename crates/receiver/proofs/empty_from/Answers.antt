@@ -1,6 +1,5 @@
 -- `empty_from` meets its contract: the places passed are empty.
 use Rattle.receiver.proofs.Calls.{empty-pass, empty-fail, empty-end}
-use Prim.Native.Nat.{◌-◌}
 use mathlib.Core.Path.{refl, sym, ◌∙◌}
 use Rattle.receiver.proofs.empty_from.Goals as goal
 

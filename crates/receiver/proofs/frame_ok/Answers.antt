@@ -1,7 +1,6 @@
 -- `frame_ok` meets its contract: both.
 use Rattle.receiver.proofs.Reading.{head-size}
 use Rattle.laws.proofs.Picks.{is-and, is-not-and}
-use Prim.Native.Nat.{◌-◌}
 use mathlib.Core.Path.{refl, sym, ◌∙◌}
 use native.Mathlib.Omega.{arith}
 use Rattle.receiver.proofs.frame_ok.Goals as goal

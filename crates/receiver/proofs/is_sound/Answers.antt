@@ -1,6 +1,5 @@
 -- `is_sound` meets its contract: the tests of the definition.
 use Rattle.receiver.proofs.Calls.{unsound-short, unsound-far, unsound-kept, sound-rest}
-use Prim.Native.Nat.{◌-◌}
 use Rattle.receiver.proofs.is_sound.Goals as goal
 
 pub returns-then-w-lt-PLACES : goal.returns-then-w-lt-PLACES

@@ -1,6 +1,5 @@
 -- `offset` meets its contract: three bytes, low byte first.
 use Rattle.receiver.proofs.Reading.{off-bytes}
-use Prim.Native.Nat.{◌-◌}
 use native.Mathlib.Omega.{arith}
 use Rattle.receiver.proofs.offset.Goals as goal
 

@@ -1,7 +1,6 @@
 -- `receive` meets its contract: the parts are those of an accepted call.
 use Rattle.receiver.proofs.Calls.{made}
 use Rattle.window.proofs.Fits.{drop-lead}
-use Prim.Native.Nat.{◌-◌}
 use native.Mathlib.Omega.{arith}
 use Rattle.receiver.proofs.receive.Goals as goal
 

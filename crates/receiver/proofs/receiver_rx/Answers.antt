@@ -2,7 +2,6 @@
 use Rattle.receiver.proofs.Calls.{accepts, sound-places, sound-first, joined, was-accepted, was-refused}
 use Rattle.receiver.specs.declared.Listened.{Listened}
 use lib.Seq.{length-take-le}
-use Prim.Native.Nat.{◌-◌}
 use mathlib.Core.Path.{sym, ap, ◌∙◌}
 use lib.ListN.{length}
 use Rattle.receiver.proofs.receiver_rx.Goals as goal

@@ -1,6 +1,5 @@
 -- `refusal` meets its contract: each way out is a case of the definition.
 use Rattle.receiver.proofs.Calls.{refuses-three, refuses-six, refuses-ten, refuses-none}
-use Prim.Native.Nat.{◌-◌}
 use mathlib.Core.Path.{sym, ◌∙◌}
 use Rattle.receiver.proofs.refusal.Goals as goal
 

@@ -3,7 +3,6 @@ use Rattle.receiver.proofs.Reading.{load-last}
 use lib.Seq.{length-take-le}
 use lib.Dec.{eqb}
 use mathlib.Core.Path.{ap₂, sym, ◌∙◌}
-use Prim.Native.Nat.{◌-◌}
 use native.Mathlib.Omega.{arith}
 use Rattle.receiver.proofs.sum_ok.Goals as goal
 
@@ -12,4 +11,4 @@ slice_bounds-crc32_by-end c = sym (length-take-le _ _ (omega arith))
 
 pub returns : goal.returns
 returns c =
-    ap₂ eqb c.crc32_by-sum.ensures (c.load32.ensures ∙ load-last c.args.f.now c.requires.1)
+    ap₂ eqb c.crc32_by-sum.ensures (c.load.ensures ∙ load-last c.args.f.now c.requires.1)

@@ -37,14 +37,14 @@ returns-then-first-off c =
     let w = c.args.w.now in
     ap (λ (r : Taking). (r, w)) c.too_far.ensures
     ∙ out-far c.args.first _ c.args.k w (slot-in _ _ c.if-slot-k.false c.if-slot-gt63.false) (sym c.frame_ok.ensures ∙ c.if-frame_ok.true)
-    (past-window c.args.first c.args.f.now _ _ c.offset-off.ensures.0 c.wide-len.ensures.0 c.if-first-off.true)
+    (past-window c.args.first c.args.f.now _ _ c.offset-off.ensures.0 c.from-len.ensures c.if-first-off.true)
 
 pub returns-then-off-len-gt-OFFSETS : goal.returns-then-off-len-gt-OFFSETS
 returns-then-off-len-gt-OFFSETS c =
     let w = c.args.w.now in
     ap (λ (r : Taking). (r, w)) c.too_far-then-off-len-gt-OFFSETS.ensures
     ∙ out-far c.args.first _ c.args.k w (slot-in _ _ c.if-slot-k.false c.if-slot-gt63.false) (sym c.frame_ok.ensures ∙ c.if-frame_ok.true)
-    (past-offsets c.args.first c.args.f.now _ _ c.offset-off.ensures.0 c.wide-len.ensures.0 c.if-off-len-gt-OFFSETS.true)
+    (past-offsets c.args.first c.args.f.now _ _ c.offset-off.ensures.0 c.from-len.ensures c.if-off-len-gt-OFFSETS.true)
 
 pub took_slot-requires : goal.took_slot-requires
 took_slot-requires c =
@@ -54,10 +54,10 @@ pub returns-else-off-len-gt-OFFSETS : goal.returns-else-off-len-gt-OFFSETS
 returns-else-off-len-gt-OFFSETS c =
     let w = c.args.w.now in
     let f = c.args.f.now in
-    let n : 6 + c.wide-len.result - 6 ≡ len_of f = omega (arith, c.wide-len.ensures.0) in
+    let n : 6 + c.from-len.result - 6 ≡ len_of f = omega (arith, c.from-len.ensures) in
     ap (λ (r : Taking). (r, c.keep_from.new.w)) c.took_slot.ensures
     ∙ taken c.args.first (record { slot = c.args.slot; frame = f }) c.args.k w (slot-in _ _ c.if-slot-k.false c.if-slot-gt63.false) (sym c.frame_ok.ensures ∙ c.if-frame_ok.true) _
-    (within c.args.first f _ _ c.offset-off.ensures.0 c.wide-len.ensures.0 c.if-first-off.false c.if-off-len-gt-OFFSETS.false)
+    (within c.args.first f _ _ c.offset-off.ensures.0 c.from-len.ensures c.if-first-off.false c.if-off-len-gt-OFFSETS.false)
     (c.keep_from.ensures ∙ ap₂ (λ (x k : ℕ). keep_from c.args.first x (part f 6 k) w) c.offset-off.ensures.0 n)
 
 pub returns-else-frame_ok : goal.returns-else-frame_ok
@@ -68,4 +68,4 @@ returns-else-frame_ok c =
 pub slice_bounds-keep_from-end : goal.slice_bounds-keep_from-end
 slice_bounds-keep_from-end c =
     let f = c.args.f.now in
-    omega (arith, c.wide-len.ensures.0, head-room f (and_first (head_ok f) (sum_ok f) (sym c.frame_ok.ensures ∙ c.if-frame_ok.true)))
+    omega (arith, c.from-len.ensures, head-room f (and_first (head_ok f) (sum_ok f) (sym c.frame_ok.ensures ∙ c.if-frame_ok.true)))

@@ -1,6 +1,5 @@
 -- `took_slot` meets its contract: the bit of the slot is above those of the bitmap.
 use Rattle.receiver.proofs.Reading.{slot-bit, slot-shift}
-use Prim.Native.Nat.{◌-◌}
 use native.Mathlib.Omega.{arith}
 use Rattle.receiver.proofs.took_slot.Goals as goal
 

@@ -1,6 +1,6 @@
 -- `reception::hear_frames` meets its contract. The invariant: what is left to hear from frame i on (Turns.antt).
 use Prim.Native.Nat.{ℕ, ◌+◌, ◌-◌, ◌≤◌}
-use mathlib.Core.Path.{◌≡◌, sym, ap, subst, ◌∙◌}
+use mathlib.Core.Path.{◌≡◌, refl, sym, ap, subst, ◌∙◌}
 use mathlib.Core.List.{List}
 use native.Mathlib.Omega.{arith}
 use native.Mathlib.Nat.{add-sub_cancel_left}
@@ -66,7 +66,7 @@ loop-i-preserved c =
     let v = c.loop-i.invariant in
     let more = c.loop-i-test.true in
     let e = c.least-k.ensures in
-    let r = read_part bs at k c.wide-l.result (get_or c.args.r.len c.loop-i.i 0) e.upper_bound e.value e.a_value c.wide-l.ensures in
+    let r = read_part bs at k (get_or c.args.r.len c.loop-i.i 0) (get_or c.args.r.len c.loop-i.i 0) e.upper_bound e.value e.a_value refl in
     let is_read = sym (tested _ _ _ _ _ _ _ _ _ _ _ v more r.0 r.1 r.2) in
     let payload = ap (λ (n : ℕ). take n (drop at bs)) (add-sub_cancel_left at k) in
     let next : List ℕ → Sender → Type 0 = λ y q. Hearing c.args.p c.args.h c.args.r bs c.args.s c.args.a.now y q (at + k)

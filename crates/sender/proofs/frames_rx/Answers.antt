@@ -1,24 +1,30 @@
 -- `sender::frames_rx` meets its contract.
-use mathlib.Core.Path.{ap, ◌∙◌}
+use mathlib.Core.Path.{sym, ap, ◌∙◌}
 use native.Mathlib.Omega.{arith}
 use Rattle.record.proofs.View.{Arrays}
-use Rattle.refusals.specs.declared.Verdict.{Verdict}
+use Rattle.std.specs.Prelude.{Result}
+use Rattle.refusals.specs.declared.Refusal.{Refusal}
+use Rattle.refusals.specs.Verdict.{Verdict}
+use Rattle.sender.specs.Numbered.{after_reply}
+use Rattle.record.specs.declared.Sender.{Sender}
+use Rattle.refusals.specs.Refusals.{number_of}
 use Rattle.verdicts.specs.Verdicts.{first_of, frames_standing, hearing_verdict, frames_verdict}
-use Rattle.verdicts.proofs.Passed.{is-passed, not-passed}
+use Rattle.verdicts.proofs.Passed.{is-passed, not-passed, from-err}
 use Rattle.sender.proofs.Accepted.{frames-refused, frames-ranged, frames-ready, frames-accepted}
 use Rattle.sender.proofs.Numbers.{answer-numbered}
 use Rattle.sender.proofs.frames_rx.Goals as goal
 
-pub returns-then-refusal-ne0 : goal.returns-then-refusal-ne0
+pub returns-in_err-frames_verdict : goal.returns-in_err-frames_verdict
 unfolding frames_verdict
-returns-then-refusal-ne0 c =
+returns-in_err-frames_verdict c =
     let asked = c.frames_verdict.ensures
     ∙ ap (λ (u : Verdict). first_of (frames_standing u c.args.r.n) (hearing_verdict c.args.t.sender.link.last_time c.args.h))
     c.standing-v.ensures in
-    answer-numbered _ _ _ _
+    ap (λ (x : Result Sender Refusal). (after_reply c.args.t x, c.args.a.now)) (from-err _ _ c.from_residual.ensures.1)
+    ∙ answer-numbered _ _ _ _
     (frames-refused c.args.p c.args.t c.args.a.now c.args.h c.args.r c.args.payloads.now _ asked
-    (not-passed _ _ _ asked c.number-refusal.ensures c.if-refusal-ne0.true))
-    c.number-refusal.ensures
+    (not-passed _ _ _ asked c.in_err-frames_verdict.was))
+    (sym (ap (λ (u : Verdict). number_of u) c.in_err-frames_verdict.was))
 
 pub hear_frames-sender-requires : goal.hear_frames-sender-requires
 unfolding frames_verdict
@@ -33,7 +39,7 @@ hear_frames-sender-requires c =
       sent_bits = omega arith;
       sent_held = omega arith;
     } in
-    let ok = (is-passed _ _ _ asked c.number-refusal.ensures c.if-refusal-ne0.false) in record {
+    let ok = (is-passed _ _ _ asked c.in_ok-frames_verdict.was) in record {
       fact_1 = frames-ranged c.args.p c.args.t c.args.a.now c.args.h c.args.r c.args.payloads.now ok;
       fact_2 = frames-ready c.args.p c.args.t c.args.a.now c.args.h c.args.r c.args.payloads.now ok arrays;
     }
@@ -46,6 +52,6 @@ returns c =
     c.standing-v.ensures in
     answer-numbered _ _ _ _
     (frames-accepted c.args.p c.args.t c.args.a.now c.args.h c.args.r c.args.payloads.now
-    (is-passed _ _ _ asked c.number-refusal.ensures c.if-refusal-ne0.false) _ _ asked
+    (is-passed _ _ _ asked c.in_ok-frames_verdict.was) _ _ asked
     c.hear_frames-sender.ensures)
-    c.number-refusal.ensures
+    (sym (ap (λ (u : Verdict). number_of u) c.in_ok-frames_verdict.was))

@@ -7,8 +7,4 @@ use Rattle.settle.proofs.missed.Given as goal
 
 abbrev pub invariant-loop-i : goal.invariant-loop-i
 invariant-loop-i l =
-    (l.i ≤ length l.offs) × (l.h.n + (length l.offs - l.i) ≤ max_slots) × (with_more_held l.initial.h (missed_in l.bitmap l.top l.offs l.held) ≡ with_more_held l.h (missed_in l.b l.top (drop l.i l.offs) (drop l.i l.held)))
-
-abbrev pub decreases-loop-i : goal.decreases-loop-i
-decreases-loop-i l =
-    length l.offs - l.i
+    (l.h.n + (length l.offs - l.i) ≤ max_slots) × (with_more_held l.initial.h (missed_in l.bitmap l.top l.offs l.held) ≡ with_more_held l.h (missed_in l.b l.top (drop l.i l.offs) (drop l.i l.held)))

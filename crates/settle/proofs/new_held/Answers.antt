@@ -1,15 +1,13 @@
 -- `settle::new_held` meets its contract.
-use lib.ListN.{length, take, length-drop, length-take}
-use lib.Seq.{length-take-le}
-use borrow.Author.Tests.{not-true, not-false}
+use lib.ListN.{take, length-drop, length-take}
 use borrow.Author.Rules.{rules}
 use Rattle.record.specs.View.{rest_in, held_in}
 use Rattle.record.specs.declared.AtPeer.{AtPeer}
 use Rattle.pieces.proofs.Lists.{held-length}
 use Rattle.settle.specs.Settle.{held_none}
 use Rattle.settle.proofs.Laws.{new_none, new-some, held-count}
-use Prim.Native.Nat.{ℕ, ◌-◌}
-use mathlib.Core.Path.{◌≡◌, sym, ap, ◌∙◌}
+use Prim.Native.Nat.{◌-◌}
+use mathlib.Core.Path.{ap}
 use native.Mathlib.Omega.{arith}
 use Rattle.settle.proofs.new_held.Goals as goal
 

@@ -1,14 +1,15 @@
 -- Turns of the count over a burst's frames.
 -- Assumes nothing.
 use mathlib.Core.Path.{◌≡◌, refl, sym, ap, ap₂, ◌∙◌}
-use mathlib.Core.List.{List, [], ◌∷◌}
+use mathlib.Core.List.{List, ◌∷◌}
 use mathlib.Core.Bool.{Bool, true, false, cond, ◌&&◌}
-use Prim.Native.Nat.{ℕ, suc, ◌+◌, ◌/◌, ◌%◌, ◌≤◌, ◌<◌}
+use Prim.Native.Nat.{ℕ, ◌+◌, ◌/◌, ◌%◌, ◌≤◌, ◌<◌}
 use native.Mathlib.Omega.{arith}
 use native.Mathlib.Numerals.{add-one}
 use lib.Dec.{eqb}
 use lib.ListN.{length, take, drop, get_or, drop_of_length-le}
 use lib.Seq.{drop-cons}
+use mir.Val.{bool_byte}
 use borrow.Author.Tests.{eq-eqb, ne_eqb}
 use Rattle.laws.specs.Lists.{one}
 use Rattle.gear.specs.declared.Outcome.{Outcome}
@@ -27,6 +28,10 @@ tally-turn t m bs hs i h k = ap₂ (tallied_from t m) (step bs i h) (step hs i k
 pub tally-end : (t : Came) (m : ℕ) (bs hs : List ℕ) (i : ℕ) → length bs ≤ i → tallied_from t m (drop i bs) (drop i hs) ≡ t
 unfolding tallied_from
 tally-end t m bs hs i h = ap (λ (l : List ℕ). tallied_from t m l (drop i hs)) (drop_of_length-le bs h)
+
+pub byte-one : (b : Bool) → bool_byte b ≡ one b
+byte-one true = refl
+byte-one false = refl
 
 pub one-few : (b : Bool) → one b ≤ 1
 one-few true = omega arith

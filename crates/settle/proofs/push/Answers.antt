@@ -1,6 +1,5 @@
 -- `settle::push` meets its contract.
 use Rattle.settle.proofs.Laws.{held-push}
-use Prim.Native.Nat.{◌-◌}
 use Rattle.settle.proofs.push.Goals as goal
 
 pub returns : goal.returns

@@ -3,7 +3,6 @@ use lib.ListN.{get_or}
 use Rattle.record.specs.declared.AtPeer.{AtPeer}
 use Rattle.pieces.specs.Lists.{held_of}
 use Rattle.settle.proofs.Laws.{rest-turn, rest_end, held-count, held-nil}
-use Prim.Native.Nat.{◌-◌}
 use mathlib.Core.Path.{refl, sym, ap, ◌∙◌}
 use mathlib.Core.List.{[], ◌∷◌}
 use native.Mathlib.Omega.{arith}
@@ -12,17 +11,8 @@ use Rattle.settle.proofs.rest.Goals as goal
 pub loop-i-init : goal.loop-i-init
 loop-i-init c = (omega (arith, c.requires.0), refl)
 
-pub offset_bounds-bits-i : goal.offset_bounds-bits-i
-offset_bounds-bits-i c = omega (arith, c.loop-i-test.true, c.requires.0)
-
-pub bounds-bits-i : goal.bounds-bits-i
-bounds-bits-i c = omega (arith, c.loop-i-test.true, c.requires.1)
-
 pub push-h-requires : goal.push-h-requires
 push-h-requires c = omega (arith, c.loop-i-test.true, c.loop-i.invariant.0)
-
-pub loop-i-smaller : goal.loop-i-smaller
-loop-i-smaller c = omega (arith, c.loop-i-test.true)
 
 pub loop-i-preserved : goal.loop-i-preserved
 loop-i-preserved c =

@@ -9,7 +9,3 @@ use Rattle.settle.proofs.rest.Given as goal
 abbrev pub invariant-loop-i : goal.invariant-loop-i
 invariant-loop-i l =
     (l.h.n + (length l.offs - l.i) ≤ max_slots) × (with_more_held l.initial.h (drop l.from (held_of l.offs l.bits)) ≡ with_more_held l.h (drop l.i (held_of l.offs l.bits)))
-
-abbrev pub decreases-loop-i : goal.decreases-loop-i
-decreases-loop-i l =
-    length l.offs - l.i

@@ -1,17 +1,16 @@
 -- `settle::settle_burst` meets its contract.
-use lib.ListN.{length, take, length-take}
+use lib.ListN.{length, take}
 use lib.Seq.{length-take-le}
-use borrow.Author.Rules.{length_unmapped}
 use Rattle.area.specs.Table.{rows_from, total}
 use Rattle.area.specs.Removal.{removed_pieces}
 use Rattle.area.specs.declared.removal.Kept.{Kept}
-use Rattle.area.proofs.removal.Laws.{length-hashes, removed-facts, hashed-by}
+use Rattle.area.proofs.removal.Laws.{removed-facts, hashed-by}
 use Rattle.pieces.proofs.Settle.{kept-total}
 use Rattle.settle.specs.Settle.{acked_in, offsets_of}
 use Rattle.settle.specs.declared.Offsets.{Offsets}
 use Rattle.settle.proofs.Laws.{acked-few, offsets-list, offsets-fit, settled_is}
-use Prim.Native.Nat.{ℕ, ◌-◌, ◌≤◌}
-use mathlib.Core.Path.{◌≡◌, refl, sym, ap, ◌∙◌}
+use Prim.Native.Nat.{ℕ, ◌≤◌}
+use mathlib.Core.Path.{◌≡◌, refl, sym}
 use mathlib.Core.List.{List}
 use native.Mathlib.Omega.{arith}
 use Rattle.limits.specs.Limits.{max_slots}

@@ -1,9 +1,6 @@
--- The record is stored only where the call is accepted; a refused call answers with the record that it got.
-use Rattle.station.proofs.Stored.{turned}
+-- The record is stored only where the call is accepted; a refused call leaves the record that it got.
+use Rattle.station.proofs.Stored.{kept-left}
 use Rattle.station.proofs.vanitycrow_turn.Goals as goal
 
 pub returns : goal.returns
-returns c =
-    turned c.args.p.now c.args.t.now c.args.a.now c.args.h c.args.r
-    c.turn-q.result c.turn-q.new.a c.turn-q.ensures
-    c.keep_sender.result c.keep_sender.new.t c.keep_sender.ensures
+returns c = kept-left _ _ _ _ c.keep_sender.ensures c.turn-q.ensures

@@ -1,18 +1,8 @@
 -- `text::after_colon` meets its contract.
-use mathlib.Core.Path.{◌∙◌}
 use Rattle.text.specs.Words.{after_colon}
 use Rattle.text.proofs.Laws.{appends, ◌⨾◌}
 use Rattle.text.proofs.after_colon.Goals as goal
 
-pub shape_of-t : goal.shape_of-t
-shape_of-t c =
-    let p2 = c in
-    let p1 = p2 in
-    p2.decimal.auto.t ∙ p1.puts-n.auto.t
-
 pub returns : goal.returns
 unfolding after_colon
-returns c =
-    let p2 = c in
-    let p1 = p2 in
-    (appends p1.puts-n.ensures ⨾ appends p2.decimal.ensures).is
+returns c = (appends c.puts-n.ensures ⨾ appends c.decimal.ensures).is

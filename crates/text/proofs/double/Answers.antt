@@ -1,42 +1,10 @@
 -- `text::double` meets its contract.
-use Rattle.text.proofs.Digits.{float-nan, float_zero, float-bits}
 use lib.Ieee.{binary64}
 use Rattle.text.specs.Words.{double_word}
+use Rattle.text.proofs.Digits.{float-told}
 use Rattle.text.proofs.Laws.{appends, told}
 use Rattle.text.proofs.double.Goals as goal
 
-pub shape_of-t-then-x : goal.shape_of-t-then-x
-shape_of-t-then-x c =
-    let p1 = c in
-    p1.puts.auto.t
-
-pub returns-then-x : goal.returns-then-x
-unfolding double_word
-returns-then-x c =
-    let p1 = c in
-    told (appends p1.puts.ensures) (float-nan binary64 16 _ c.if-x.true)
-
-pub shape_of-t-then-x-2 : goal.shape_of-t-then-x-2
-shape_of-t-then-x-2 c =
-    let p1 = c in
-    p1.bits.auto.t
-
-pub returns-then-x-2 : goal.returns-then-x-2
-unfolding double_word
-returns-then-x-2 c =
-    let p1 = c in
-    told (appends p1.bits.ensures) (float_zero binary64 16 _ c.if-x.false
-    c.if-x-2.true)
-
-pub shape_of-t : goal.shape_of-t
-shape_of-t c =
-    let p1 = c in
-    p1.bits-2.auto.t
-
 pub returns : goal.returns
 unfolding double_word
-returns c =
-    let p1 = c in
-    told (appends p1.bits-2.ensures) (float-bits binary64 16 _ 18446744073709551615
-    c.if-x.false c.if-x-2.false
-    p1.to_bits64.ensures)
+returns c = told (appends c.float.ensures) (float-told binary64 16 c.args.x 18446744073709551615 c.pattern.ensures)

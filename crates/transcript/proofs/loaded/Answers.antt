@@ -6,10 +6,8 @@ use Rattle.transcript.proofs.loaded.Goals as goal
 
 pub returns-then-stretched : goal.returns-then-stretched
 returns-then-stretched c =
-    let p = c in
-    told (appends p.puts.ensures) (cond_yes _ _ _ _ p.if-stretched.true refl)
+    told (appends c.puts.ensures) (cond_yes _ _ _ _ c.if-stretched.true refl)
 
 pub returns : goal.returns
 returns c =
-    let p = c in
-    told (appends p.puts-2.ensures) (cond_no _ _ _ _ p.if-stretched.false refl)
+    told (appends c.puts-2.ensures) (cond_no _ _ _ _ c.if-stretched.false refl)

@@ -1,15 +1,7 @@
 -- `transcript::log` meets its contract.
-use mathlib.Core.Path.{◌∙◌}
-use Rattle.text.proofs.Laws.{appends, ◌⨾◌}
+use Rattle.std.proofs.Common.{rules}
+use Rattle.text.proofs.Texts.{◌⨾◌}
 use Rattle.transcript.proofs.log.Goals as goal
 
-pub shape_of-t : goal.shape_of-t
-shape_of-t c =
-    let p3 = c in
-    let p2 = p3 in
-    let p1 = p2 in
-    p3.puts.auto.t ∙ p2.puts-n-2.auto.t ∙ p1.puts-n.auto.t
-
 pub returns : goal.returns
-returns c =
-    (appends c.puts-n.ensures ⨾ appends c.puts-n-2.ensures ⨾ appends c.puts.ensures).is
+returns c = let put = c.puts.ensures ⨾ c.puts-2.ensures ⨾ c.puts-3.ensures in search rules

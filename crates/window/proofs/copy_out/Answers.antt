@@ -3,39 +3,31 @@ use borrow.Author.Tests.{lt-leb, le-leb}
 use Rattle.window.proofs.Turns.{lead-more, lead-stop, lead-end, copy_more, copied}
 use Rattle.window.specs.Window.{lead}
 use Rattle.laws.proofs.Bytes.{over-nil}
-use lib.ListN.{length, length-set}
-use Prim.Native.Nat.{◌-◌}
-use mathlib.Core.Path.{◌≡◌, refl, sym, ◌∙◌}
+use lib.ListN.{length}
+use mathlib.Core.Path.{◌≡◌, sym, ◌∙◌}
 use native.Mathlib.Omega.{arith}
 use Rattle.window.proofs.copy_out.Goals as goal
 
 pub loop-n-init : goal.loop-n-init
-loop-n-init c = (omega arith, refl, omega arith, sym (over-nil _ _))
+loop-n-init c = (omega arith, sym (over-nil _ _))
 
-pub shape_of-out-then-w-n-lt256 : goal.shape_of-out-then-w-n-lt256
-shape_of-out-then-w-n-lt256 c = c.loop-n.invariant.1
-
-pub returns-then-w-n-lt256 : goal.returns-then-w-n-lt256
-returns-then-w-n-lt256 c =
+pub returns-then-v-lt256 : goal.returns-then-v-lt256
+returns-then-v-lt256 c =
     let w = c.args.w.now in
-    let e : c.loop-n.n ≡ lead w = omega (arith, c.loop-n.invariant.2, lead-stop w c.loop-n.n c.loop-n-test.true (lt-leb _ _ c.if-w-n-lt256.true)) in
-    (e, c.loop-n.invariant.3 ∙ copied w _ _ e)
+    let e : c.loop-n.n ≡ lead w = omega (arith, c.loop-n.invariant.0, lead-stop w c.loop-n.n c.loop-n-test.true (lt-leb _ _ c.if-v-lt256.true)) in
+    (e, c.loop-n.invariant.1 ∙ copied w _ _ e)
 
 pub loop-n-preserved : goal.loop-n-preserved
 loop-n-preserved c =
     let w = c.args.w.now in
     let h = c.loop-n-test.true in (
-      omega arith,
-      simp length-set c.loop-n.invariant.1,
-      omega (arith, c.loop-n.invariant.2, lead-more w c.loop-n.n h (le-leb _ _ c.if-w-n-lt256.false)),
-      rw c.loop-n.invariant.3 (copy_more w c.args.out.now c.loop-n.n h),
+      omega (arith, c.loop-n.invariant.0, lead-more w c.loop-n.n h (le-leb _ _ c.if-v-lt256.false)),
+      rw c.loop-n.invariant.1 (copy_more w c.args.out.now c.loop-n.n h),
     )
-
-pub shape_of-out : goal.shape_of-out
-shape_of-out c = c.loop-n.invariant.1
 
 pub returns : goal.returns
 returns c =
     let w = c.args.w.now in
-    let e : c.loop-n.n ≡ lead w = omega (arith, c.loop-n.invariant.2, lead-end w c.loop-n.n c.loop-n-test.false) in
-    (e, c.loop-n.invariant.3 ∙ copied w _ _ e)
+    let e : c.loop-n.n ≡ lead w = omega (arith, c.loop-n.invariant.0, lead-end w c.loop-n.n c.loop-n-test.false) in
+    let all : length w ≡ lead w = omega (arith, e) in
+    (all, c.loop-n.invariant.1 ∙ copied w _ _ e)

@@ -1,6 +1,5 @@
 -- `keep_from` meets its contract: what was handed on is left out.
 use Rattle.window.proofs.Turns.{from-late, from-gone, from_on}
-use Prim.Native.Nat.{◌-◌}
 use Rattle.window.proofs.keep_from.Goals as goal
 
 pub returns-then-gone-bytes : goal.returns-then-gone-bytes

@@ -1,7 +1,6 @@
 -- `move_on` meets its contract: the places that stay, then zeros.
 use Rattle.window.proofs.Turns.{slid, stood}
 use Rattle.window.proofs.Fits.{drop-lead}
-use Prim.Native.Nat.{◌-◌}
 use native.Mathlib.Omega.{arith}
 use Rattle.window.proofs.move_on.Goals as goal
 

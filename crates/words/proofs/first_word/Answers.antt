@@ -1,15 +1,8 @@
 -- `first_word`: where it ends. Assumes nothing.
-use Prim.Native.Nat.{ℕ}
-use mathlib.Core.Path.{ap}
-use mathlib.Core.Bool.{true}
-use borrow.Author.Rules.{rules}
+use Rattle.std.proofs.Common.{arith}
 use Rattle.words.specs.Lines.{first_word}
 use Rattle.words.proofs.first_word.Goals as goal
 
 pub returns : goal.returns
 unfolding first_word
-returns c = (
-  ap (λ (e : ℕ). record { from = 0; to = e; ok = true }) c.end_from.ensures.0,
-  record
-      { ordered = search rules; within = search rules },
-)
+returns c = (cc, record { ordered = omega arith; within = c.end_from.ensures.1.1 })

@@ -1,7 +1,6 @@
 -- `area::lookup::find` meets its contract.
 use mathlib.Core.Bool.{true, cond}
 use lib.Dec.{eqb}
-use native.Mathlib.Nat.{sub-zero}
 use borrow.Author.Tests.{eq-eqb, ne_eqb}
 use Prim.Native.Nat.{◌+◌, ◌-◌}
 use Rattle.area.specs.Table.{rows_from}
@@ -21,10 +20,7 @@ turned : (d : lts.After-load_row tie.the-claims reads.Pre reads.Post goal.the-in
     find_from s.args.off 0 (rows_from s.args.a.now 0 s.args.n)
     ≡ cond (eqb s.args.off d.load_row-r.result.off) (record { here = true; start = p.start; len = d.load_row-r.result.len })
     (find_from s.args.off (p.start + d.load_row-r.result.len) (rows_from s.args.a.now (p.i + 1) (s.args.n - (p.i + 1))))
-turned d = d.loop-i.invariant.2 ∙ find-turn _ _ _ _ d.loop-i-test.true d.load_row-r.ensures _ _
-
-pub loop-i-init : goal.loop-i-init
-loop-i-init c = (omega arith, omega arith, simp sub-zero)
+turned d = d.loop-i.invariant.2 ∙ find-turn _ _ _ _ (omega arith) d.load_row-r.ensures _ _
 
 pub returns-then-off-r : goal.returns-then-off-r
 returns-then-off-r c = sym (turned c.before.before.before.before ∙ simp (eq-eqb _ _ c.if-off-r.true))
@@ -33,4 +29,4 @@ pub loop-i-preserved : goal.loop-i-preserved
 loop-i-preserved c = (omega arith, omega arith, turned c.before.before.before.before ∙ simp (ne_eqb _ _ c.if-off-r.false))
 
 pub returns : goal.returns
-returns c = sym (c.loop-i.invariant.2 ∙ find_none _ _ _ _ _ c.loop-i-test.false)
+returns c = sym (c.loop-i.invariant.2 ∙ find_none _ _ _ _ _ (omega arith))

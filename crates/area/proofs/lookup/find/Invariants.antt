@@ -7,7 +7,3 @@ use Rattle.area.proofs.lookup.find.Given as goal
 abbrev pub invariant-loop-i : goal.invariant-loop-i
 invariant-loop-i l =
     (l.i ≤ l.n) × (l.start ≤ 4294967296 * l.i) × (find_from l.off 0 (rows_from l.a 0 l.n) ≡ find_from l.off l.start (rows_from l.a l.i (l.n - l.i)))
-
-abbrev pub decreases-loop-i : goal.decreases-loop-i
-decreases-loop-i l =
-    l.n - l.i

@@ -1,7 +1,6 @@
 -- `area::merging::joins` meets its contract.
 use mathlib.Core.Bool.{not}
 use borrow.Author.Tests.{eq-eqb, ne_eqb, le-leb, lt-leb}
-use Prim.Native.Nat.{◌-◌}
 use mathlib.Core.Path.{sym, ap, ◌∙◌}
 use Rattle.area.proofs.merging.joins.Goals as goal
 

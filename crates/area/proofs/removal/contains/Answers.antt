@@ -1,9 +1,9 @@
 -- `area::removal::contains` meets its contract.
-use lib.ListN.{drop_of_length-le}
+use lib.ListN.{length, drop_of_length-le}
 use mathlib.Core.Bool.{Bool, true, false, ◌||◌}
 use Rattle.laws.specs.Lists.{listed}
 use Rattle.area.proofs.removal.Laws.{listed-turn}
-use Prim.Native.Nat.{◌-◌}
+use Prim.Native.Nat.{◌<◌, ◌≤◌}
 use mathlib.Core.Path.{◌≡◌, refl, sym, ap, ◌∙◌}
 use native.Mathlib.Omega.{arith}
 use Rattle.area.proofs.removal.contains.Goals as goal
@@ -16,15 +16,14 @@ or-none : (x : Bool) → (x || false) ≡ x
 or-none true = refl
 or-none false = refl
 
-pub loop-i-init : goal.loop-i-init
-loop-i-init c = (omega arith, refl)
-
-pub loop-i-preserved : goal.loop-i-preserved
-loop-i-preserved c =
+pub loop-o-preserved : goal.loop-o-preserved
+loop-o-preserved c =
     let p = c in
-    (omega arith, p.loop-i.invariant.1 ∙ ap (λ (b : Bool). p.loop-i.found || b) (listed-turn _ _ _ c.loop-i-test.true) ∙ or_assoc p.loop-i.found _ _)
+    let h : c.loop-o.o-index < length c.args.offs.now = omega arith in
+    (omega arith, p.loop-o.invariant.1 ∙ ap (λ (b : Bool). p.loop-o.found || b) (listed-turn _ _ _ h) ∙ or_assoc p.loop-o.found _ _)
 
 pub returns : goal.returns
 returns c =
     let p = c in
-    sym (p.loop-i.invariant.1 ∙ ap (λ (b : Bool). p.loop-i.found || b) (ap (listed p.args.off) (drop_of_length-le _ c.loop-i-test.false)) ∙ or-none p.loop-i.found)
+    let h : length c.args.offs.now ≤ c.loop-o.o-index = omega arith in
+    sym (p.loop-o.invariant.1 ∙ ap (λ (b : Bool). p.loop-o.found || b) (ap (listed p.args.off) (drop_of_length-le _ h)) ∙ or-none p.loop-o.found)

@@ -1,6 +1,5 @@
 -- `area::removal::contains_hashed` meets its contract.
 use Rattle.area.proofs.removal.Laws.{unhashed}
-use Prim.Native.Nat.{◌-◌}
 use mathlib.Core.Path.{sym}
 use Rattle.area.proofs.removal.contains_hashed.Goals as goal
 

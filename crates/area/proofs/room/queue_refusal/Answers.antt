@@ -1,7 +1,6 @@
 -- `area::room::queue_refusal` meets its contract.
 use Rattle.area.proofs.room.Laws.{full, over, room-enough}
 use mathlib.Core.Path.{sym}
-use Prim.Native.Nat.{◌-◌}
 use native.Mathlib.Omega.{arith}
 use Rattle.area.proofs.room.queue_refusal.Goals as goal
 

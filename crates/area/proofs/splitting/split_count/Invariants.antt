@@ -8,7 +8,3 @@ use Rattle.area.proofs.splitting.split_count.Given as goal
 abbrev pub invariant-loop-i : goal.invariant-loop-i
 invariant-loop-i l =
     (l.i ≤ l.n) × (l.sum ≤ 4294967296 * l.i) × (length (split_rows l.max (rows_from l.a 0 l.n)) ≡ l.sum + length (split_rows l.max (rows_from l.a l.i (l.n - l.i))))
-
-abbrev pub decreases-loop-i : goal.decreases-loop-i
-decreases-loop-i l =
-    l.n - l.i

@@ -8,35 +8,34 @@ use Rattle.area.specs.Recut.{split_rows, split_table}
 use Rattle.area.proofs.splitting.Laws.{back}
 use Rattle.area.proofs.table.Laws.{row_before}
 use Prim.Native.Nat.{ℕ, ◌-◌, ◌<◌}
-use mathlib.Core.Path.{◌≡◌, refl, sym, ap, ap₂, ◌∙◌}
+use mathlib.Core.Path.{◌≡◌, sym, ap, ap₂, ◌∙◌}
 use mathlib.Core.List.{List}
 use native.Mathlib.Omega.{arith}
 use lib.ListN.{length}
 use Rattle.area.proofs.splitting.split_table.Goals as goal
 
-pub loop-i-init : goal.loop-i-init
-loop-i-init c = (omega arith, c.split_count-m.ensures, omega (arith, c.split_count-m.ensures), refl, refl, λ k h. refl)
-
 pub overflow_sub-w : goal.overflow_sub-w
-overflow_sub-w c = (back _ _ _ _ _ _ c.requires.2 c.loop-i-test.true c.loop-i.invariant.1 c.load_row-r.ensures c.cut_count-w.ensures.0).fits
+overflow_sub-w c = let h : 0 < c.loop-i.i = omega arith in (back _ _ _ _ _ _ c.requires.2 h c.loop-i.invariant.1 c.load_row-r.ensures c.cut_count-w.ensures.0).fits
 
 pub store_cut-requires : goal.store_cut-requires
 store_cut-requires c =
+    let h : 0 < c.loop-i.i = omega arith in
     let d = c in
     let p = d in
     let s = p in
     let q : p.loop-i.i - 1 < p.loop-i.i = omega arith in
     let n : p.loop-i.i - 1 < s.args.n = omega arith in
     let e : d.load_row-r.result ≡ row_at s.args.a.now (p.loop-i.i - 1) = d.load_row-r.ensures ∙ p.loop-i.invariant.5 (p.loop-i.i - 1) q in
-    (omega (arith, back _ _ _ _ _ _ c.requires.2 c.loop-i-test.true c.loop-i.invariant.1 c.load_row-r.ensures c.cut_count-w.ensures.0), omega arith, s.requires.2, rw e (s.requires.4 (p.loop-i.i - 1) n))
+    (omega (arith, back _ _ _ _ _ _ c.requires.2 h c.loop-i.invariant.1 c.load_row-r.ensures c.cut_count-w.ensures.0), omega arith, s.requires.2, rw e (s.requires.4 (p.loop-i.i - 1) n))
 
 pub loop-i-preserved : goal.loop-i-preserved
 loop-i-preserved c =
+    let h : 0 < c.loop-i.i = omega arith in
     let b = c in
     let d = b in
     let p = d in
     let v = b.store_cut.ensures in
-    let t = back _ _ _ _ _ _ c.requires.2 c.loop-i-test.true c.loop-i.invariant.1 c.load_row-r.ensures c.cut_count-w.ensures.0 in (
+    let t = back _ _ _ _ _ _ c.requires.2 h c.loop-i.invariant.1 c.load_row-r.ensures c.cut_count-w.ensures.0 in (
       omega arith,
       rw v (t.rest ∙ ap (λ (x : List Row). length (split_rows p.args.max x)) (sym t.kept)),
       omega (arith, t.fits),

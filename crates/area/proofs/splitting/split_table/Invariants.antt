@@ -2,7 +2,7 @@ use Rattle.laws.specs.Bytes.{overwrite}
 use Rattle.area.specs.Layout.{place}
 use Rattle.area.specs.Table.{row_at, rows_from, table_bytes}
 use Rattle.area.specs.Recut.{split_rows}
-use Prim.Native.Nat.{ℕ, ◌-◌, ◌≤◌, ◌<◌}
+use Prim.Native.Nat.{ℕ, ◌≤◌, ◌<◌}
 use mathlib.Core.Path.{◌≡◌}
 use lib.ListN.{length}
 use Rattle.limits.specs.Limits.{max_pieces}
@@ -13,7 +13,3 @@ invariant-loop-i l =
     (l.i ≤ l.n) × (l.w ≡ length (split_rows l.max (rows_from l.a 0 l.i))) × (l.w ≤ max_pieces) × (length l.a ≡ length l.initial.a)
     × (overwrite l.initial.a (place 0) (table_bytes (split_rows l.max (rows_from l.initial.a 0 l.n))) ≡ overwrite l.a (place 0) (table_bytes (split_rows l.max (rows_from l.a 0 l.i))))
     × ((k : ℕ) → k < l.i → row_at l.a k ≡ row_at l.initial.a k)
-
-abbrev pub decreases-loop-i : goal.decreases-loop-i
-decreases-loop-i l =
-    l.i

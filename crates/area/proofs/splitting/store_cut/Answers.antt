@@ -4,15 +4,11 @@ use Rattle.area.specs.Layout.{place}
 use Rattle.area.specs.Table.{table_bytes}
 use Rattle.area.proofs.splitting.Laws.{cut-turn, cut-end, cut-some, store-turn}
 use Rattle.area.specs.declared.table.Row.{Row}
-use Prim.Native.Nat.{◌-◌}
-use mathlib.Core.Path.{refl, sym, ap, ◌∙◌}
+use mathlib.Core.Path.{sym, ap, ◌∙◌}
 use mathlib.Core.List.{List}
 use native.Mathlib.Omega.{arith}
 use lib.ListN.{length}
 use Rattle.area.proofs.splitting.store_cut.Goals as goal
-
-pub loop-left-init : goal.loop-left-init
-loop-left-init c = (c.requires.0, c.requires.3, refl, refl)
 
 pub store_row-requires : goal.store_row-requires
 store_row-requires c =

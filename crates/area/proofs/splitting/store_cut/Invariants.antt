@@ -2,7 +2,7 @@ use Rattle.laws.specs.Bytes.{overwrite}
 use Rattle.area.specs.Layout.{place}
 use Rattle.area.specs.Table.{table_bytes}
 use Rattle.area.specs.Recut.{cut_rows}
-use Prim.Native.Nat.{◌+◌, ◌-◌, ◌≤◌}
+use Prim.Native.Nat.{◌+◌, ◌≤◌}
 use mathlib.Core.Path.{◌≡◌}
 use lib.ListN.{length}
 use Rattle.limits.specs.Limits.{max_pieces, max_taken}

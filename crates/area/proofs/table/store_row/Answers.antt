@@ -2,7 +2,6 @@
 use Rattle.laws.proofs.Bytes.{over-cat}
 use Rattle.laws.specs.Little.{le}
 use Rattle.area.specs.Layout.{place}
-use Prim.Native.Nat.{◌-◌}
 use Rattle.area.proofs.table.store_row.Goals as goal
 
 pub returns : goal.returns

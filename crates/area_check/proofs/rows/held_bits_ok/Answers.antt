@@ -1,39 +1,26 @@
 -- `area_check::rows::held_bits_ok` meets its contract.
-use mathlib.Core.Bool.{true, false}
+use Prim.Native.Nat.{ℕ}
+use mathlib.Core.Bool.{Bool, true, false, ◌&&◌}
+use mathlib.Core.List.{List, [], ◌∷◌}
+use mathlib.Core.Path.{◌≡◌, refl, ap, ◌∙◌}
 use lib.Dec.{ltb}
-use lib.ListN.{get_or}
-use borrow.Author.Tests.{lt-ltb, le-ltb}
-use Rattle.area_check.proofs.rows.Laws.{held-turn, held-end}
-use Prim.Native.Nat.{ℕ, ◌-◌, ◌<◌}
-use mathlib.Core.Path.{◌≡◌, refl, sym, ◌∙◌}
-use native.Mathlib.Omega.{arith}
+use Rattle.std.proofs.Common.{rules, tests}
+use Rattle.std.specs.List.{list_all}
+use Rattle.std.proofs.lemmas.Iterator.{YieldsList-from_slice}
+use Rattle.std.proofs.lemmas.Iterator.Search.{all_from_yields_List}
+use Rattle.area_check.specs.Rows.{held_bits_ok}
 use Rattle.area_check.proofs.rows.held_bits_ok.Goals as goal
 
-pos : (b : ℕ) → (b ≡ 0 → ⊥) → 0 < b
-pos b h = omega (arith, h)
+and_assoc : (x y z : Bool) → ((x && y) && z) ≡ (x && (y && z))
+and_assoc true y z = refl
+and_assoc false y z = refl
 
-pub loop-i-init : goal.loop-i-init
-loop-i-init c = refl
-
-pub returns-then-b-eq0 : goal.returns-then-b-eq0
-returns-then-b-eq0 c =
-    let b = get_or c.args.bits.now c.loop-i.i 0 in
-    let z : ltb 0 b ≡ false = le-ltb 0 b (omega (arith, c.if-b-eq0.true)) in
-    sym (c.loop-i.invariant ∙ held-turn _ _ _ c.loop-i-test.true ∙ simp z)
-
-pub returns-then-top-b : goal.returns-then-top-b
-returns-then-top-b c =
-    let b = get_or c.args.bits.now c.loop-i.i 0 in
-    let y : ltb 0 b ≡ true = lt-ltb 0 b (pos b c.if-b-eq0.false) in
-    let z : ltb b c.args.top ≡ false = le-ltb b c.args.top c.if-top-b.true in
-    sym (c.loop-i.invariant ∙ held-turn _ _ _ c.loop-i-test.true ∙ simp (y, z))
-
-pub loop-i-preserved : goal.loop-i-preserved
-loop-i-preserved c =
-    let b = get_or c.args.bits.now c.loop-i.i 0 in
-    let y : ltb 0 b ≡ true = lt-ltb 0 b (pos b c.if-b-eq0.false) in
-    let z : ltb b c.args.top ≡ true = lt-ltb b c.args.top c.if-top-b.false in
-    c.loop-i.invariant ∙ held-turn _ _ _ c.loop-i-test.true ∙ simp (y, z)
+each : (top : ℕ) (bs : List ℕ) → list_all (λ b. ltb 0 b && ltb b top) bs ≡ held_bits_ok top bs
+unfolding held_bits_ok
+each top [] = refl
+each top (b ∷ bs) = ap (λ (r : Bool). (ltb 0 b && ltb b top) && r) (each top bs) ∙ and_assoc (ltb 0 b) (ltb b top) (held_bits_ok top bs)
 
 pub returns : goal.returns
-returns c = sym (c.loop-i.invariant ∙ held-end _ _ _ c.loop-i-test.false)
+returns c =
+    let bs = c.args.bits.now in
+    all_from_yields_List (λ b. ltb 0 b && ltb b c.args.top) _ _ _ c.all.ensures.ran (YieldsList-from_slice bs cc) (λ x b q k. search (rules, tests)) ∙ each c.args.top bs

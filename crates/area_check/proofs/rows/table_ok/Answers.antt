@@ -2,7 +2,7 @@
 use mathlib.Core.Bool.{◌&&◌}
 use lib.Dec.{leb, ltb}
 use Prim.Native.Nat.{ℕ, ◌+◌, ◌-◌, ◌≤◌, ◌<◌}
-use native.Mathlib.Nat.{sub-zero, zero-add, add-zero, div-le_self}
+use native.Mathlib.Nat.{add-zero, div-le_self}
 use borrow.Author.Tests.{lt-ltb, le-ltb, le-leb, lt-leb, eq-eqb, ne_eqb}
 use Rattle.ledger.specs.Cover.{ceil}
 use mathlib.Core.List.{List}
@@ -22,58 +22,60 @@ ascends-turned : (long next from n i : ℕ) (a : List ℕ) (r : Row) → ascends
     ≡ (leb from r.off && (ltb 0 r.len && (leb r.len long && ascends long next (r.off + r.len) (rows_from a (i + 1) (n - (i + 1))))))
 ascends-turned long next from n i a r v h e = v ∙ ascends-turn _ _ _ _ h e _ _ _
 
-pub loop-i-init : goal.loop-i-init
-loop-i-init c = (omega arith, omega arith, omega arith, omega arith, simp sub-zero, simp (sub-zero, zero-add), simp (sub-zero, zero-add))
-
 pub returns-then-off-from : goal.returns-then-off-from
 unfolding table_ok
-returns-then-off-from c = simp (ascends-turned _ _ _ _ _ _ _ c.loop-i.invariant.4 c.loop-i-test.true c.load_row-r.ensures, lt-leb _ _ c.if-off-from.true)
+returns-then-off-from c =
+    let h : c.loop-i.i < c.args.n = omega arith in
+    simp (ascends-turned _ _ _ _ _ _ _ c.loop-i.invariant.4 h c.load_row-r.ensures, lt-leb _ _ c.if-off-from.true)
 
 pub returns-then-len-eq0 : goal.returns-then-len-eq0
 unfolding table_ok
 returns-then-len-eq0 c =
+    let h : c.loop-i.i < c.args.n = omega arith in
     let z : c.load_row-r.result.len ≤ 0 = omega arith in
-    simp (ascends-turned _ _ _ _ _ _ _ c.loop-i.invariant.4 c.loop-i-test.true c.load_row-r.ensures, le-leb _ _ c.if-off-from.false, le-ltb _ _ z)
+    simp (ascends-turned _ _ _ _ _ _ _ c.loop-i.invariant.4 h c.load_row-r.ensures, le-leb _ _ c.if-off-from.false, le-ltb _ _ z)
 
 pub returns-then-long-r : goal.returns-then-long-r
 unfolding table_ok
 returns-then-long-r c =
+    let h : c.loop-i.i < c.args.n = omega arith in
     let z : 0 < c.load_row-r.result.len = omega arith in
-    simp (ascends-turned _ _ _ _ _ _ _ c.loop-i.invariant.4 c.loop-i-test.true c.load_row-r.ensures, le-leb _ _ c.if-off-from.false, lt-ltb _ _ z, lt-leb _ _ c.if-long-r.true)
+    simp (ascends-turned _ _ _ _ _ _ _ c.loop-i.invariant.4 h c.load_row-r.ensures, le-leb _ _ c.if-off-from.false, lt-ltb _ _ z, lt-leb _ _ c.if-long-r.true)
 
 -- a row's short frames
 low : (len short : ℕ) → ceil len short ≤ len + (short - 1)
 low len short = div-le_self (len + (short - 1)) short
 
-pub overflow_add-shorts : goal.overflow_add-shorts
-overflow_add-shorts c = omega (arith, c.shorts_of-shorts.ensures, low c.load_row-r.result.len c.args.short)
-
 pub loop-i-preserved : goal.loop-i-preserved
 loop-i-preserved c =
+    let h : c.loop-i.i < c.args.n = omega arith in
     let z : 0 < c.load_row-r.result.len = omega arith in
     let k = low c.load_row-r.result.len c.args.short in (
       omega arith,
       omega arith,
       omega arith,
       omega arith,
-      ascends-turned _ _ _ _ _ _ _ c.loop-i.invariant.4 c.loop-i-test.true c.load_row-r.ensures ∙ simp (le-leb _ _ c.if-off-from.false, lt-ltb _ _ z, le-leb _ _ c.if-long-r.false),
-      omega (arith, total-turn _ _ _ _ c.loop-i-test.true c.load_row-r.ensures),
-      omega (arith, c.shorts_of-shorts.ensures, k, short-turn _ _ _ _ c.loop-i-test.true c.load_row-r.ensures c.args.short),
+      ascends-turned _ _ _ _ _ _ _ c.loop-i.invariant.4 h c.load_row-r.ensures ∙ simp (le-leb _ _ c.if-off-from.false, lt-ltb _ _ z, le-leb _ _ c.if-long-r.false),
+      omega (arith, total-turn _ _ _ _ h c.load_row-r.ensures),
+      omega (arith, c.shorts_of-shorts.ensures, k, short-turn _ _ _ _ h c.load_row-r.ensures c.args.short),
     )
 
 pub returns-then-next-from : goal.returns-then-next-from
 unfolding table_ok ascends total short_frames_of
 returns-then-next-from c =
-    simp (c.loop-i.invariant.4, rows_none c.args.a.now c.loop-i.i c.args.n c.loop-i-test.false, lt-leb _ _ c.if-next-from.true)
+    let h : c.args.n ≤ c.loop-i.i = omega arith in
+    simp (c.loop-i.invariant.4, rows_none c.args.a.now c.loop-i.i c.args.n h, lt-leb _ _ c.if-next-from.true)
 
 pub returns-then-sum-flying : goal.returns-then-sum-flying
 unfolding table_ok ascends total short_frames_of
 returns-then-sum-flying c =
-    let z = rows_none c.args.a.now c.loop-i.i c.args.n c.loop-i-test.false in
+    let h : c.args.n ≤ c.loop-i.i = omega arith in
+    let z = rows_none c.args.a.now c.loop-i.i c.args.n h in
     simp (c.loop-i.invariant.4, c.loop-i.invariant.5, z, le-leb _ _ c.if-next-from.false, add-zero, ne_eqb _ _ c.if-sum-flying.true)
 
 pub returns : goal.returns
 unfolding table_ok ascends total short_frames_of
 returns c =
-    let z = rows_none c.args.a.now c.loop-i.i c.args.n c.loop-i-test.false in
+    let h : c.args.n ≤ c.loop-i.i = omega arith in
+    let z = rows_none c.args.a.now c.loop-i.i c.args.n h in
     simp (c.loop-i.invariant.4, c.loop-i.invariant.5, c.loop-i.invariant.6, z, le-leb _ _ c.if-next-from.false, add-zero, eq-eqb _ _ c.if-sum-flying.false)

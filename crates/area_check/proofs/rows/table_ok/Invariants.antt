@@ -10,7 +10,3 @@ invariant-loop-i l =
     × (ascends l.long l.next 0 (rows_from l.a 0 l.n) ≡ ascends l.long l.next l.from (rows_from l.a l.i (l.n - l.i)))
     × (total (rows_from l.a 0 l.n) ≡ l.sum + total (rows_from l.a l.i (l.n - l.i)))
     × (short_frames_of l.short (rows_from l.a 0 l.n) ≡ l.shorts + short_frames_of l.short (rows_from l.a l.i (l.n - l.i)))
-
-abbrev pub decreases-loop-i : goal.decreases-loop-i
-decreases-loop-i l =
-    l.n - l.i

@@ -1,4 +1,5 @@
 -- `reading::air` meets its contract, by what the calls ensure. Assumes nothing.
+use Rattle.laws.proofs.Lists.{map-id}
 use Rattle.card.specs.Card.{air_in}
 use Rattle.card.proofs.reading.air.Goals as goal
 
@@ -6,10 +7,11 @@ pub returns : goal.returns
 unfolding air_in
 returns c =
     simp (
-      c.f64_at.ensures,
-      c.f64s6.ensures,
-      c.u32s17-2.ensures,
-      c.f64s17-2.ensures,
-      c.f64s17.ensures,
-      c.u32s17.ensures,
+      c.read.ensures,
+      c.row-5.ensures,
+      c.row-4.ensures,
+      c.row-3.ensures,
+      c.row-2.ensures,
+      c.row.ensures,
+      map-id,
     )

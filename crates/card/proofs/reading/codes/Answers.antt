@@ -1,4 +1,5 @@
 -- `reading::codes` meets its contract, by what the calls ensure. Assumes nothing.
+use Rattle.laws.proofs.Lists.{map-id}
 use Rattle.card.specs.Card.{codes_in}
 use Rattle.card.proofs.reading.codes.Goals as goal
 
@@ -6,6 +7,7 @@ pub returns : goal.returns
 unfolding codes_in
 returns c =
     simp (
-      c.u32s6.ensures,
-      c.u32_at.ensures,
+      c.row.ensures,
+      c.read.ensures,
+      map-id,
     )

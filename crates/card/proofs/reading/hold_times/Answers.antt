@@ -6,7 +6,7 @@ pub returns : goal.returns
 unfolding holds_in
 returns c =
     simp (
-      c.f64_at-3.ensures,
-      c.f64_at-2.ensures,
-      c.f64_at.ensures,
+      c.read-3.ensures,
+      c.read-2.ensures,
+      c.read.ensures,
     )

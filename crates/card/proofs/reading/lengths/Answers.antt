@@ -7,10 +7,10 @@ unfolding lengths_in
 returns c =
     simp (
       c.maybe_db.ensures,
-      c.f32_at.ensures,
+      c.read-5.ensures,
       c.flag.ensures,
-      c.f64_at-4.ensures,
-      c.f64_at-3.ensures,
-      c.f64_at-2.ensures,
-      c.f64_at.ensures,
+      c.read-4.ensures,
+      c.read-3.ensures,
+      c.read-2.ensures,
+      c.read.ensures,
     )

@@ -6,6 +6,6 @@ pub returns : goal.returns
 unfolding marks_in
 returns c =
     simp (
-      c.f32_at.ensures,
-      c.f32s17.ensures,
+      c.read.ensures,
+      c.row.ensures,
     )

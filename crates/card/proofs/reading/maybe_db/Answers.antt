@@ -4,6 +4,6 @@ use Rattle.card.proofs.reading.maybe_db.Goals as goal
 pub returns : goal.returns
 returns c =
     simp (
-      c.f32_at.ensures,
+      c.read.ensures,
       c.flag.ensures,
     )

@@ -4,6 +4,6 @@ use Rattle.card.proofs.reading.pin.Goals as goal
 pub returns : goal.returns
 returns c =
     simp (
-      c.load64.ensures,
+      c.load.ensures,
       c.flag.ensures,
     )

@@ -5,4 +5,4 @@ use Rattle.card.proofs.writing.put_doubles.Goals as goal
 
 pub returns : goal.returns
 unfolding doubles packed
-returns c = (c.put_f64s.ensures, refl)
+returns c = (c.put_row.ensures, refl)

@@ -9,7 +9,7 @@ returns c =
     let c6 = c in
     let c12 = c6 in
     let c18 = c12 in
-    counted _ _ _ _ _ 142 c18.store16.ensures
+    counted _ _ _ _ _ 142 c18.store.ensures
     (joins _ _ _ _ _ _ 64 78 c18.put_doubles.ensures
     (joins _ _ _ _ _ _ 36 42 c12.put_wholes.ensures
     (joins _ _ _ _ _ _ 16 26 c6.put_singles.ensures

@@ -5,4 +5,4 @@ use Rattle.card.proofs.writing.put_singles.Goals as goal
 
 pub returns : goal.returns
 unfolding singles packed
-returns c = (c.put_f32s.ensures, refl)
+returns c = (c.put_row.ensures, refl)

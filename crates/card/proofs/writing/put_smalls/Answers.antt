@@ -14,10 +14,10 @@ pub bounds-out-727 : goal.bounds-out-727
 bounds-out-727 c = simp length-set (omega arith)
 
 pub shape_of-out : goal.shape_of-out
-shape_of-out c = ap length c.store64.ensures ∙ length_over _ _ _ ∙ simp length-set
+shape_of-out c = ap length c.store.ensures ∙ length_over _ _ _ ∙ simp length-set
 
 pub returns : goal.returns
 unfolding smalls_of
 returns c =
     let c6 = c in
-    (c.store64.ensures ∙ small-run c6.args.out.now 725 _ _ _ _, refl)
+    (c.store.ensures ∙ small-run c6.args.out.now 725 _ _ _ _, refl)

@@ -7,5 +7,5 @@ pub returns : goal.returns
 unfolding thresholds_of
 returns c =
     let c6 = c in
-    counted _ _ _ _ _ 144 c6.store16.ensures
+    counted _ _ _ _ _ 144 c6.store.ensures
     (joins _ _ _ _ _ _ 72 72 c6.put_marks.ensures c.put_marks-2.ensures)

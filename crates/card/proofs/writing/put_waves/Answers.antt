@@ -8,6 +8,6 @@ pub returns : goal.returns
 unfolding waves_of
 returns c =
     let c6 = c in
-    counted _ _ _ _ _ 48 c6.store16.ensures
+    counted _ _ _ _ _ 48 c6.store.ensures
     (rowed _ _ _ bits64 8 c6.args.a.ack_s 6
-    (search rules) c.put_f64s.ensures)
+    (search rules) c.put_row.ensures)

@@ -11,6 +11,6 @@ returns c =
     let c12 = c6 in
     merged _ _ _ 4 (c12.args.short ∷ c12.args.long ∷ c12.args.q.mother ∷ []) c12.args.q.ends 36
     (joins _ _ _ _ _ _ 12 24 (numbered _ _ _ 4 (c12.args.short ∷ c12.args.long ∷ c12.args.q.mother ∷ []) 3 refl
-    c6.put_u32s.ensures)
+    c6.put_row.ensures)
     (numbered _ _ _ 4 c12.args.q.ends 6 (search rules)
-    c.put_u32s-2.ensures))
+    c.put_row-2.ensures))

@@ -3,4 +3,4 @@ use Rattle.config.proofs.Air.frame_bits.Goals as goal
 
 pub returns : goal.returns
 unfolding frame_bits
-returns c = rw c.slot.ensures at c.product.ensures
+returns c = simp (c.from-2.ensures, c.slot.ensures, c.from.ensures)

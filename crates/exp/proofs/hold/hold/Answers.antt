@@ -8,4 +8,4 @@ use Rattle.exp.proofs.hold.hold.Goals as goal
 pub returns : goal.returns
 returns c =
     let s = c in
-    c.min64.ensures ∙ ap (λ (p : Float). min_f (mul binary64 s.args.first p) s.args.cap) (c.power_at.ensures ∙ power-whole s.args.n)
+    c.min.ensures ∙ ap (λ (p : Float). min_f (mul binary64 s.args.first p) s.args.cap) (c.power_at.ensures ∙ power-whole s.args.n)

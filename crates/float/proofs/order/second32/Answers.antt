@@ -3,17 +3,17 @@ use Rattle.std.proofs.Common.{sym, ◌∙◌}
 use Rattle.float.proofs.order.TotalLaws.{second_is}
 use Rattle.float.proofs.order.second32.Goals as goal
 
-pub returns-then-total_le32 : goal.returns-then-total_le32
-returns-then-total_le32 c = let p = sym c.total_le32.ensures ∙ c.if-total_le32.true in sym (second_is _ _ _ ∙ simp p)
+pub returns-then-total_le : goal.returns-then-total_le
+returns-then-total_le c = let p = sym c.total_le.ensures ∙ c.if-total_le.true in sym (second_is _ _ _ ∙ simp p)
 
-pub returns-then-total_le32-2 : goal.returns-then-total_le32-2
-returns-then-total_le32-2 c =
-    let p = sym c.total_le32.ensures ∙ c.if-total_le32.false in
-    let q = sym c.total_le32-2.ensures ∙ c.if-total_le32-2.true in
+pub returns-then-total_le-2 : goal.returns-then-total_le-2
+returns-then-total_le-2 c =
+    let p = sym c.total_le.ensures ∙ c.if-total_le.false in
+    let q = sym c.total_le-2.ensures ∙ c.if-total_le-2.true in
     sym (second_is _ _ _ ∙ simp (p, q))
 
 pub returns : goal.returns
 returns c =
-    let p = sym c.total_le32.ensures ∙ c.if-total_le32.false in
-    let q = sym c.total_le32-2.ensures ∙ c.if-total_le32-2.false in
+    let p = sym c.total_le.ensures ∙ c.if-total_le.false in
+    let q = sym c.total_le-2.ensures ∙ c.if-total_le-2.false in
     sym (second_is _ _ _ ∙ simp (p, q))

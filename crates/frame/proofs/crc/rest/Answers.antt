@@ -1,29 +1,26 @@
--- `frame::crc::rest` meets its contract: the register after the bytes from a place on. The loop's invariant: what is left to feed in gives the same.
+-- `frame::crc::rest` meets its contract: the register after the bytes. The loop's invariant: what is left to feed in gives the same.
 use mathlib.Core.Path.{refl, sym, ap, ◌∙◌}
-use Prim.Native.Nat.{ℕ, ◌+◌, ◌-◌}
+use Prim.Native.Nat.{ℕ, ◌+◌, ◌≤◌}
 use native.Mathlib.Omega.{arith}
-use lib.ListN.{drop, drop_of_length-le}
+use lib.ListN.{length, drop, drop_of_length-le}
 use Rattle.frame.specs.Crc.{feed_bytes}
 use Rattle.frame.proofs.crc.Laws.{feed-one}
 use Rattle.frame.proofs.crc.rest.Goals as goal
 
-pub loop-i-init : goal.loop-i-init
-loop-i-init c = (c.requires.1, refl)
+pub loop-b-init : goal.loop-b-init
+loop-b-init c = refl
 
 pub one-c-requires : goal.one-c-requires
-one-c-requires c = c.requires.0
+one-c-requires c = c.requires
 
-pub loop-i-preserved : goal.loop-i-preserved
-loop-i-preserved c =
-    let t = c in
-    let p = t in
-    let l = p.args.bytes.now in (
-      omega arith,
-      p.loop-i.invariant.1 ∙ feed-one p.loop-i.c l p.loop-i.i t.loop-i-test.true ∙ ap (λ (x : ℕ). feed_bytes x (drop (p.loop-i.i + 1) l)) (sym c.one-c.ensures),
-    )
+pub loop-b-preserved : goal.loop-b-preserved
+loop-b-preserved c =
+    let l = c.args.bytes.now in
+    let p = c.loop-b in
+    p.invariant ∙ feed-one p.c l p.b-index (omega arith) ∙ ap (λ (x : ℕ). feed_bytes x (drop (p.b-index + 1) l)) (sym c.one-c.ensures)
 
 pub returns : goal.returns
 unfolding feed_bytes
 returns c =
-    let p = c in
-    sym (p.loop-i.invariant.1 ∙ ap (feed_bytes p.loop-i.c) (drop_of_length-le _ c.loop-i-test.false))
+    let h : length c.args.bytes.now ≤ c.loop-b.b-index = omega arith in
+    sym (c.loop-b.invariant ∙ ap (feed_bytes c.loop-b.c) (drop_of_length-le _ h))

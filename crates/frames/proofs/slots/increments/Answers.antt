@@ -1,27 +1,19 @@
 -- `frames::slots::increments` meets its contract.
 use mathlib.Core.List.{List}
-use mathlib.Core.Path.{◌≡◌, refl, sym, ap₂, ◌∙◌}
-use lib.ListN.{get_or}
-use Rattle.area.specs.Layout.{stream_bytes}
+use mathlib.Core.Path.{◌≡◌, sym, ap₂, ◌∙◌}
+use lib.ListN.{get_or, length}
 use Rattle.area.specs.Table.{rows_from, total}
 use Rattle.area.specs.Find.{find_from}
 use Rattle.area.specs.declared.lookup.Found.{Found}
 use Rattle.area.proofs.lookup.Laws.{find-within}
 use Rattle.frames.specs.Slots.{slot_pushed}
 use Rattle.frames.proofs.slots.Laws.{increments-turn, increments-end}
-use Prim.Native.Nat.{ℕ, ◌+◌, ◌-◌, ◌≤◌, ◌<◌}
+use Prim.Native.Nat.{ℕ, ◌+◌, ◌≤◌, ◌<◌}
 use native.Mathlib.Omega.{arith}
-use Rattle.limits.specs.Limits.{max_slots, max_held}
 use Rattle.frames.proofs.slots.increments.Goals as goal
 
 within : (a : List ℕ) (n o : ℕ) (p : Found) → p ≡ find_from o 0 (rows_from a 0 n) → p.start + p.len ≤ 0 + total (rows_from a 0 n)
 within a n o p e = rw e (find-within o 0 (rows_from a 0 n))
-
-pub loop-i-init : goal.loop-i-init
-loop-i-init c = (omega arith, omega (arith, c.requires.3), refl)
-
-pub overflow_add-s : goal.overflow_add-s
-overflow_add-s c = omega (arith, c.increment-more.ensures, c.requires.5 c.loop-i.i (omega (arith, c.requires.4)))
 
 pub overflow_cast-s : goal.overflow_cast-s
 overflow_cast-s c = omega (arith, within _ _ _ _ c.find-p.ensures)
@@ -32,14 +24,15 @@ overflow_cast-s-in-loop-i c = omega (arith, within _ _ _ _ c.find-p.ensures)
 pub loop-i-preserved : goal.loop-i-preserved
 unfolding slot_pushed
 loop-i-preserved c =
+    let i : c.loop-i.i < length c.args.offs.now = omega arith in
     let o = get_or c.args.offs.now c.loop-i.i 0 in
     let h = get_or c.args.bits.now c.loop-i.i 0 in
     let q = ap₂ (λ (m : ℕ) (z : Found). slot_pushed c.loop-i.s (record { off = o; bits = m; held = h + m; start = z.start; len = z.len }))
     c.increment-more.ensures c.find-p.ensures in (
       omega arith,
       omega (arith, c.loop-i.invariant.1),
-      c.loop-i.invariant.2 ∙ increments-turn _ _ _ _ _ _ _ _ c.loop-i-test.true (omega (arith, c.requires.4)) q,
+      c.loop-i.invariant.2 ∙ increments-turn _ _ _ _ _ _ _ _ i (omega (arith, c.requires.4)) q,
     )
 
 pub returns : goal.returns
-returns c = sym (c.loop-i.invariant.2 ∙ increments-end _ _ _ _ _ _ _ c.loop-i-test.false)
+returns c = let h : length c.args.offs.now ≤ c.loop-i.i = omega arith in sym (c.loop-i.invariant.2 ∙ increments-end _ _ _ _ _ _ _ h)

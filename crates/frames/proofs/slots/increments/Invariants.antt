@@ -10,7 +10,3 @@ abbrev pub invariant-loop-i : goal.invariant-loop-i
 invariant-loop-i l =
     (l.i ≤ length l.offs) × (l.s.n + (length l.offs - l.i) ≤ max_slots)
     × (push_all l.initial.s (increment_slots l.q l.slot (rows_from l.a 0 l.n) l.offs l.bits) ≡ push_all l.s (increment_slots l.q l.slot (rows_from l.a 0 l.n) (drop l.i l.offs) (drop l.i l.bits)))
-
-abbrev pub decreases-loop-i : goal.decreases-loop-i
-decreases-loop-i l =
-    length l.offs - l.i

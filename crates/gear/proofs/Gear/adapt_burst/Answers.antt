@@ -14,7 +14,7 @@ unfolding adapted of_int of_bits
 returns-then-loss-self c =
     let max = c in
     let far = max in
-    simp (rw (far.far-far.ensures, far.steady-steady.ensures) at max.if-loss-self.true, c.min64-longer.ensures, c.burst_seconds.ensures, max.max64-most.ensures)
+    simp (rw (far.far-far.ensures, far.steady-steady.ensures) at max.if-loss-self.true, c.min-longer.ensures, c.burst_seconds.ensures, max.max-most.ensures)
 
 pub returns : goal.returns
 unfolding adapted of_int of_bits

@@ -3,4 +3,4 @@ use Rattle.gear.proofs.Gear.turn.Goals as goal
 
 pub returns : goal.returns
 unfolding at_turn
-returns c = simp (c.smaller-l.ensures, c.top_level_in.ensures)
+returns c = simp (c.min.ensures, c.top_level_in.ensures)

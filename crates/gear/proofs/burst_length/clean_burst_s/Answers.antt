@@ -12,4 +12,4 @@ ack-ack-requires c = rw c.wave_rank.ensures (wave-lt _)
 
 pub returns : goal.returns
 unfolding clean_burst of_int of_bits
-returns c = simp (c.clamp64.ensures, c.max64.ensures, c.ack-ack.ensures, c.wave_rank.ensures, c.data_s-pre.ensures)
+returns c = simp (c.clamp64.ensures, c.max.ensures, c.ack-ack.ensures, c.wave_rank.ensures, c.data_s-pre.ensures)

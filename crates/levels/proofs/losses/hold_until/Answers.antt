@@ -3,4 +3,4 @@ use Rattle.levels.proofs.losses.hold_until.Goals as goal
 
 pub returns : goal.returns
 unfolding held_until
-returns c = simp c.max64-until.ensures
+returns c = simp c.max-until.ensures

@@ -3,4 +3,4 @@ use Rattle.levels.proofs.rates.frames_of.Goals as goal
 
 pub returns : goal.returns
 unfolding frames_per_burst
-returns c = simp c.max64.ensures
+returns c = simp c.max.ensures

@@ -6,8 +6,8 @@ payload_rate-requires c =
     let s = c in
     let k = paced s.args.cfg s.requires.fact_2 s.args.l s.requires.fact_1 in record {
       fact_1 = s.requires.fact_1;
-      fact_2 = record { usual = k.usual; pre = k.pre; rate = k.rate; cue = k.cue; slot = k.slot };
+      fact_2 = rw c.at.ensures (record { usual = k.usual; pre = k.pre; rate = k.rate; cue = k.cue; slot = k.slot });
     }
 
 pub returns : goal.returns
-returns c = c.payload_rate.ensures
+returns c = rw c.at.ensures at c.payload_rate.ensures

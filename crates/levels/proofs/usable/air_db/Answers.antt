@@ -2,14 +2,14 @@ use Rattle.levels.specs.Usable.{air_db}
 use Rattle.laws.proofs.Picks.{calls}
 use Rattle.levels.proofs.usable.air_db.Goals as goal
 
-pub returns-then-power-eq1 : goal.returns-then-power-eq1
+pub returns-in-1 : goal.returns-in-1
 unfolding air_db
-returns-then-power-eq1 c = search calls
+returns-in-1 c = search calls
 
-pub returns-then-power-eq2 : goal.returns-then-power-eq2
+pub returns-in-2 : goal.returns-in-2
 unfolding air_db
-returns-then-power-eq2 c = search calls
+returns-in-2 c = search calls
 
-pub returns-else-power-eq2 : goal.returns-else-power-eq2
+pub returns-in_default : goal.returns-in_default
 unfolding air_db
-returns-else-power-eq2 c = search calls
+returns-in_default c = search calls

@@ -2,14 +2,14 @@ use Rattle.levels.specs.Usable.{family_ok}
 use Rattle.laws.proofs.Picks.{picks}
 use Rattle.levels.proofs.usable.family_ok.Goals as goal
 
-pub returns-then-w-lt3 : goal.returns-then-w-lt3
+pub returns-in-0-to-2 : goal.returns-in-0-to-2
 unfolding family_ok
-returns-then-w-lt3 c = rw (← c.wave_rank-w.ensures) (search picks)
+returns-in-0-to-2 c = rw (← c.wave_rank.ensures) (search picks)
 
-pub returns-then-w-eq4 : goal.returns-then-w-eq4
+pub returns-in-4 : goal.returns-in-4
 unfolding family_ok
-returns-then-w-eq4 c = rw (← c.wave_rank-w.ensures) (search picks)
+returns-in-4 c = rw (← c.wave_rank.ensures) (search picks)
 
-pub returns-else-w-eq4 : goal.returns-else-w-eq4
+pub returns-in_default : goal.returns-in_default
 unfolding family_ok
-returns-else-w-eq4 c = rw (← c.wave_rank-w.ensures) (search picks)
+returns-in_default c = rw (← c.wave_rank.ensures) (search picks)

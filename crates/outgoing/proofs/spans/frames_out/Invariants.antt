@@ -1,6 +1,6 @@
 use mathlib.Core.Path.{◌≡◌}
 use mathlib.Core.List.{List, map}
-use Prim.Native.Nat.{ℕ, ◌-◌, ◌≤◌}
+use Prim.Native.Nat.{ℕ, ◌-◌}
 use Rattle.laws.specs.Bytes.{overwrite}
 use Rattle.harq.specs.Held.{start_of}
 use Rattle.harq.specs.declared.Harq.{Harq}
@@ -27,8 +27,4 @@ bits_of x = x.bits
 
 abbrev pub invariant-loop-i : goal.invariant-loop-i
 invariant-loop-i l =
-    (l.i ≤ l.s.n) × Same off_of l.s l.initial.off l.i l.off × Same len_of l.s l.initial.len l.i l.len × Same (start-of l.q) l.s l.initial.start l.i l.start × Same bits_of l.s l.initial.bits l.i l.bits
-
-abbrev pub decreases-loop-i : goal.decreases-loop-i
-decreases-loop-i l =
-    l.s.n - l.i
+    Same off_of l.s l.initial.off l.i l.off × Same len_of l.s l.initial.len l.i l.len × Same (start-of l.q) l.s l.initial.start l.i l.start × Same bits_of l.s l.initial.bits l.i l.bits

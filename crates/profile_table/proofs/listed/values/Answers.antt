@@ -1,7 +1,6 @@
 -- `listed::values`: the first values are read. Assumes nothing.
 use mathlib.Core.Path.{◌≡◌, ap, ◌∙◌}
 use native.Mathlib.Omega.{arith}
-use borrow.Author.Rules.{rules}
 use Rattle.profile_table.specs.ProfileLines.{value_read, line_read, Reading}
 use Rattle.laws.specs.Steps.{steps}
 use Rattle.laws.proofs.Steps.{steps-none, steps-more}
@@ -11,24 +10,20 @@ use Rattle.profile_table.proofs.Lines.{value-step}
 use Rattle.profile_table.proofs.listed.values.Goals as goal
 
 pub loop-i-init : goal.loop-i-init
-loop-i-init c = (
-  search rules,
-  ap (λ (x : Read). (x, c.args.v.now)) c.word-q.ensures ∙ steps-none
-      (value_read c.args.line.now c.args.kind
-      c.args.at) _,
-)
+loop-i-init c =
+    ap (λ (x : Read). (x, c.args.v.now)) c.word-q.ensures ∙ steps-none
+    (value_read c.args.line.now c.args.kind
+    c.args.at) _
 
 pub loop-i-preserved : goal.loop-i-preserved
-loop-i-preserved c = (
-  search rules,
-  steps-more (value_read c.args.line.now
-      c.args.kind
-      c.args.at) c.loop-i.i _ _ _
-      c.loop-i.invariant.1 (value-step c.args.line.now
-      c.args.kind
-      c.args.at c.loop-i.i _ _ _ _
-      c.kind_at.ensures c.next_value-q.ensures),
-)
+loop-i-preserved c =
+    steps-more (value_read c.args.line.now
+    c.args.kind
+    c.args.at) c.loop-i.i _ _ _
+    c.loop-i.invariant (value-step c.args.line.now
+    c.args.kind
+    c.args.at c.loop-i.i _ _ _ _
+    c.kind_at.ensures c.next_value-q.ensures)
 
 pub returns : goal.returns
 unfolding line_read
@@ -40,7 +35,7 @@ returns c = let e : c.loop-i.i ≡ c.args.n = omega arith in let x : ◌≡◌
       begun c.args.line.now
           c.args.name.now,
       c.args.v.now,
-    )) = rw (← e) c.loop-i.invariant.1 in (
+    )) = rw (← e) c.loop-i.invariant in (
       c.done.ensures ∙ ap (λ (y : Reading). is_done c.args.line.now y.0) x,
       ap
           (λ (y : Reading). y.1) x,

@@ -1,4 +1,3 @@
-use Prim.Native.Nat.{◌-◌, ◌≤◌}
 use mathlib.Core.Path.{◌≡◌}
 use Rattle.profile_table.specs.ProfileLines.{value_read, Reading}
 use Rattle.laws.specs.Steps.{steps}
@@ -7,8 +6,4 @@ use Rattle.profile_table.proofs.listed.values.Given as goal
 
 abbrev pub invariant-loop-i : goal.invariant-loop-i
 invariant-loop-i l =
-    (l.i ≤ l.n) × (◌≡◌ {A = Reading} (l.q, l.v) (steps (value_read l.line l.kind l.at) l.i (begun l.line l.name, l.initial.v)))
-
-abbrev pub decreases-loop-i : goal.decreases-loop-i
-decreases-loop-i l =
-    l.n - l.i
+    (◌≡◌ {A = Reading} (l.q, l.v) (steps (value_read l.line l.kind l.at) l.i (begun l.line l.name, l.initial.v)))

@@ -6,4 +6,4 @@ pub ack-requires : goal.ack-requires
 ack-requires c = omega (arith, c.requires)
 
 pub returns : goal.returns
-returns c = simp (c.capped_add.ensures, c.to_millis.ensures, c.ack.ensures)
+returns c = simp (c.saturating_add.ensures, c.to_millis.ensures, c.ack.ensures)

@@ -41,6 +41,6 @@ returns c =
       sent_bits = omega arith;
       sent_held = omega arith;
     } in
-    long-awaited _ c.args.s c.args.a.now c.requires.fact_2.0 arrays (λ k. (c.slice_known-1.given k).fits) _ _ _ _ _ _ _ _ _
-    c.with_class-g.ensures c.note-k.ensures c.ack_airtime-ms.ensures c.long_db-db.ensures
+    long-awaited _ c.args.s c.args.a.now c.requires.fact_2.0 arrays (λ k. (c.slice_known-1.given k).fits) _ _ _ _ _ _ _ _ _ _
+    c.report_or_none-c.ensures c.with_class-g.ensures c.note-k.ensures c.ack_airtime-ms.ensures c.long_db-db.ensures
     c.ack_in.ensures (not-false _ c.if-not-k.false)

@@ -1,13 +1,9 @@
 use mathlib.Core.Path.{◌≡◌}
-use Prim.Native.Nat.{◌-◌, ◌≤◌}
-use lib.ListN.{length, drop}
+use Prim.Native.Nat.{◌≤◌}
+use lib.ListN.{drop}
 use Rattle.settle.specs.OutcomesCode.{tallied_from, tallied}
 use Rattle.settle.proofs.outcome.tally.Given as goal
 
 abbrev pub invariant-loop-i : goal.invariant-loop-i
 invariant-loop-i l =
-    (l.i ≤ length l.bits) × (l.t.fresh ≤ l.i) × (l.t.fresh_got ≤ l.i) × (l.t.got ≤ l.i) × (tallied l.bitmap l.bits l.held ≡ tallied_from l.t l.b (drop l.i l.bits) (drop l.i l.held))
-
-abbrev pub decreases-loop-i : goal.decreases-loop-i
-decreases-loop-i l =
-    length l.bits - l.i
+    (l.t.fresh ≤ l.i) × (l.t.fresh_got ≤ l.i) × (l.t.got ≤ l.i) × (tallied l.bitmap l.bits l.held ≡ tallied_from l.t l.b (drop l.i l.bits) (drop l.i l.held))

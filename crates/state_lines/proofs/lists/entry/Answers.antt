@@ -1,16 +1,7 @@
 -- `state_lines::lists::entry` meets its contract.
-use mathlib.Core.Path.{◌∙◌}
-use Rattle.text.proofs.Laws.{appends, ◌⨾◌}
+use Rattle.text.proofs.Texts.{◌⨾◌}
 use Rattle.state_lines.proofs.lists.entry.Goals as goal
-
-pub shape_of-t : goal.shape_of-t
-shape_of-t c =
-    let p2 = c in
-    let p1 = p2 in
-    p2.after_colon.auto.t ∙ p1.number-n.auto.t
 
 pub returns : goal.returns
 returns c =
-    let p2 = c in
-    let p1 = p2 in
-    (appends p1.number-n.ensures ⨾ appends p2.after_colon.ensures).is
+    c.number.ensures ⨾ c.after_colon.ensures

@@ -1,55 +1,21 @@
 -- `state_lines::lists::sent_frames` meets its contract.
-use mathlib.Core.Path.{refl, ◌∙◌}
+use mathlib.Core.Path.{refl}
 use native.Mathlib.Omega.{arith}
-use Rattle.state_lines.proofs.Laws.{sent-more, sent-over, sent-over-off, sent-over-bits, sent-over-held}
+use Rattle.state_lines.proofs.Laws.{sent-more, sent-over}
 use Rattle.state_lines.specs.State.{sent_word}
-use Rattle.text.proofs.Laws.{appends, whole, each_turn, each-end}
+use Rattle.text.proofs.Texts.{begun, turn, ended}
 use Rattle.state_lines.proofs.lists.sent_frames.Goals as goal
 
 pub loop-i-init : goal.loop-i-init
-loop-i-init c = (whole _ _, refl)
-
-pub shape_of-t-then-i-off : goal.shape_of-t-then-i-off
-shape_of-t-then-i-off c = c.loop-i.invariant.1
-
-pub returns-then-i-off : goal.returns-then-i-off
-returns-then-i-off c = let p = c in
-    let a = p.args in
-    each-end sent_word (sent-over-off a.off.now a.bits.now a.held.now a.to p.loop-i.i c.if-i-off.true) p.loop-i.invariant.0
-
-pub shape_of-t-then-i-bits : goal.shape_of-t-then-i-bits
-shape_of-t-then-i-bits c = c.loop-i.invariant.1
-
-pub returns-then-i-bits : goal.returns-then-i-bits
-returns-then-i-bits c = let p = c in
-    let a = p.args in
-    each-end sent_word (sent-over-bits a.off.now a.bits.now a.held.now a.to p.loop-i.i c.if-i-bits.true) p.loop-i.invariant.0
-
-pub shape_of-t-then-i-held : goal.shape_of-t-then-i-held
-shape_of-t-then-i-held c = c.loop-i.invariant.1
-
-pub returns-then-i-held : goal.returns-then-i-held
-returns-then-i-held c = let p = c in
-    let a = p.args in
-    each-end sent_word (sent-over-held a.off.now a.bits.now a.held.now a.to p.loop-i.i c.if-i-held.true) p.loop-i.invariant.0
-
-pub loop-i-smaller : goal.loop-i-smaller
-loop-i-smaller c = omega arith
+loop-i-init c = begun _ refl
 
 pub loop-i-preserved : goal.loop-i-preserved
-loop-i-preserved c = let q = c in
-    let e = q in
-    let l = e in
-    let p = l in
-    let a = p.args in
-    let more = sent-more a.off.now a.bits.now a.held.now a.to p.loop-i.i l.loop-i-test.true
-    e.if-i-off.false e.if-i-bits.false e.if-i-held.false in
-    (each_turn sent_word more p.loop-i.invariant.0 (appends q.long_entry-n.ensures), q.long_entry-n.auto.t ∙ p.loop-i.invariant.1)
-
-pub shape_of-t : goal.shape_of-t
-shape_of-t c = c.loop-i.invariant.1
+loop-i-preserved c =
+    let a = c.args in
+    let more = sent-more a.off.now a.bits.now a.held.now a.to c.loop-i.i (omega arith) (omega arith) (omega arith) (omega arith) in
+    turn sent_word more c.loop-i.invariant c.long_entry.ensures
 
 pub returns : goal.returns
-returns c = let p = c in
-    let a = p.args in
-    each-end sent_word (sent-over a.off.now a.bits.now a.held.now a.to p.loop-i.i c.loop-i-test.false) p.loop-i.invariant.0
+returns c =
+    let a = c.args in
+    ended sent_word (sent-over a.off.now a.bits.now a.held.now a.to c.loop-i.i (omega arith)) c.loop-i.invariant

@@ -1,14 +1,6 @@
 -- `transcript::reached::entry` meets its contract.
-use mathlib.Core.Path.{◌∙◌}
-use Rattle.text.proofs.Laws.{appends, ◌⨾◌}
+use Rattle.text.proofs.Texts.{◌⨾◌}
 use Rattle.transcript.proofs.reached.entry.Goals as goal
 
-pub shape_of-t : goal.shape_of-t
-shape_of-t c =
-    let p2 = c in
-    let p1 = p2 in
-    p2.after_colon.auto.t ∙ p1.number-n.auto.t
-
 pub returns : goal.returns
-returns c =
-    (appends c.number-n.ensures ⨾ appends c.after_colon.ensures).is
+returns c = c.number.ensures ⨾ c.after_colon.ensures

@@ -1,16 +1,13 @@
--- `digits::any_digit`: each range of characters. Assumes nothing.
-use Rattle.laws.proofs.Picks.{picks}
+-- `digits::any_digit`: by its range. Assumes nothing.
+use Rattle.std.proofs.Common.{arith}
+use Rattle.std.proofs.lemmas.Bool.Decides.{nat_tests}
 use Rattle.words.specs.Words.{any_digit}
 use Rattle.words.proofs.digits.any_digit.Goals as goal
 
-pub returns-then-c-lt65 : goal.returns-then-c-lt65
+pub returns-in-65-to-70 : goal.returns-in-65-to-70
 unfolding any_digit
-returns-then-c-lt65 c = search picks
+returns-in-65-to-70 c = grind (arith, nat_tests)
 
-pub returns-then-c-le70 : goal.returns-then-c-le70
+pub returns-in_default : goal.returns-in_default
 unfolding any_digit
-returns-then-c-le70 c = search picks
-
-pub returns : goal.returns
-unfolding any_digit
-returns c = search picks
+returns-in_default c = grind (arith, nat_tests)

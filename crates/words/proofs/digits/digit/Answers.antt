@@ -1,24 +1,25 @@
--- `digits::digit`: each range of characters. Assumes nothing.
-use Rattle.laws.proofs.Picks.{picks}
+-- `digits::digit`: by its range. Assumes nothing.
+use Rattle.std.proofs.Common.{arith}
+use Rattle.std.proofs.lemmas.Bool.Decides.{nat_tests}
 use Rattle.words.specs.Words.{digit_value}
 use Rattle.words.proofs.digits.digit.Goals as goal
 
-pub returns-then-c-lt48 : goal.returns-then-c-lt48
+pub returns-in-48-to-57 : goal.returns-in-48-to-57
 unfolding digit_value
-returns-then-c-lt48 c = search picks
+returns-in-48-to-57 c = grind (arith, nat_tests)
 
-pub returns-then-c-le57 : goal.returns-then-c-le57
+pub returns-in-97-to-102 : goal.returns-in-97-to-102
 unfolding digit_value
-returns-then-c-le57 c = search picks
+returns-in-97-to-102 c = grind (arith, nat_tests)
 
-pub returns-then-c-lt97 : goal.returns-then-c-lt97
+pub returns-in_default : goal.returns-in_default
 unfolding digit_value
-returns-then-c-lt97 c = search picks
+returns-in_default c = grind (arith, nat_tests)
 
-pub returns-then-c-le102 : goal.returns-then-c-le102
+pub returns-in_default-2 : goal.returns-in_default-2
 unfolding digit_value
-returns-then-c-le102 c = search picks
+returns-in_default-2 c = grind (arith, nat_tests)
 
-pub returns : goal.returns
+pub returns-in_default-3 : goal.returns-in_default-3
 unfolding digit_value
-returns c = search picks
+returns-in_default-3 c = grind (arith, nat_tests)

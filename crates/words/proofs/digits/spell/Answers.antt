@@ -1,21 +1,14 @@
--- `digits::spell`: what is left of the word is spelled after what was read of it. Assumes nothing.
-use Prim.Native.Nat.{◌-◌}
-use mathlib.Core.Path.{refl, sym, ◌∙◌}
-use borrow.Author.Rules.{rules}
-use Rattle.words.specs.Words.{spelled}
-use Rattle.words.proofs.Laws.{spelled-end, spelled-turn}
+-- `digits::spell`: what is left of the word has the rest of the number. Assumes nothing.
+use Rattle.std.proofs.Common.{arith, sym, ◌∙◌}
+use Rattle.std.proofs.lemmas.Grind.{common_steps}
+use Rattle.words.proofs.Laws.{spelled-more, spelled-stop, spelled-end}
 use Rattle.words.proofs.digits.spell.Goals as goal
 
-pub loop-i-init : goal.loop-i-init
-loop-i-init c = (search rules, rw c.number-n.ensures refl)
+pub returns-in_err-n : goal.returns-in_err-n
+returns-in_err-n c = let k = spelled-stop c.args.w.now c.loop-c.c-index c.args.base c.loop-c.n (omega arith) (sym c.shifted.ensures ∙ c.in_err-n.was) in grind (arith, common_steps)
 
-pub loop-i-preserved : goal.loop-i-preserved
-loop-i-preserved c = (
-  search rules,
-  spelled-turn c.args.w.now
-      c.loop-i.i _ _ _ _ c.loop-i.invariant.1 (search rules) c.shifted-n.ensures,
-)
+pub loop-c-preserved : goal.loop-c-preserved
+loop-c-preserved c = c.loop-c.invariant ∙ spelled-more c.args.w.now c.loop-c.c-index c.args.base c.loop-c.n _ (omega arith) (sym c.shifted.ensures ∙ c.in_ok-n.was)
 
 pub returns : goal.returns
-returns c = sym (c.loop-i.invariant.1 ∙ spelled-end c.args.w.now c.loop-i.i _ _
-    (search rules))
+returns c = sym (c.loop-c.invariant ∙ spelled-end c.args.w.now c.loop-c.c-index c.args.base c.loop-c.n (omega arith))

@@ -1,37 +1,20 @@
 -- `meaning::bits`: each way to be none, and the digits. Assumes nothing.
-use Prim.Native.Nat.{◌+◌, ◌-◌}
-use mathlib.Core.Path.{ap, ◌∙◌}
-use native.Mathlib.Omega.{arith}
-use lib.ListN.{length, drop, length-drop}
-use borrow.Author.Tests.{ne_eqb}
-use Rattle.laws.proofs.Picks.{picks, cond_no, and_left}
-use Rattle.words.specs.Words.{spelled, bits_of, is}
-use Rattle.words.proofs.Laws.{bits-yes}
+use Rattle.std.proofs.Common.{arith}
+use Rattle.std.proofs.lemmas.Bool.Decides.{nat_tests}
+use Rattle.std.proofs.Common.{ap, ◌∙◌, ◌-◌, length, drop, length-drop}
 use lib.Seq.{take_all}
+use Rattle.words.specs.Words.{bits_of, spelled}
+use Rattle.words.proofs.meaning.bits.Goals.{then-w-lt2-via-then-w-lt2, then-w-lt2-via-else-w-lt2+then-w-n, then-w-ne48-via-then-w-ne48, then-w-ne48-via-else-w-ne48+then-w-ne120}
 use Rattle.words.proofs.meaning.bits.Goals as goal
 
 pub returns-then-w-lt2 : goal.returns-then-w-lt2
 unfolding bits_of
-returns-then-w-lt2 c = cond_no _ _ _ _ (and_left _ _ (ne_eqb (length c.args.w.now)
-    (c.args.n + 2) (λ e. omega arith))) c.no_number.ensures
-
-pub returns-then-w-n : goal.returns-then-w-n
-unfolding bits_of
-returns-then-w-n c = cond_no _ _ _ _ (and_left _ _ (ne_eqb (length c.args.w.now)
-    (c.args.n + 2) (λ e. c.if-w-n.true (omega arith)))) c.no_number-then-w-n.ensures
+returns-then-w-lt2 c = elim c.then-w-lt2.branch [ then-w-lt2-via-then-w-lt2 w ↦ grind (arith, nat_tests) | then-w-lt2-via-else-w-lt2+then-w-n w ↦ grind (arith, nat_tests) ]
 
 pub returns-then-w-ne48 : goal.returns-then-w-ne48
 unfolding bits_of
-returns-then-w-ne48 c = search picks
-
-pub returns-then-w-ne120 : goal.returns-then-w-ne120
-unfolding bits_of
-returns-then-w-ne120 c = search picks
+returns-then-w-ne48 c = elim c.then-w-ne48.branch [ then-w-ne48-via-then-w-ne48 w ↦ grind (arith, nat_tests) | then-w-ne48-via-else-w-ne48+then-w-ne120 w ↦ grind (arith, nat_tests) ]
 
 pub returns : goal.returns
-returns c = c.spell.ensures ∙ ap (spelled 16 (is 0)) (take_all
-    (length c.args.w.now - 2)
-    (drop 2 c.args.w.now) (simp length-drop (omega arith)))
-    ∙ bits-yes c.args.n
-    c.args.w.now (omega arith)
-    c.if-w-ne48.false c.if-w-ne120.false
+unfolding bits_of
+returns c = let e = c.spell.ensures ∙ ap (spelled 16 0) (take_all (length c.args.w.now - 2) (drop 2 c.args.w.now) (simp length-drop (omega arith))) in grind (arith, nat_tests)

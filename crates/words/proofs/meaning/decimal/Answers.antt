@@ -1,12 +1,13 @@
 -- `meaning::decimal`: digits, at least one. Assumes nothing.
-use Rattle.laws.proofs.Picks.{picks}
+use Rattle.std.proofs.Common.{arith}
+use Rattle.std.proofs.lemmas.Bool.Decides.{nat_tests}
 use Rattle.words.specs.Words.{decimal_of}
 use Rattle.words.proofs.meaning.decimal.Goals as goal
 
-pub returns-then-w-eq0 : goal.returns-then-w-eq0
+pub returns-then-is_empty : goal.returns-then-is_empty
 unfolding decimal_of
-returns-then-w-eq0 c = search picks
+returns-then-is_empty c = grind (arith, nat_tests)
 
 pub returns : goal.returns
 unfolding decimal_of
-returns c = search picks
+returns c = grind (arith, nat_tests)

@@ -1,20 +1,21 @@
 -- `meaning::flag`: its one character. Assumes nothing.
-use Rattle.laws.proofs.Picks.{picks}
+use Rattle.std.proofs.Common.{arith}
+use Rattle.std.proofs.lemmas.Bool.Decides.{nat_tests}
 use Rattle.words.specs.Words.{flag_of}
 use Rattle.words.proofs.meaning.flag.Goals as goal
 
 pub returns-then-w-ne1 : goal.returns-then-w-ne1
 unfolding flag_of
-returns-then-w-ne1 c = search picks
+returns-then-w-ne1 c = grind (arith, nat_tests)
 
-pub returns-then-w-eq48 : goal.returns-then-w-eq48
+pub returns-in-48 : goal.returns-in-48
 unfolding flag_of
-returns-then-w-eq48 c = search picks
+returns-in-48 c = grind (arith, nat_tests)
 
-pub returns-then-w-eq49 : goal.returns-then-w-eq49
+pub returns-in-49 : goal.returns-in-49
 unfolding flag_of
-returns-then-w-eq49 c = search picks
+returns-in-49 c = grind (arith, nat_tests)
 
-pub returns : goal.returns
+pub returns-in_default : goal.returns-in_default
 unfolding flag_of
-returns c = search picks
+returns-in_default c = grind (arith, nat_tests)

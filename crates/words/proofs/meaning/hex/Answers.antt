@@ -1,27 +1,17 @@
 -- `meaning::hex`: the bytes are stored where they were counted. Assumes nothing.
-use mathlib.Core.Path.{refl, sym, ap, ◌∙◌}
+use Rattle.std.proofs.Common.{sym, ◌∙◌, refl}
 use Rattle.words.specs.Words.{hex_into}
 use Rattle.words.proofs.Laws.{hex-room}
-use Rattle.laws.proofs.Picks.{cond_yes, cond_no}
-use Rattle.words.specs.declared.Number.{Number}
 use Rattle.words.proofs.meaning.hex.Goals as goal
 
 pub put_pairs-requires : goal.put_pairs-requires
-put_pairs-requires c = hex-room _ _ (ap (λ (n : Number). n.ok) (sym c.hex_count-n.ensures) ∙ c.if-n.true)
-
-pub returns-then-n : goal.returns-then-n
 unfolding hex_into
-returns-then-n c = record {
-  value = c.hex_count-n.ensures;
-  bytes_after = cond_yes _ _ _ _
-      (ap (λ (n : Number). n.ok) (sym c.hex_count-n.ensures) ∙
-      c.if-n.true) c.put_pairs.ensures;
-}
+put_pairs-requires c = hex-room _ _ _ (sym c.hex_count.ensures ∙ c.in_ok-n.was)
 
-pub returns-else-n : goal.returns-else-n
+pub returns-in_err-n-clause-bytes_after : goal.returns-in_err-n-clause-bytes_after
 unfolding hex_into
-returns-else-n c = record {
-  value = c.hex_count-n.ensures;
-  bytes_after = cond_no _ _ _ _ (ap (λ (n : Number). n.ok) (sym c.hex_count-n.ensures) ∙
-      c.if-n.false) refl;
-}
+returns-in_err-n-clause-bytes_after c = let e = sym c.hex_count.ensures ∙ c.in_err-n.was in rw e refl
+
+pub returns-clause-bytes_after : goal.returns-clause-bytes_after
+unfolding hex_into
+returns-clause-bytes_after c = let e = sym c.hex_count.ensures ∙ c.in_ok-n.was in rw e c.put_pairs.ensures

@@ -3,4 +3,4 @@ use Rattle.levels.proofs.memory.Tries.fail.Goals as goal
 
 pub returns : goal.returns
 unfolding failed
-returns c = simp c.bump-n.ensures
+returns c = simp c.saturating_add.ensures

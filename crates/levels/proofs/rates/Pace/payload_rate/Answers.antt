@@ -18,7 +18,7 @@ overflow_mul-most c =
     let s = c in
     record {
       fits =
-          rw (c.count_of.ensures, c.frames_of-frames.ensures, c.data_s-two.ensures, c.data_s-one.ensures, c.cue_s-lead.ensures)
+          rw (c.count_of.ensures, c.frames_of-frames.ensures, c.data_s-two.ensures, c.data_s-one.ensures, c.cue_s-lead.ensures, c.from-slot.ensures)
           (bits_fit _ _ (frames-le s.args.self s.requires.fact_2 s.args.cue) s.requires.fact_2.slot);
     }
 
@@ -30,8 +30,8 @@ unfolding pace_rate of_int of_bits
 returns c =
     let a = c in
     simp (
-      c.max64-2.ensures,
-      c.max64.ensures,
+      c.max-2.ensures,
+      c.max.ensures,
       c.floor64.ensures,
       c.nearest_u64_to_f64-bits.ensures,
       c.payload_bits.ensures,
@@ -41,4 +41,5 @@ returns c =
       a.data_s-two.ensures,
       a.data_s-one.ensures,
       a.cue_s-lead.ensures,
+      a.from-slot.ensures,
     )

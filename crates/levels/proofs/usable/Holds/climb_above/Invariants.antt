@@ -1,12 +1,8 @@
 use Rattle.levels.specs.Usable.{climbs, climb_above}
 use Rattle.laws.specs.Span.{upto, last_of}
-use Rattle.std.proofs.Common.{◌≡◌, ◌-◌, ◌≤◌}
+use Rattle.std.proofs.Common.{◌≡◌}
 use Rattle.levels.proofs.usable.Holds.climb_above.Given as goal
 
 abbrev pub invariant-loop-k : goal.invariant-loop-k
 invariant-loop-k l =
-    (climb_above l.self l.class l.skip l.at l.n l.now ≡ last_of (climbs l.self l.class l.skip l.now) l.left l.to (upto l.k 17)) × (l.k ≤ 17)
-
-abbrev pub decreases-loop-k : goal.decreases-loop-k
-decreases-loop-k l =
-    17 - l.k
+    climb_above l.self l.class l.skip l.at l.n l.now ≡ last_of (climbs l.self l.class l.skip l.now) l.left l.to (upto l.k 17)

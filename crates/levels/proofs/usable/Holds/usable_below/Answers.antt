@@ -9,15 +9,15 @@ unfolding usable_below
 returns-then-pin c = search picks
 
 pub loop-k-init : goal.loop-k-init
-loop-k-init c = (refl, omega arith)
+loop-k-init c = refl
 
 pub returns-then-usable : goal.returns-then-usable
 unfolding usable_below
-returns-then-usable c = cond_no _ _ _ _ c.if-pin.false (sym (c.loop-k.invariant.0 ∙ highest-hit _ _ _ (omega arith) (told-yes _ _ c.usable.ensures c.if-usable.true)))
+returns-then-usable c = cond_no _ _ _ _ c.if-pin.false (sym (c.loop-k.invariant ∙ highest-hit _ _ _ (omega arith) (told-yes _ _ c.usable.ensures c.if-usable.true)))
 
 pub loop-k-preserved : goal.loop-k-preserved
-loop-k-preserved c = (c.loop-k.invariant.0 ∙ highest-miss _ _ _ (omega arith) (told-no _ _ c.usable.ensures c.if-usable.false), omega arith)
+loop-k-preserved c = c.loop-k.invariant ∙ highest-miss _ _ _ (omega arith) (told-no _ _ c.usable.ensures c.if-usable.false)
 
 pub returns : goal.returns
 unfolding usable_below
-returns c = let e : c.loop-k.k ≡ 0 = omega arith in cond_no _ _ _ _ c.if-pin.false (highest-none _ _ ∙ sym (rw e at c.loop-k.invariant.0))
+returns c = let e : c.loop-k.k ≡ 0 = omega arith in cond_no _ _ _ _ c.if-pin.false (highest-none _ _ ∙ sym (rw e at c.loop-k.invariant))

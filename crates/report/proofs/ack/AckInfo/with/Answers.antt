@@ -13,9 +13,8 @@ returns c =
     let s = m in
     λ i. record {
       burst = get_or s.args.b.now 0 0 % 4;
-      bitmap = m.load64.ensures i;
+      bitmap = m.load.ensures i;
       snr_db = q.snr_from_q.ensures i;
-      delivered = (ap (λ (x : ℕ). x / 256) c.load32.ensures ∙ upper s.args.b.now 9 (λ k. omega (arith, c.type_inv.b k)) s.requires) i;
-      reported = s.args.reported;
+      delivered = (ap (λ (x : ℕ). x / 256) c.load-2.ensures ∙ upper s.args.b.now 9 (λ k. omega (arith, c.type_inv.b k)) s.requires) i;
       report = s.args.report;
     }

@@ -1,9 +1,0 @@
--- The loop stays within the array.
-use Rattle.std.proofs.Common.{◌-◌, ◌≤◌}
-use Rattle.check_sums.proofs.put_byte.Given as goal
-
-abbrev pub invariant-loop-j : goal.invariant-loop-j
-invariant-loop-j l = l.j ≤ 8
-
-abbrev pub decreases-loop-j : goal.decreases-loop-j
-decreases-loop-j l = 8 - l.j

@@ -1,9 +1,0 @@
--- As many as the reply says.
-use Rattle.std.proofs.Common.{◌-◌, ◌≤◌}
-use Rattle.gear_cases.proofs.with_levels.Given as goal
-
-abbrev pub invariant-loop-i : goal.invariant-loop-i
-invariant-loop-i g l = l.i ≤ l.n
-
-abbrev pub decreases-loop-i : goal.decreases-loop-i
-decreases-loop-i g l = l.n - l.i

@@ -1,5 +1,0 @@
--- `u32_at`: the number, and what it means. Assumes nothing.
-use Rattle.profile_table.proofs.u32_at.Goals as goal
-
-pub returns : goal.returns
-returns c = cc
