@@ -40,6 +40,10 @@ tries none level 'trait Half {\n    fn half(self) -> Self;\n}\n'
 tries none level 'pub trait Half {\n    fn half(self) -> Self\n        ensures { result ≡ self };\n}\n\nimpl Half for u8 {\n    fn half(self) -> u8 {\n        self\n    }\n}\n'
 tries 'lib.rt:2 u8::from: no ensures' level 'impl From<Gear> for u8 {\n    fn from(g: Gear) -> u8 {\n        0\n    }\n}\n'
 tries none level 'impl From<Gear> for u8 {\n    ghost from_gives = { λ g n. n ≡ 0 };\n\n    fn from(g: Gear) -> u8 {\n        0\n    }\n}\n'
+tries 'lib.rt:4 u8::one: no ensures' level 'impl Two for u8 {\n    ghost any_gives = { λ a b. ⊤ };\n\n    fn one(self) -> u8 {\n        0\n    }\n}\n'
+tries 'lib.rt:8 u8::into: no ensures' level 'impl From<Gear> for u8 {\n    ghost from_gives = { λ g n. n ≡ 0 };\n\n    fn from(g: Gear) -> u8 {\n        0\n    }\n\n    fn into(self) -> u8 {\n        0\n    }\n}\n'
+tries 'u8::half: no ensures' level 'struct Half;\n\nimpl Half {\n    fn half(self) -> u8\n        ensures { result ≡ 0 }\n    {\n        0\n    }\n}\n\nimpl Half for u8 {\n    fn half(self) -> u8 {\n        self\n    }\n}\n'
+tries 'u8::half: no ensures' level 'mod a {\n    pub trait Half {\n        fn half(self) -> Self\n            ensures { result ≡ self };\n    }\n}\n\ntrait Half {\n    fn half(self) -> Self;\n}\n\nimpl Half for u8 {\n    fn half(self) -> u8 {\n        self\n    }\n}\n'
 
 # Of the sources as they stand: each public function of the calls, with its ensures taken out
 for source in crates/sender/src/lib.rt crates/station/src/lib.rt; do

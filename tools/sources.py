@@ -47,12 +47,12 @@ def blank_comments(text):
 
 
 class Function:
-    """A function of an .rt source: its name (Type::name in an impl, Trait::name in a trait), line, how public it is, signature, its clauses, and in an impl
-    of a trait the trait's name and whether the impl gives a ghost member NAME_gives, which stands for the clauses of a trait of std."""
+    """A function of an .rt source: its name (Type::name in an impl, Trait::name in a trait), line, how public it is, signature, its clauses, whether a trait
+    declares it, and in an impl of a trait the trait's name and whether the impl gives its ghost member NAME_gives, which stands for a clause of a trait of std."""
 
-    def __init__(self, path, name, line, public, extern, signature, clauses, trait=None, gives=False):
+    def __init__(self, path, name, line, public, extern, signature, clauses, declared=False, trait=None, gives=False):
         self.path, self.name, self.line, self.public, self.extern = path, name, line, public, extern
-        self.signature, self.clauses, self.trait, self.gives = signature, clauses, trait, gives
+        self.signature, self.clauses, self.declared, self.trait, self.gives = signature, clauses, declared, trait, gives
 
     def has(self, word):
         return any(w == word for w, _ in self.clauses)
@@ -72,10 +72,10 @@ def functions(path):
         kind = re.sub(r'<[^>]*>', '', head).split(' for ')[-1].replace('impl', '').strip()
         end = closing(text, m.end() - 1)
         trait = re.search(r'(\w+)(?:<[^{]*>)?\s+for\s', head)
-        gives = bool(re.search(r'\bghost \w+_gives\b', text[m.end():end]))
-        impls.append((m.end() - 1, end, kind, ' for ' in head, trait and trait.group(1), gives))
+        gives = re.findall(r'\bghost (\w+)_gives\b', text[m.end():end])
+        impls.append((m.end() - 1, end, kind, ' for ' in head, False, trait and trait.group(1), gives))
     for m in TRAIT.finditer(text):
-        impls.append((m.end() - 1, closing(text, m.end() - 1), m.group('name'), bool(m.group('pub')), None, False))
+        impls.append((m.end() - 1, closing(text, m.end() - 1), m.group('name'), bool(m.group('pub')), True, None, []))
     found = []
     for m in FN.finditer(text):
         at = m.end()
@@ -106,7 +106,7 @@ def functions(path):
         name = (inside[-1][2] + '::' if inside else '') + m.group('name')
         public = bool(m.group('pub')) and not m.group('scope') or bool(inside and inside[-1][3])
         found.append(Function(path, name, text.count('\n', 0, m.start('name')) + 1, public, 'extern' in m.group('mods'),
-                              text[m.start():signature_end], clauses, *(inside[-1][4:] if inside else ())))
+                              text[m.start():signature_end], clauses, *(inside[-1][4:6] if inside else ()), gives=bool(inside) and m.group('name') in inside[-1][6]))
     return found
 
 
