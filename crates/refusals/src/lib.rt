@@ -2,7 +2,7 @@
 #![tactic(auto)]
 
 ghost use Rattle.std.specs.Prelude.{◌≡◌};
-ghost use Rattle.refusals.specs.Refusals.{refusal_number, refusal_of, number_of, time_ok, report_ok, heard_ok, reply_ok};
+ghost use Rattle.refusals.specs.Refusals.{refusal_number, refusal_of, number_of, kind_of, time_ok, report_ok, heard_ok, reply_ok};
 
 use area::room::NoRoom;
 use replies::{Ack, ConnAck, Heard, LongAck, Turn};
@@ -95,5 +95,17 @@ pub fn reply_ok(r: Reply) -> bool
             & ((c.bitmap <= 63) & (report_ok(c.snr_db) & (c.slot <= 2))),
         Reply::LongAck(_) => true,
         Reply::Turn(c) => !c.report.set | report_ok(c.report.db),
+    }
+}
+
+// Which reply it is.
+pub fn kind(r: Reply) -> u8
+    ensures { result ≡ kind_of r }
+{
+    match r {
+        Reply::ConnAck(_) => 0,
+        Reply::Ack(_) => 1,
+        Reply::LongAck(_) => 2,
+        Reply::Turn(_) => 3,
     }
 }
