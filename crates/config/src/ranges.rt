@@ -43,18 +43,21 @@ fn level_ok(slot: u32, pre_s: f64, rate: f64, most: u32) -> bool
 fn levels_of_air_ok(a: Air) -> bool
     ensures { result ≡ every (level_ok a) (upto 0 17) }
 {
+    let mut ok = true;
     for l in 0..17 {
-        if !level_ok(a.slot_bits[l], a.pre_s[l], a.rate[l], a.max_bits[l]) {
-            return false;
-        }
+        ok &= level_ok(a.slot_bits[l], a.pre_s[l], a.rate[l], a.max_bits[l]);
     }
-    true
+    ok
 }
 
 fn acks_ok(a: Air) -> bool
     ensures { result ≡ every (ack_ok a) (upto 0 6) }
 {
-    a.ack_s.iter().all(|s| within(*s, 0.0, 60.0))
+    let mut ok = true;
+    for w in 0..6 {
+        ok &= within(a.ack_s[w], 0.0, 60.0);
+    }
+    ok
 }
 
 fn air_ok(a: Air) -> bool
@@ -66,7 +69,11 @@ fn air_ok(a: Air) -> bool
 fn ends_ok(q: Harq) -> bool
     ensures { result ≡ every (end_ok q) (upto 0 6) }
 {
-    q.ends.iter().all(|end| from_to(*end, 1, 16384))
+    let mut ok = true;
+    for i in 0..6 {
+        ok &= from_to(q.ends[i], 1, 16384);
+    }
+    ok
 }
 
 fn harq_ok(q: Harq) -> bool
@@ -94,7 +101,11 @@ fn holds_ok(h: HoldTimes) -> bool
 fn thresholds_ok(m: Marks) -> bool
     ensures { result ≡ every (threshold_ok m) (upto 0 17) }
 {
-    m.thresholds_db.iter().all(|db| db_ok(*db))
+    let mut ok = true;
+    for l in 0..17 {
+        ok &= db_ok(m.thresholds_db[l]);
+    }
+    ok
 }
 
 // Thresholds and margin in their range.

@@ -42,17 +42,16 @@ fn level_ok(tried: bool, share: f32, at: f64, until: f64) -> bool
 fn levels_ok(t: Tries, h: Holds) -> bool
     ensures { result ≡ every (remembered_ok t h) (upto 0 17) }
 {
+    let mut ok = true;
     for k in 0..17 {
-        if !level_ok(
+        ok &= level_ok(
             t.tried[k],
             t.success[k],
             t.success_at[k],
             h.blocked_until[k],
-        ) {
-            return false;
-        }
+        );
     }
-    true
+    ok
 }
 
 pub fn gear_ok(g: Gear) -> bool

@@ -1,15 +1,21 @@
-use Rattle.std.proofs.Common.{◌∙◌, refl, rules, tests, arith}
-use Rattle.std.proofs.lemmas.Iterator.{YieldsList-from_slice}
-use Rattle.std.proofs.lemmas.Iterator.Search.{all_from_yields_List}
-use lib.Ieee.{nan, of_int, of_bits}
-use Rattle.ieee.specs.Range.{inside, w64}
-use Rattle.config.proofs.ranges.Every.{every-index}
-use Rattle.config.specs.Durations.{ack_at}
+-- The loop is a fold (`every-fold`): the invariant has the whole as the fold of what is left from what was found.
+use Rattle.laws.proofs.Span.{fold-turn, fold_done}
+use lib.Ieee.{of_int, of_bits}
 use Rattle.config.specs.Ranges.{ack_ok}
+use Rattle.config.specs.Durations.{ack_at}
+use mathlib.Core.Bool.{Bool, ◌&&◌}
+use mathlib.Core.Path.{sym, ap}
+use native.Mathlib.Omega.{arith}
+use Rattle.config.proofs.ranges.Every.{every-fold}
 use Rattle.config.proofs.ranges.acks_ok.Goals as goal
 
-pub returns : goal.returns
+pub loop-w-init : goal.loop-w-init
+loop-w-init c = every-fold _ _
+
+pub loop-w-preserved : goal.loop-w-preserved
 unfolding ack_ok ack_at of_int of_bits
-returns c =
-    all_from_yields_List (inside (w64 0) (w64 60)) _ _ _ c.all.ensures.ran (YieldsList-from_slice c.args.a.ack_s cc) (λ x b q k. search (rules, tests))
-    ∙ every-index (inside (w64 0) (w64 60)) (ack_ok c.args.a) nan 6 _ (omega arith) (λ k. refl)
+loop-w-preserved c =
+    fold-turn _ _ _ _ _ _ c.loop-w.invariant (omega arith) (ap (λ (t : Bool). c.loop-w.ok && t) c.within-ok.ensures)
+
+pub returns : goal.returns
+returns c = sym (fold_done _ _ _ _ _ c.loop-w.invariant (omega arith))

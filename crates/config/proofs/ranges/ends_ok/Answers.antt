@@ -1,12 +1,18 @@
-use Rattle.std.proofs.Common.{◌∙◌, refl, rules, tests, arith}
-use Rattle.std.proofs.lemmas.Iterator.{YieldsList-from_slice}
-use Rattle.std.proofs.lemmas.Iterator.Search.{all_from_yields_List}
-use Rattle.config.proofs.ranges.Every.{every-index}
-use Rattle.config.specs.Ranges.{between, end_ok}
+use Rattle.laws.proofs.Span.{fold-turn, fold_done}
+use Rattle.config.specs.Ranges.{end_ok}
+use mathlib.Core.Bool.{Bool, ◌&&◌}
+use mathlib.Core.Path.{sym, ap}
+use native.Mathlib.Omega.{arith}
+use Rattle.config.proofs.ranges.Every.{every-fold}
 use Rattle.config.proofs.ranges.ends_ok.Goals as goal
 
-pub returns : goal.returns
+pub loop-i-init : goal.loop-i-init
+loop-i-init c = every-fold _ _
+
+pub loop-i-preserved : goal.loop-i-preserved
 unfolding end_ok
-returns c =
-    all_from_yields_List (between 1 16384) _ _ _ c.all.ensures.ran (YieldsList-from_slice c.args.q.ends cc) (λ x b q k. search (rules, tests))
-    ∙ every-index (between 1 16384) (end_ok c.args.q) 0 6 _ (omega arith) (λ k. refl)
+loop-i-preserved c =
+    fold-turn _ _ _ _ _ _ c.loop-i.invariant (omega arith) (ap (λ (t : Bool). c.loop-i.ok && t) c.from_to-ok.ensures)
+
+pub returns : goal.returns
+returns c = sym (fold_done _ _ _ _ _ c.loop-i.invariant (omega arith))

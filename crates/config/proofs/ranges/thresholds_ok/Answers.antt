@@ -1,13 +1,18 @@
-use Rattle.std.proofs.Common.{◌∙◌, refl, rules, tests, arith}
-use Rattle.std.proofs.lemmas.Iterator.{YieldsList-from_slice}
-use Rattle.std.proofs.lemmas.Iterator.Search.{all_from_yields_List}
-use lib.Ieee.{nan}
-use Rattle.config.proofs.ranges.Every.{every-index}
-use Rattle.config.specs.Ranges.{db_ok, threshold_ok}
+use Rattle.laws.proofs.Span.{fold-turn, fold_done}
+use Rattle.config.specs.Ranges.{threshold_ok}
+use mathlib.Core.Bool.{Bool, ◌&&◌}
+use mathlib.Core.Path.{sym, ap}
+use native.Mathlib.Omega.{arith}
+use Rattle.config.proofs.ranges.Every.{every-fold}
 use Rattle.config.proofs.ranges.thresholds_ok.Goals as goal
 
-pub returns : goal.returns
+pub loop-l-init : goal.loop-l-init
+loop-l-init c = every-fold _ _
+
+pub loop-l-preserved : goal.loop-l-preserved
 unfolding threshold_ok
-returns c =
-    all_from_yields_List db_ok _ _ _ c.all.ensures.ran (YieldsList-from_slice c.args.m.thresholds_db cc) (λ x b q k. search (rules, tests))
-    ∙ every-index db_ok (threshold_ok c.args.m) nan 17 _ (omega arith) (λ k. refl)
+loop-l-preserved c =
+    fold-turn _ _ _ _ _ _ c.loop-l.invariant (omega arith) (ap (λ (t : Bool). c.loop-l.ok && t) c.db_ok-ok.ensures)
+
+pub returns : goal.returns
+returns c = sym (fold_done _ _ _ _ _ c.loop-l.invariant (omega arith))

@@ -1,22 +1,19 @@
--- The invariant: what is left to test comes to what the whole does.
-use Rattle.laws.proofs.Span.{every-pass, every-fail, every-end}
+-- The loop is a fold (`every-fold`): the invariant has the whole as the fold of what is left from what was found.
+use Rattle.laws.proofs.Span.{fold-turn, fold_done}
+use Rattle.config.proofs.ranges.Every.{every-fold}
 use Rattle.soundness.specs.Soundness.{remembered_ok}
-use mathlib.Core.Path.{refl, sym, ◌∙◌}
+use mathlib.Core.Bool.{Bool, ◌&&◌}
+use mathlib.Core.Path.{sym, ap}
 use native.Mathlib.Omega.{arith}
 use Rattle.soundness.proofs.fields.levels_ok.Goals as goal
 
 pub loop-k-init : goal.loop-k-init
-loop-k-init c = refl
-
-pub returns-then-not-level_ok : goal.returns-then-not-level_ok
-unfolding remembered_ok
-returns-then-not-level_ok c =
-    sym (c.loop-k.invariant ∙ every-fail _ _ _ (omega arith) (sym c.level_ok.ensures ∙ c.if-not-level_ok.true))
+loop-k-init c = every-fold _ _
 
 pub loop-k-preserved : goal.loop-k-preserved
 unfolding remembered_ok
 loop-k-preserved c =
-    c.loop-k.invariant ∙ every-pass _ _ _ (omega arith) (sym c.level_ok.ensures ∙ c.if-not-level_ok.false)
+    fold-turn _ _ _ _ _ _ c.loop-k.invariant (omega arith) (ap (λ (t : Bool). c.loop-k.ok && t) c.level_ok-ok.ensures)
 
 pub returns : goal.returns
-returns c = sym (c.loop-k.invariant ∙ every-end _ _ _ (omega arith))
+returns c = sym (fold_done _ _ _ _ _ c.loop-k.invariant (omega arith))
