@@ -40,6 +40,7 @@ fn level_ok(slot: u32, pre_s: f64, rate: f64, most: u32) -> bool
         & (within(pre_s, 0.0, 60.0) & (within(rate, 1.0, 100000.0) & (1 <= most)))
 }
 
+// In this loop and those below every place is tested, without a branch (docs/DECISIONS.md, 199).
 fn levels_of_air_ok(a: Air) -> bool
     ensures { result ≡ every (level_ok a) (upto 0 17) }
 {

@@ -39,6 +39,7 @@ fn level_ok(tried: bool, share: f32, at: f64, until: f64) -> bool
     (!tried | ((0.0 <= share) & (share <= 1.0))) & ((at <= 1000000000.0) & (until <= 1001000000.0))
 }
 
+// Every level is tested, without a branch (docs/DECISIONS.md, 199).
 fn levels_ok(t: Tries, h: Holds) -> bool
     ensures { result ≡ every (remembered_ok t h) (upto 0 17) }
 {
