@@ -19,10 +19,10 @@ extern "C" {
 #endif
 
 /* The version of this interface (CHANGELOG.md). */
-#define VANITYCROW_VERSION "0.14.5"
+#define VANITYCROW_VERSION "0.14.6"
 #define VANITYCROW_VERSION_MAJOR 0
 #define VANITYCROW_VERSION_MINOR 14
-#define VANITYCROW_VERSION_PATCH 5
+#define VANITYCROW_VERSION_PATCH 6
 
 #define VANITYCROW_AREA_BYTES 49152
 #define VANITYCROW_LEVELS 17 /* 0 (the slowest) to 16 */

@@ -102,15 +102,22 @@ pub fn place(m: Messages, class: u8) -> Position
 }
 
 // A message put in at a row; those from there on move up.
+// kept: one loop over the three arrays. With the library's `copy_within`, an array at a time, a queuing behind few messages took a quarter
+// more time.
 pub fn insert(m: Messages, row: usize, left: u16, class: u8, label: u16) -> Messages
     requires { (row ≤ m.n) × (m.n < max_messages) }
     ensures { result ≡ store_entries (begun_in m) (insert_row row (entry_of left class label) (entries_in m)) m }
 {
     let n = m.n;
     let mut out = m;
-    out.left.copy_within(row..n, row + 1);
-    out.class.copy_within(row..n, row + 1);
-    out.label.copy_within(row..n, row + 1);
+    for i in row..n {
+        let l = m.left[i];
+        let c = m.class[i];
+        let b = m.label[i];
+        out.left[i + 1] = l;
+        out.class[i + 1] = c;
+        out.label[i + 1] = b;
+    }
     out.left[row] = left;
     out.class[row] = class;
     out.label[row] = label;
